@@ -1,0 +1,12 @@
+pub mod Tests
+pub mod ListLaws
+pub mod OutLaws
+pub mod ScanLaws
+pub mod DigitLaws
+pub mod DecimalLaws
+pub mod CodeLaws
+pub mod AmountLaws
+pub mod NumberLaws
+pub mod CalendarLaws
+pub mod DayLaws
+pub mod DateLaws

@@ -1,0 +1,159 @@
+-- Laws of numbers of accounts.
+use Prim.Native.Nat.{ℕ, suc, _+_, _-_, _≤_, _<_}
+use native.Mathlib.Omega.{arith}
+use native.Mathlib.Nat.{zero-add}
+use mathlib.Core.Path.{_≡_, refl, sym, ap, _∙_}
+use mathlib.Core.List.{List, [], _∷_, _++_}
+use mathlib.Core.Bool.{Bool, true, false, cond, _&&_, and-false}
+use lib.Dec.{eqb, leb}
+use lib.ListN.{length, getD, take, drop, replicate, length-append, length-drop, length-replicate}
+use lib.Seq.{take-all, take-append-seam, length-take-le}
+use borrow.Author.Tests.{le-leb, lt-leb, eq-eqb, ne-eqb, eqb-true, leb-true}
+use Rattle.fields.specs.declared.number.Number.{Number}
+use Rattle.fields.specs.declared.number.NumberRead.{NumberRead}
+use Rattle.fields.specs.Lists.{every, eqList, written, cursorAfter}
+use Rattle.fields.specs.Number.{numberByte, numberText, isNumber, isNumberText, padded, numberOf, noNumber, numberRead, sameNumber}
+use Rattle.fields.proofs.Tests.{and-left, and-right}
+use Rattle.fields.proofs.ListLaws.{every-step, every-fails, every-all}
+use Rattle.fields.proofs.OutLaws.{written-over}
+use Rattle.fields.proofs.ScanLaws.{eqList-refl, eqList-true}
+
+-- ---- the bytes of a number
+module _ (b : ℕ) where
+  pub byte-low : b < 33 → false ≡ numberByte b
+  unfolding numberByte
+  byte-low h = simp (lt-leb _ _ h)
+
+  pub byte-not-low : 33 ≤ b → leb b 126 ≡ numberByte b
+  unfolding numberByte
+  byte-not-low h = simp (le-leb _ _ h)
+
+  -- no control byte and no blank, so that a number never meets a separator of lines or fields
+  pub byte-above-blank : numberByte b ≡ true → 32 < b
+  unfolding numberByte
+  byte-above-blank h = leb-true 33 b (and-left (leb 33 b) (leb b 126) h)
+
+  pub byte-below-256 : numberByte b ≡ true → b < 256
+  unfolding numberByte
+  byte-below-256 h = omega (arith, leb-true b 126 (and-right (leb 33 b) (leb b 126) h))
+
+module _ (s : List ℕ) (i : ℕ) (passed : every numberByte s ≡ every numberByte (drop i s)) where
+  pub bytes-step : (t : Bool) → t ≡ numberByte (getD s i 0) → t ≡ true → i < length s → every numberByte s ≡ every numberByte (drop (i + 1) s)
+  bytes-step t e y h = every-step numberByte s i passed h (sym e ∙ y)
+
+  pub bytes-fail : (t : Bool) → t ≡ numberByte (getD s i 0) → t ≡ false → i < length s → false ≡ every numberByte s
+  bytes-fail t e n h = sym (every-fails numberByte s i passed h (sym e ∙ n))
+
+  pub bytes-all : length s ≤ i → true ≡ every numberByte s
+  bytes-all h = sym (every-all numberByte s i passed h)
+
+-- ---- reading one
+module _ (s : List ℕ) where
+  module _ (r : NumberRead) (none : r ≡ noNumber) where
+    pub number-empty : length s ≡ 0 → r ≡ numberRead s
+    unfolding numberRead isNumberText
+    number-empty e = none ∙ rw e
+
+    pub number-long : 30 < length s → r ≡ numberRead s
+    unfolding numberRead isNumberText
+    number-long h = none ∙ simp (lt-leb _ _ h, and-false)
+
+    pub number-bad : (t : Bool) → t ≡ every numberByte s → t ≡ false → r ≡ numberRead s
+    unfolding numberRead isNumberText
+    number-bad t e n = none ∙ simp (sym e ∙ n, and-false)
+
+  module _ (some : length s ≡ 0 → ⊥) (most : length s ≤ 30) where
+    pub padded-written : padded s ≡ written (replicate 30 0) 0 s
+    padded-written =
+        let fit : 0 + length s ≤ 30 = omega arith in
+        rw (← written-over (replicate 30 0) 0 s fit) (rw zero-add)
+
+    pub number-good : (d : List ℕ) → d ≡ written (replicate 30 0) 0 s → (t : Bool) → t ≡ every numberByte s → t ≡ true
+        → record { ok = true; number = record { bytes = d; len = length s } } ≡ numberRead s
+    unfolding numberRead isNumberText
+    number-good d e t q y =
+        let p : d ≡ padded s = e ∙ sym padded-written in
+        let o : 1 ≤ length s = omega arith in
+        simp (p, sym q ∙ y, le-leb _ _ o, le-leb _ _ most)
+
+-- ---- a lent number
+module _ (x : Number) where
+  pub valid-none : x .len < 1 → false ≡ isNumber x
+  unfolding isNumber
+  valid-none h = simp (lt-leb _ _ h)
+
+  pub valid-long : 30 < x .len → false ≡ isNumber x
+  unfolding isNumber
+  valid-long h = simp (lt-leb _ _ h, and-false)
+
+  pub valid-bytes : 1 ≤ x .len → x .len ≤ 30 → (a : List ℕ) → a ≡ numberText x → (t : Bool) → t ≡ every numberByte a → t ≡ isNumber x
+  unfolding isNumber
+  valid-bytes l m a ea t e = e ∙ rw ea (simp (le-leb _ _ l, le-leb _ _ m))
+
+  pub text-cursor : (d : List ℕ) (at r : ℕ) (a : List ℕ) → a ≡ numberText x → r ≡ cursorAfter d at a → r ≡ cursorAfter d at (numberText x)
+  text-cursor d at r a ea e = e ∙ rw ea
+
+  pub text-written : (d : List ℕ) (at : ℕ) (e a : List ℕ) → a ≡ numberText x → e ≡ written d at a → e ≡ written d at (numberText x)
+  text-written d at e a ea q = q ∙ rw ea
+
+-- ---- equality
+module _ (x y : Number) where
+  pub other-length : (x .len ≡ y .len → ⊥) → false ≡ sameNumber x y
+  unfolding sameNumber
+  other-length n = simp (ne-eqb _ _ n)
+
+  pub same-part : (r : Bool) → x .len ≡ y .len → (a b : List ℕ) → a ≡ numberText x → b ≡ numberText y → r ≡ eqList a b → r ≡ sameNumber x y
+  unfolding sameNumber
+  same-part r l a b ea eb e = e ∙ rw (ea, eb) (simp (eq-eqb _ _ l))
+
+  pub same-text : sameNumber x y ≡ true → numberText x ≡ numberText y
+  unfolding sameNumber
+  same-text h = eqList-true (numberText x) (numberText y) (and-right (eqb (x .len) (y .len)) (eqList (numberText x) (numberText y)) h)
+
+  pub text-same : x .len ≡ y .len → numberText x ≡ numberText y → sameNumber x y ≡ true
+  unfolding sameNumber
+  text-same l e = rw (eq-eqb _ _ l, e) (eqList-refl (numberText y))
+
+pub same-refl : (x : Number) → sameNumber x x ≡ true
+same-refl x = text-same x x refl refl
+
+pub same-length : (x y : Number) → sameNumber x y ≡ true → x .len ≡ y .len
+unfolding sameNumber
+same-length x y h = eqb-true (x .len) (y .len) (and-left (eqb (x .len) (y .len)) (eqList (numberText x) (numberText y)) h)
+
+pub same-sym : (x y : Number) → sameNumber x y ≡ true → sameNumber y x ≡ true
+same-sym x y h = text-same y x (sym (same-length x y h)) (sym (same-text x y h))
+
+pub same-trans : (x y z : Number) → sameNumber x y ≡ true → sameNumber y z ≡ true → sameNumber x z ≡ true
+same-trans x y z h g = text-same x z (same-length x y h ∙ same-length y z g) (same-text x y h ∙ same-text y z g)
+
+-- ---- what is written is read back
+pub text-of : (s : List ℕ) → numberText (numberOf s) ≡ s
+text-of s = take-append-seam s (drop (length s) (replicate 30 0))
+
+module _ (x : Number) (size : length (x .bytes) ≡ 30) (good : isNumber x ≡ true) where
+  len-some : 1 ≤ x .len
+  unfolding isNumber
+  len-some = leb-true 1 (x .len) (and-left (leb 1 (x .len)) (leb (x .len) 30 && every numberByte (numberText x)) good)
+
+  rest-good : leb (x .len) 30 && every numberByte (numberText x) ≡ true
+  unfolding isNumber
+  rest-good = and-right (leb 1 (x .len)) (leb (x .len) 30 && every numberByte (numberText x)) good
+
+  pub text-length : length (numberText x) ≡ x .len
+  text-length = length-take-le (x .len) (x .bytes) (omega (arith, leb-true (x .len) 30 (and-left (leb (x .len) 30) (every numberByte (numberText x)) rest-good)))
+
+  pub text-bytes : every numberByte (numberText x) ≡ true
+  text-bytes = and-right (leb (x .len) 30) (every numberByte (numberText x)) rest-good
+
+  pub text-good : isNumberText (numberText x) ≡ true
+  unfolding isNumberText isNumber
+  text-good = rw text-length good
+
+  pub number-again : numberRead (numberText x) ≡ record { ok = true; number = numberOf (numberText x) }
+  unfolding numberRead
+  number-again = rw text-good
+
+  -- and it is the same number
+  pub number-same : sameNumber (numberOf (numberText x)) x ≡ true
+  number-same = text-same (numberOf (numberText x)) x text-length (text-of (numberText x))

@@ -1,0 +1,26 @@
+-- Tests that are joined, and values that a test picks.
+use Prim.Native.Nat.{ℕ, _≤_}
+use native.Mathlib.Omega.{arith}
+use mathlib.Core.Path.{_≡_, refl}
+use mathlib.Core.Bool.{Bool, true, false, cond, _&&_}
+
+pub and-left : (t u : Bool) → t && u ≡ true → t ≡ true
+and-left true u h = refl
+and-left false u h = h
+
+pub and-right : (t u : Bool) → t && u ≡ true → u ≡ true
+and-right true u h = h
+and-right false u h = let z : _≡_ {A = ℕ} 0 1 = cc in absurd (omega arith)
+
+pub and-then : (t : Bool) {u w : Bool} → (u ≡ true → w ≡ true) → t && u ≡ true → t && w ≡ true
+and-then true f k = f k
+and-then false f k = k
+
+-- what is picked has a property that both choices have
+pub cond-elim : {A : Type 0} (P : A → Type 0) (t : Bool) (a b : A) → (t ≡ true → P a) → (t ≡ false → P b) → P (cond t a b)
+cond-elim P true a b f g = f refl
+cond-elim P false a b f g = g refl
+
+pub cond-le : (t : Bool) {a b n : ℕ} → a ≤ n → b ≤ n → cond t a b ≤ n
+cond-le true p q = p
+cond-le false p q = q

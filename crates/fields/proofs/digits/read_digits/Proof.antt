@@ -1,0 +1,40 @@
+use Rattle.fields.proofs.DigitLaws.{read-over, pass-digit, pass-value, read-value}
+use Rattle.fields.proofs.DigitLaws.{read-empty, read-long, read-low, read-high}
+use Prim.Native.Nat.{ℕ, _≤_, _<_, _-_, _^_}
+use mathlib.Core.Path.{_≡_, refl}
+use borrow.Author.Needs.{needs}
+use lib.ListN.{length, getD, drop}
+use Rattle.fields.specs.Lists.{every}
+use Rattle.fields.specs.Digits.{isDigit, valueAfter}
+use Rattle.fields.proofs.digits.read_digits.Statement.{statement}
+use Rattle.fields.proofs.digits.read_digits.Tie as tie
+
+abbrev Inv-loop : tie.InvT-loop
+Inv-loop s most value₀ i₀ value i = (i ≤ length s) × (value < 2 ^ 64) × (every isDigit s ≡ every isDigit (drop i s)) × (valueAfter 0 s ≡ valueAfter value (drop i s))
+
+abbrev μ-loop : tie.MeasureT-loop
+μ-loop s most value₀ i₀ value i = length s - i
+
+ruleset laws = (read-empty, read-long, read-low, read-high, read-over, pass-digit, pass-value, read-value, needs)
+
+pub read-digits-spec : {M : Type 1} → statement M
+read-digits-spec =
+    tie.close
+    (tie.spec
+    Inv-loop
+    μ-loop
+    (λ c. search laws)
+    (λ c. search laws)
+    (λ c. search laws)
+    (λ c. search laws)
+    (λ c. search laws)
+    (λ c. search laws)
+    (λ c. search laws)
+    (λ c. search laws)
+    (λ c. search laws)
+    (λ c. search laws)
+    (λ c. search laws)
+    (λ c. search laws)
+    (λ c. search laws)
+    (λ c. search laws)
+    (λ c. search laws))

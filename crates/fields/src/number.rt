@@ -1,0 +1,121 @@
+// Numbers of accounts: 1 to 30 bytes, each 0x21 to 0x7E.
+use crate::out;
+use crate::scan;
+ghost use mathlib.Core.Path.{_≡_};
+ghost use Rattle.fields.specs.Lists.{every, written, cursorAfter};
+ghost use Rattle.fields.specs.Number.{numberByte, numberText, isNumber, noNumber, numberRead, sameNumber};
+
+// The first `len` bytes count; a number that is read is zero after them.
+pub struct Number {
+    pub bytes: [u8; 30],
+    pub len: usize,
+}
+
+// A number, or `ok` false and no bytes.
+pub struct NumberRead {
+    pub ok: bool,
+    pub number: Number,
+}
+
+// Whether a number may have this byte.
+pub fn is_number_byte(b: u8) -> bool
+    ensures { λ r. ⌜ r ≡ numberByte b ⌝ }
+{
+    if b < 33 {
+        return false;
+    }
+    b <= 126
+}
+
+// Whether each of the bytes is one that a number may have.
+pub fn all_number_bytes(s: &[u8]) -> bool
+    ensures { λ r. ⌜ r ≡ every numberByte (now (s .entry)) ⌝ }
+{
+    let mut i: usize = 0;
+    while i < s.len() {
+        if is_number_byte(s[i]) {
+            i += 1;
+        } else {
+            return false;
+        }
+    }
+    true
+}
+
+// What a field that is no number reads as.
+pub fn no_number() -> NumberRead
+    ensures { λ r. ⌜ r ≡ noNumber ⌝ }
+{
+    NumberRead {
+        ok: false,
+        number: Number {
+            bytes: [0u8; 30],
+            len: 0,
+        },
+    }
+}
+
+// A number, from its bytes.
+pub fn read_number(s: &[u8]) -> NumberRead
+    ensures { λ r. ⌜ r ≡ numberRead (now (s .entry)) ⌝ }
+{
+    if s.len() == 0 {
+        return no_number();
+    }
+    if 30 < s.len() {
+        return no_number();
+    }
+    if all_number_bytes(s) {
+        let mut bytes = [0u8; 30];
+        out::put_bytes(s, &mut bytes, 0);
+        NumberRead {
+            ok: true,
+            number: Number {
+                bytes,
+                len: s.len(),
+            },
+        }
+    } else {
+        no_number()
+    }
+}
+
+impl Number {
+    // Whether a lent number is one.
+    pub fn is_valid(self) -> bool
+        ensures { λ r. ⌜ r ≡ isNumber self ⌝ }
+    {
+        let n = self.len;
+        if n < 1 {
+            return false;
+        }
+        if 30 < n {
+            return false;
+        }
+        let a = self.bytes;
+        all_number_bytes(scan::first_bytes(&a, n))
+    }
+
+    // Whether two numbers are equal: their lengths, and their bytes over the length.
+    pub fn same(self, other: Number) -> bool
+        ensures { λ r. ⌜ r ≡ sameNumber self other ⌝ }
+    {
+        let n = self.len;
+        let m = other.len;
+        if n != m {
+            return false;
+        }
+        let a = self.bytes;
+        let b = other.bytes;
+        scan::same_bytes(scan::first_bytes(&a, n), scan::first_bytes(&b, m))
+    }
+
+    // Writes a number at the cursor, where it has room.
+    pub fn write(self, dst: &mut [u8], at: usize) -> usize
+        ensures { λ r. ⌜ (r ≡ cursorAfter (now (dst .entry)) at (numberText self)) × (now (dst .exit) ≡ written (now (dst .entry)) at (numberText self)) ⌝ }
+    {
+        let n = self.len;
+        let a = self.bytes;
+        out::put_bytes(scan::first_bytes(&a, n), dst, at)
+    }
+}
