@@ -1,0 +1,2 @@
+mod LineLaws
+mod EscapeLaws

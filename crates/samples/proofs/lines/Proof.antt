@@ -1,0 +1,36 @@
+-- The invariant: a line starts at most one byte past the end.
+use borrow.Author.Needs.{needs}
+use Rattle.samples.proofs.LineLaws.{found-size, line-fits, next-fits, next-falls, next-inside}
+use Prim.Native.Nat.{_≤_, _-_, _+_}
+use mathlib.Core.Path.{_≡_}
+use lib.ListN.{length}
+use Rattle.samples.proofs.lines.Statement.{statement}
+use Rattle.samples.proofs.lines.Tie as tie
+
+abbrev Inv-loop : tie.InvT-loop
+Inv-loop s space₀ at₀ space at = (at ≤ length s + 1) × (length space ≡ length space₀)
+
+abbrev μ-loop : tie.MeasureT-loop
+μ-loop s space₀ at₀ space at = (length s + 1) - at
+
+ruleset laws = (found-size, line-fits, next-fits, next-falls, next-inside, needs)
+
+pub lines-spec : {M : Type 1} → statement M
+lines-spec =
+    tie.close
+    (tie.spec
+    Inv-loop
+    μ-loop
+    (λ c. search laws)
+    (λ c. search laws)
+    (λ c. search laws)
+    (λ c. search laws)
+    (λ c κs. search laws)
+    (λ c. search laws)
+    (λ c κs. search laws)
+    (λ c. search laws)
+    (λ c. search laws)
+    (λ c. search laws)
+    (λ c. search laws)
+    (λ c. search laws)
+    (λ c. search laws))

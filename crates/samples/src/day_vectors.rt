@@ -1,0 +1,60 @@
+// Days and written dates.
+use crate::show;
+use crate::split;
+use fields::calendar;
+use fields::calendar::DayRead;
+use fields::date;
+use fields::scan;
+
+// A day, or the words for none.
+fn show_day(r: DayRead, none: &[u8]) {
+    match r {
+        DayRead::Good(d) => show::day(d),
+        DayRead::NoDate => show::text(none),
+    }
+}
+
+// A written date, written back, and its day.
+pub fn written_date(s: &[u8]) {
+    let r = date::read_date(s);
+    if r.ok {
+        let d = r.date;
+        let mut space = [0u8; 19];
+        let n = date::write_date(d, &mut space, 0);
+        show::text(scan::first_bytes(&space, n));
+        show::text(b" ");
+        show_day(date::day_of_date(d), b"no date");
+    } else {
+        show::fault(5);
+    }
+}
+
+pub fn day(s: &[u8]) {
+    show_day(calendar::read_day(s), b"no date");
+}
+
+// The day after one.
+pub fn next(s: &[u8]) {
+    let DayRead::Good(d) = calendar::read_day(s) else {
+        show::text(b"no date");
+        return;
+    };
+    show_day(d.next(), b"none");
+}
+
+// Whether the first of two days, split by a space, comes before the second.
+pub fn before(s: &[u8]) {
+    let DayRead::Good(a) = calendar::read_day(split::head(s)) else {
+        show::text(b"no date");
+        return;
+    };
+    let DayRead::Good(b) = calendar::read_day(split::tail(s)) else {
+        show::text(b"no date");
+        return;
+    };
+    if a.before(b) {
+        show::text(b"yes");
+    } else {
+        show::text(b"no");
+    }
+}

@@ -1,0 +1,41 @@
+// Numbers of accounts.
+use crate::show;
+use crate::split;
+use fields::number::read_number;
+use fields::scan;
+
+// The length, and the number written back.
+pub fn number(s: &[u8]) {
+    let r = read_number(s);
+    if r.ok {
+        let x = r.number;
+        let mut space = [0u8; 30];
+        let n = x.write(&mut space, 0);
+        show::number(x.len as u64);
+        show::text(b" bytes ");
+        show::text(scan::first_bytes(&space, n));
+    } else {
+        show::fault(2);
+    }
+}
+
+// Whether two numbers, split by a space, are equal.
+pub fn same(s: &[u8]) {
+    let a = read_number(split::head(s));
+    let b = read_number(split::tail(s));
+    if !a.ok {
+        show::fault(2);
+        return;
+    }
+    if !b.ok {
+        show::fault(2);
+        return;
+    }
+    let x = a.number;
+    let y = b.number;
+    if x.same(y) {
+        show::text(b"same");
+    } else {
+        show::text(b"other");
+    }
+}

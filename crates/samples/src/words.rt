@@ -1,0 +1,100 @@
+// The words of the vectors: the one place that says what each runs.
+use crate::day_vectors;
+use crate::digit_vectors;
+use crate::number_vectors;
+use crate::show;
+use crate::write_vectors;
+use fields::scan;
+
+// Runs the word on its text.
+pub fn answer(word: &[u8], text: &[u8]) {
+    if digit_words(word, text) {
+        return;
+    }
+    if number_words(word, text) {
+        return;
+    }
+    if day_words(word, text) {
+        return;
+    }
+    if write_words(word, text) {
+        return;
+    }
+    show::text(b"unknown word");
+}
+
+// Digit fields. Each of these functions says whether the word is one of its own.
+fn digit_words(word: &[u8], text: &[u8]) -> bool {
+    if scan::same_bytes(word, b"digits20") {
+        digit_vectors::digits20(text);
+        return true;
+    }
+    if scan::same_bytes(word, b"amount") {
+        digit_vectors::amount(text);
+        return true;
+    }
+    if scan::same_bytes(word, b"receipt") {
+        digit_vectors::receipt(text);
+        return true;
+    }
+    if scan::same_bytes(word, b"type") {
+        digit_vectors::kind(text);
+        return true;
+    }
+    if scan::same_bytes(word, b"reason") {
+        digit_vectors::reason(text);
+        return true;
+    }
+    false
+}
+
+// Numbers of accounts.
+fn number_words(word: &[u8], text: &[u8]) -> bool {
+    if scan::same_bytes(word, b"number") {
+        number_vectors::number(text);
+        return true;
+    }
+    if scan::same_bytes(word, b"same") {
+        number_vectors::same(text);
+        return true;
+    }
+    false
+}
+
+// Days and written dates.
+fn day_words(word: &[u8], text: &[u8]) -> bool {
+    if scan::same_bytes(word, b"date") {
+        day_vectors::written_date(text);
+        return true;
+    }
+    if scan::same_bytes(word, b"day") {
+        day_vectors::day(text);
+        return true;
+    }
+    if scan::same_bytes(word, b"next") {
+        day_vectors::next(text);
+        return true;
+    }
+    if scan::same_bytes(word, b"before") {
+        day_vectors::before(text);
+        return true;
+    }
+    false
+}
+
+// Writers into a lent buffer.
+fn write_words(word: &[u8], text: &[u8]) -> bool {
+    if scan::same_bytes(word, b"write-amount") {
+        write_vectors::write_amount(text);
+        return true;
+    }
+    if scan::same_bytes(word, b"write-digits") {
+        write_vectors::write_digits(text);
+        return true;
+    }
+    if scan::same_bytes(word, b"put") {
+        write_vectors::put(text);
+        return true;
+    }
+    false
+}
