@@ -12,7 +12,7 @@ use Rattle.fields.specs.declared.calendar.Day.{Day}
 use Rattle.fields.specs.declared.calendar.DayRead.{DayRead}
 use Rattle.fields.specs.declared.calendar.DayRead.the-variants.{Good, NoDate}
 use Rattle.fields.specs.Calendar.{leapYear, daysIn, isDate, dayOf, isDay, nextDay, dayKey, dayBefore, sameDay, monthsDays, yearsDays, dayNumber}
-use Rattle.fields.proofs.Tests.{and-left, and-right, cond-elim}
+use Rattle.fields.proofs.Tests.{both, cond-elim}
 
 -- ---- dates
 -- what the test `isDate` says, as numbers: `omega` reads its fields
@@ -23,9 +23,6 @@ pub record IsDate (y m d : ℕ) : Type 0 where
   pub month-high : m ≤ 12
   pub day-low : 1 ≤ d
   pub day-high : d ≤ daysIn y m
-
-both : (t u : Bool) → t && u ≡ true → (t ≡ true) × (u ≡ true)
-both t u h = (and-left t u h, and-right t u h)
 
 pub is-date : (y m d : ℕ) → isDate y m d ≡ true → IsDate y m d
 unfolding isDate
@@ -196,7 +193,8 @@ pub number-same : (x y : Day) → isDay x ≡ true → isDay y ≡ true → dayN
 number-same x y p q e = before-total x y p q (not-before x y p q e) (not-before y x q p (sym e))
 
 -- ---- the next day
-read-good : (t : Bool) (r : DayRead) {y : Day} → cond t r NoDate ≡ Good y → (t ≡ true) × (r ≡ Good y)
+-- what a test lets through was tested
+pub read-good : (t : Bool) (r : DayRead) {y : Day} → cond t r NoDate ≡ Good y → (t ≡ true) × (r ≡ Good y)
 read-good true r e = (refl, e)
 read-good false r e = let z : _≡_ {A = ℕ} 0 1 = cc in absurd (omega arith)
 
@@ -210,7 +208,7 @@ unfolding daysIn
 december y m e = rw e
 
 -- a date that was read keeps its number
-made : (n : ℕ) (z y : Day) → dayNumber z ≡ n → dayOf (z .year) (z .month) (z .day) ≡ Good y → (isDay y ≡ true) × (dayNumber y ≡ n)
+pub made : (n : ℕ) (z y : Day) → dayNumber z ≡ n → dayOf (z .year) (z .month) (z .day) ≡ Good y → (isDay y ≡ true) × (dayNumber y ≡ n)
 unfolding dayOf
 made n z y h e =
     let g = read-good (isDay z) (Good z) e in

@@ -10,3 +10,4 @@ pub mod NumberLaws
 pub mod CalendarLaws
 pub mod DayLaws
 pub mod DateLaws
+pub mod Samples

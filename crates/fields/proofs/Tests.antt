@@ -12,6 +12,9 @@ pub and-right : (t u : Bool) → t && u ≡ true → u ≡ true
 and-right true u h = h
 and-right false u h = let z : _≡_ {A = ℕ} 0 1 = cc in absurd (omega arith)
 
+pub both : (t u : Bool) → t && u ≡ true → (t ≡ true) × (u ≡ true)
+both t u h = (and-left t u h, and-right t u h)
+
 pub and-then : (t : Bool) {u w : Bool} → (u ≡ true → w ≡ true) → t && u ≡ true → t && w ≡ true
 and-then true f k = f k
 and-then false f k = k
