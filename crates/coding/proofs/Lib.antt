@@ -1,0 +1,6 @@
+pub mod RangeLaws
+pub mod FindLaws
+pub mod UnitLaws
+pub mod WriteLaws
+pub mod CodedLaws
+pub mod ParamLaws

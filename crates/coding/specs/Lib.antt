@@ -1,0 +1,3 @@
+pub mod Url
+pub mod Units
+pub mod Params

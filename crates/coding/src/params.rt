@@ -1,0 +1,27 @@
+// The parameters of a request.
+use fields::scan;
+ghost use mathlib.Core.Path.{_≡_};
+ghost use Rattle.coding.specs.Params.{paramPart};
+
+// How a request came.
+pub enum Method {
+    Get,
+    Post,
+}
+
+// A GET gives the part of its target behind the first question mark, a POST its body.
+pub fn parameters<'a>(method: Method, target: &'a [u8], body: &'a [u8]) -> &'a [u8]
+    ensures { λ r. ⌜ now r ≡ paramPart method (now (target .entry)) (now (body .entry)) ⌝ }
+{
+    match method {
+        Method::Get => {
+            let q = scan::find_byte(target, 63);
+            if q < target.len() {
+                &target[q + 1..]
+            } else {
+                &target[..0]
+            }
+        }
+        Method::Post => body,
+    }
+}
