@@ -1,0 +1,26 @@
+use borrow.Author.Needs.{needs}
+use Rattle.message.proofs.RequestLaws.{no-receipt, no-number, no-kind, then-later}
+use Rattle.message.proofs.request.read_fields.Statement.{statement}
+use Rattle.message.proofs.request.read_fields.Tie as tie
+
+ruleset laws = (no-receipt, no-number, no-kind, then-later, needs)
+
+pub read-fields-spec : {M : Type 1} → statement M
+read-fields-spec =
+    tie.close
+    (tie.spec
+    (λ c κs. search laws)
+    (λ c. search laws)
+    (λ c. search laws)
+    (λ c κs. search laws)
+    (λ c. search laws)
+    (λ c κs. search laws)
+    (λ c κs. search laws)
+    (λ c. search laws)
+    (λ c κs. search laws)
+    (λ c. search laws)
+    (λ c. search laws)
+    (λ c κs. search laws)
+    (λ c. search laws)
+    (λ c κs. search laws)
+    (λ c. search laws))

@@ -1,0 +1,114 @@
+-- Document 01, "Requests" and the checks under "Gate": what a request asks, or its first fault.
+use Prim.Native.Nat.{ℕ}
+use mathlib.Core.List.{List, [], _∷_}
+use mathlib.Core.Bool.{Bool, true, false, cond}
+use lib.ListN.{length, getD, replicate}
+use lib.Dec.{leb, eqb}
+use Rattle.fields.specs.declared.digits.Digits.{Digits}
+use Rattle.fields.specs.declared.digits.Digits.the-variants.{Value, Malformed}
+use Rattle.fields.specs.declared.number.Number.{Number}
+use Rattle.fields.specs.declared.number.NumberRead.{NumberRead}
+use Rattle.fields.specs.declared.date.DateRead.{DateRead}
+use Rattle.fields.specs.Digits.{faultOf}
+use Rattle.fields.specs.Amount.{amountRead}
+use Rattle.fields.specs.Codes.{receiptRead, kindRead, reasonRead}
+use Rattle.fields.specs.Number.{noNumber, numberRead}
+use Rattle.fields.specs.Date.{emptyDate, noDate, dateRead}
+use Rattle.coding.specs.Url.{decoded}
+use Rattle.message.specs.declared.action.Action.{Action}
+use Rattle.message.specs.declared.action.Action.the-variants.{Check, Payment, Status, Cancel}
+use Rattle.message.specs.declared.action.ActionRead.{ActionRead}
+use Rattle.message.specs.declared.action.ActionRead.the-variants.{Known, Unknown}
+use Rattle.message.specs.declared.request.Asked.{Asked}
+use Rattle.message.specs.declared.request.RequestRead.{RequestRead}
+use Rattle.message.specs.Names.{actionOf, hasAccount, hasReceipt, hasDate, hasReason}
+use Rattle.message.specs.Slots.{Slot, Absent, Holds, Gathered, Broken, Values, gathered}
+
+-- ---- a field of an action
+-- what a reader makes of a value once it is decoded
+unfoldable pub held : {A : Type 0} → A → (List ℕ → A) → Slot → A
+held absent read Absent = absent
+held absent read (Holds v) = read (decoded v)
+
+-- a field that the action lacks is at a fixed value
+unfoldable pub fieldOf : {A : Type 0} → Bool → A → A → (List ℕ → A) → Slot → A
+fieldOf used fixed absent read k = cond used (held absent read k) fixed
+
+abbrev pub unusedNumber : Number
+unusedNumber = record { bytes = replicate 30 0; len = 0 }
+
+abbrev pub receiptField : Action → List Slot → Digits
+receiptField a t = fieldOf (hasReceipt a) (Value 0) Malformed receiptRead (getD t 4 Absent)
+
+abbrev pub numberField : Action → List Slot → NumberRead
+numberField a t = fieldOf (hasAccount a) (record { ok = true; number = unusedNumber }) noNumber numberRead (getD t 1 Absent)
+
+-- an absent type is 1
+abbrev pub kindField : Action → List Slot → Digits
+kindField a t = fieldOf (hasAccount a) (Value 0) (Value 1) kindRead (getD t 2 Absent)
+
+abbrev pub amountField : Action → List Slot → Digits
+amountField a t = fieldOf (hasAccount a) (Value 0) Malformed amountRead (getD t 3 Absent)
+
+abbrev pub dateField : Action → List Slot → DateRead
+dateField a t = fieldOf (hasDate a) (record { ok = true; date = emptyDate }) noDate dateRead (getD t 5 Absent)
+
+abbrev pub reasonField : Action → List Slot → Digits
+reasonField a t = fieldOf (hasReason a) (Value 0) Malformed reasonRead (getD t 6 Absent)
+
+-- ---- the request
+abbrev pub valueIn : Digits → ℕ
+valueIn Malformed = 0
+valueIn (Value v) = v
+
+-- nothing is asked: every field at its fixed value. With 31 and 1 no action is known, and Check stands there.
+unfoldable pub refused : ℕ → Action → RequestRead
+refused fault a =
+    record {
+      fault = fault;
+      asked = record { action = a; number = unusedNumber; kind = 0; amount = 0; receipt = 0; date = emptyDate; reason = 0 };
+    }
+
+unfoldable pub firstFault : List ℕ → ℕ
+firstFault [] = 0
+firstFault (f ∷ fs) = cond (eqb f 0) (firstFault fs) f
+
+-- receipt (4), number and type (2), amount (3), date (5), reason (32), each where the action has the field
+unfoldable pub fieldFault : Action → List Slot → ℕ
+fieldFault a t =
+    firstFault
+    (faultOf 4 (receiptField a t)
+    ∷ cond ((numberField a t) .ok) 0 2
+    ∷ faultOf 2 (kindField a t)
+    ∷ faultOf 3 (amountField a t)
+    ∷ cond ((dateField a t) .ok) 0 5
+    ∷ faultOf 32 (reasonField a t)
+    ∷ [])
+
+unfoldable pub askedOf : Action → List Slot → Asked
+askedOf a t =
+    record {
+      action = a;
+      number = (numberField a t) .number;
+      kind = valueIn (kindField a t);
+      amount = valueIn (amountField a t);
+      receipt = valueIn (receiptField a t);
+      date = (dateField a t) .date;
+      reason = valueIn (reasonField a t);
+    }
+
+unfoldable pub fieldsRead : Action → List Slot → RequestRead
+fieldsRead a t = cond (eqb (fieldFault a t) 0) (record { fault = 0; asked = askedOf a t }) (refused (fieldFault a t) a)
+
+-- `action` absent or not one of the four is 1
+abbrev pub actionRead : ActionRead → List Slot → RequestRead
+actionRead Unknown t = refused 1 Check
+actionRead (Known a) t = fieldsRead a t
+
+abbrev pub valuesRead : Gathered → RequestRead
+valuesRead Broken = refused 31 Check
+valuesRead (Values t) = actionRead (held Unknown actionOf (getD t 0 Absent)) t
+
+-- at most 2,048 bytes are looked at
+unfoldable pub requestRead : List ℕ → RequestRead
+requestRead s = cond (leb (length s) 2048) (valuesRead (gathered s)) (refused 31 Check)

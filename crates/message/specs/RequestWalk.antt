@@ -1,0 +1,33 @@
+-- How the code reads the fields of a request, in two halves: no contract above the walk cites it.
+use Prim.Native.Nat.{ℕ}
+use mathlib.Core.List.{List, [], _∷_}
+use mathlib.Core.Bool.{Bool, true, false, cond}
+use lib.Dec.{eqb}
+use Rattle.fields.specs.declared.number.Number.{Number}
+use Rattle.fields.specs.Digits.{faultOf}
+use Rattle.message.specs.declared.action.Action.{Action}
+use Rattle.message.specs.declared.request.RequestRead.{RequestRead}
+use Rattle.message.specs.Slots.{Slot}
+use Rattle.message.specs.Request.{amountField, dateField, reasonField, valueIn, refused, firstFault}
+
+-- amount, date and reason
+unfoldable pub laterFault : Action → List Slot → ℕ
+laterFault a t = firstFault (faultOf 3 (amountField a t) ∷ cond ((dateField a t) .ok) 0 5 ∷ faultOf 32 (reasonField a t) ∷ [])
+
+-- the request, once receipt, number and type are read
+unfoldable pub laterRead : Action → List Slot → ℕ → Number → ℕ → RequestRead
+laterRead a t receipt number kind =
+    cond (eqb (laterFault a t) 0)
+    (record {
+      fault = 0;
+      asked = record {
+        action = a;
+        number = number;
+        kind = kind;
+        amount = valueIn (amountField a t);
+        receipt = receipt;
+        date = (dateField a t) .date;
+        reason = valueIn (reasonField a t);
+      };
+    })
+    (refused (laterFault a t) a)

@@ -1,0 +1,5 @@
+// Messages between the ends: requests and answers, read from bytes and written into lent buffers.
+pub mod action;
+pub mod request;
+pub mod slots;
+pub mod write;

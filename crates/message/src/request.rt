@@ -1,0 +1,250 @@
+// Requests: what they ask, or their first fault.
+use crate::action;
+use crate::action::Action;
+use crate::action::ActionRead;
+use crate::slots;
+use crate::slots::Slots;
+use fields::amount;
+use fields::codes;
+use fields::date;
+use fields::date::DateRead;
+use fields::digits::Digits;
+use fields::number;
+use fields::number::Number;
+use fields::number::NumberRead;
+use fields::scan;
+ghost use mathlib.Core.Path.{_≡_};
+ghost use lib.ListN.{getD};
+ghost use Rattle.message.specs.declared.action.ActionRead.the-variants.{Unknown};
+ghost use Rattle.message.specs.Names.{actionOf};
+ghost use Rattle.message.specs.Request.{held, refused, receiptField, numberField, kindField, amountField, dateField, reasonField, fieldsRead, requestRead};
+ghost use Rattle.message.specs.RequestWalk.{laterRead};
+ghost use Rattle.message.specs.Slots.{Absent, slotsIn};
+
+// The fields of a request; those that its action lacks are at fixed values, zeros.
+pub struct Asked {
+    pub action: Action,
+    pub number: Number,
+    pub kind: u64,
+    pub amount: u64,
+    pub receipt: u64,
+    pub date: [u8; 19],
+    pub reason: u64,
+}
+
+// What a request asks, with fault 0; or its fault and nothing asked. With 31 and 1 no action is known, and Check stands there.
+pub struct RequestRead {
+    pub fault: u64,
+    pub asked: Asked,
+}
+
+// A request that is refused.
+pub fn refuse(fault: u64, a: Action) -> RequestRead
+    ensures { λ r. ⌜ r ≡ refused fault a ⌝ }
+{
+    RequestRead {
+        fault,
+        asked: Asked {
+            action: a,
+            number: Number {
+                bytes: [0u8; 30],
+                len: 0,
+            },
+            kind: 0,
+            amount: 0,
+            receipt: 0,
+            date: [0u8; 19],
+            reason: 0,
+        },
+    }
+}
+
+// The action of a request.
+pub fn action_field(s: &[u8], t: Slots) -> ActionRead
+    ensures { λ r. ⌜ r ≡ held Unknown actionOf (getD (slotsIn (now (s .entry)) t) 0 Absent) ⌝ }
+{
+    let x = slots::text_of(s, t, 0);
+    if !x.present {
+        return ActionRead::Unknown;
+    }
+    let n = x.len;
+    let b = x.bytes;
+    action::read_action(scan::first_bytes(&b, n))
+}
+
+// The receipt, 0 where the action lacks it.
+pub fn receipt_field(a: Action, s: &[u8], t: Slots) -> Digits
+    ensures { λ r. ⌜ r ≡ receiptField a (slotsIn (now (s .entry)) t) ⌝ }
+{
+    if !action::has_receipt(a) {
+        return Digits::Value(0);
+    }
+    let x = slots::text_of(s, t, 4);
+    if !x.present {
+        return Digits::Malformed;
+    }
+    let n = x.len;
+    let b = x.bytes;
+    codes::read_receipt(scan::first_bytes(&b, n))
+}
+
+// The number, no bytes where the action lacks it.
+pub fn number_field(a: Action, s: &[u8], t: Slots) -> NumberRead
+    ensures { λ r. ⌜ r ≡ numberField a (slotsIn (now (s .entry)) t) ⌝ }
+{
+    if !action::has_account(a) {
+        return NumberRead {
+            ok: true,
+            number: Number {
+                bytes: [0u8; 30],
+                len: 0,
+            },
+        };
+    }
+    let x = slots::text_of(s, t, 1);
+    if !x.present {
+        return number::no_number();
+    }
+    let n = x.len;
+    let b = x.bytes;
+    number::read_number(scan::first_bytes(&b, n))
+}
+
+// The type, 1 where it is absent, 0 where the action lacks it.
+pub fn kind_field(a: Action, s: &[u8], t: Slots) -> Digits
+    ensures { λ r. ⌜ r ≡ kindField a (slotsIn (now (s .entry)) t) ⌝ }
+{
+    if !action::has_account(a) {
+        return Digits::Value(0);
+    }
+    let x = slots::text_of(s, t, 2);
+    if !x.present {
+        return Digits::Value(1);
+    }
+    let n = x.len;
+    let b = x.bytes;
+    codes::read_kind(scan::first_bytes(&b, n))
+}
+
+// The kopecks, 0 where the action lacks them.
+pub fn amount_field(a: Action, s: &[u8], t: Slots) -> Digits
+    ensures { λ r. ⌜ r ≡ amountField a (slotsIn (now (s .entry)) t) ⌝ }
+{
+    if !action::has_account(a) {
+        return Digits::Value(0);
+    }
+    let x = slots::text_of(s, t, 3);
+    if !x.present {
+        return Digits::Malformed;
+    }
+    let n = x.len;
+    let b = x.bytes;
+    amount::read_amount(scan::first_bytes(&b, n))
+}
+
+// The date, zeros where the action lacks it.
+pub fn date_field(a: Action, s: &[u8], t: Slots) -> DateRead
+    ensures { λ r. ⌜ r ≡ dateField a (slotsIn (now (s .entry)) t) ⌝ }
+{
+    if !action::has_date(a) {
+        return DateRead {
+            ok: true,
+            date: [0u8; 19],
+        };
+    }
+    let x = slots::text_of(s, t, 5);
+    if !x.present {
+        return date::no_date();
+    }
+    let n = x.len;
+    let b = x.bytes;
+    date::read_date(scan::first_bytes(&b, n))
+}
+
+// The reason, 0 where the action lacks it.
+pub fn reason_field(a: Action, s: &[u8], t: Slots) -> Digits
+    ensures { λ r. ⌜ r ≡ reasonField a (slotsIn (now (s .entry)) t) ⌝ }
+{
+    if !action::has_reason(a) {
+        return Digits::Value(0);
+    }
+    let x = slots::text_of(s, t, 6);
+    if !x.present {
+        return Digits::Malformed;
+    }
+    let n = x.len;
+    let b = x.bytes;
+    codes::read_reason(scan::first_bytes(&b, n))
+}
+
+// What an action asks once receipt, number and type are read, or the first fault of amount, date and reason.
+pub fn read_later(
+    a: Action,
+    s: &[u8],
+    t: Slots,
+    receipt: u64,
+    number: Number,
+    kind: u64,
+) -> RequestRead
+    ensures { λ r. ⌜ r ≡ laterRead a (slotsIn (now (s .entry)) t) receipt number kind ⌝ }
+{
+    let Digits::Value(amount) = amount_field(a, s, t) else {
+        return refuse(3, a);
+    };
+    let read = date_field(a, s, t);
+    if !read.ok {
+        return refuse(5, a);
+    }
+    let Digits::Value(reason) = reason_field(a, s, t) else {
+        return refuse(32, a);
+    };
+    let date = read.date;
+    RequestRead {
+        fault: 0,
+        asked: Asked {
+            action: a,
+            number,
+            kind,
+            amount,
+            receipt,
+            date,
+            reason,
+        },
+    }
+}
+
+// What an action asks, or the first fault of its fields.
+pub fn read_fields(a: Action, s: &[u8], t: Slots) -> RequestRead
+    ensures { λ r. ⌜ r ≡ fieldsRead a (slotsIn (now (s .entry)) t) ⌝ }
+{
+    let Digits::Value(receipt) = receipt_field(a, s, t) else {
+        return refuse(4, a);
+    };
+    let read = number_field(a, s, t);
+    if !read.ok {
+        return refuse(2, a);
+    }
+    let Digits::Value(kind) = kind_field(a, s, t) else {
+        return refuse(2, a);
+    };
+    let number = read.number;
+    read_later(a, s, t, receipt, number, kind)
+}
+
+// What a request asks, or its fault; at most 2,048 bytes are looked at.
+pub fn read_request(s: &[u8]) -> RequestRead
+    ensures { λ r. ⌜ r ≡ requestRead (now (s .entry)) ⌝ }
+{
+    if 2048 < s.len() {
+        return refuse(31, Action::Check);
+    }
+    let scan = slots::gather(s);
+    if !scan.ok {
+        return refuse(31, Action::Check);
+    }
+    let t = scan.slots;
+    let ActionRead::Known(a) = action_field(s, t) else {
+        return refuse(1, Action::Check);
+    };
+    read_fields(a, s, t)
+}
