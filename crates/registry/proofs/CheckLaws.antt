@@ -1,0 +1,138 @@
+-- Laws of the count of lines and of the check of a registry, at each way out.
+use Prim.Native.Nat.{ℕ, suc, _+_, _-_, _≤_, _<_}
+use native.Mathlib.Omega.{arith}
+use mathlib.Core.Path.{_≡_, sym, _∙_}
+use mathlib.Core.List.{List}
+use mathlib.Core.Bool.{Bool, true, false, cond, not, _&&_, and-false, and-assoc, and-true}
+use lib.Dec.{ltb}
+use lib.ListN.{length, take, drop, length-drop, drop-of-length-le}
+use lib.Seq.{drop-drop}
+use borrow.Author.Tests.{le-leb, lt-leb, not-true, not-false}
+use Rattle.fields.specs.declared.calendar.Day.{Day}
+use Rattle.fields.specs.declared.calendar.DayRead.{DayRead}
+use Rattle.fields.specs.declared.calendar.DayRead.the-variants.{Good, NoDate}
+use Rattle.fields.specs.Calendar.{sameDay}
+use Rattle.fields.specs.Date.{dateDay}
+use Rattle.registry.specs.declared.line.LineRead.{LineRead}
+use Rattle.registry.specs.Line.{lineRead}
+use Rattle.registry.specs.Registry.{lineEnd, splitLines, countOf, lineCount, onDay, goodLine, goodLines, heldLines, registryLines, rising, registryFault}
+use Rattle.registry.proofs.SplitLaws.{end-room, count-line, count-rest, good-line, good-rest, held-line}
+
+-- ---- one line
+pub line-here : (s : List ℕ) (at e : ℕ) → e ≡ at + lineEnd (drop at s) → (t f : List ℕ) → t ≡ drop at s → f ≡ take (e - at) t
+    → (r : LineRead) → r ≡ lineRead f → r ≡ lineRead (take (lineEnd (drop at s)) (drop at s))
+line-here s at e ends t f et ef r er =
+    let n : e - at ≡ lineEnd (drop at s) = omega arith in
+    er ∙ rw (ef, et, n)
+
+pub line-under : (s : List ℕ) (at e : ℕ) → e ≡ at + lineEnd (drop at s) → at ≤ e
+line-under s at e ends = omega arith
+
+module _ (day : Day) (x : LineRead) where
+  pub unread : not (x .ok) ≡ true → false ≡ (x .ok) && onDay day (dateDay (x .line .date))
+  unread h = rw (not-true (x .ok) h)
+
+  module _ (good : not (x .ok) ≡ false) (r : DayRead) (read : r ≡ dateDay (x .line .date)) where
+    pub no-day : r ≡ NoDate → false ≡ (x .ok) && onDay day (dateDay (x .line .date))
+    no-day e = rw (← read, e) (simp and-false)
+
+    pub on-day : (y : Day) → r ≡ Good y → (t : Bool) → t ≡ sameDay y day → t ≡ (x .ok) && onDay day (dateDay (x .line .date))
+    on-day y e t q = q ∙ rw (← read, e, not-false (x .ok) good)
+
+pub rise-on : (rose : Bool) (last next : ℕ) → rose ≡ true → ltb last next ≡ rose && ltb last next
+rise-on rose last next e = rw e
+
+-- ---- a walk over the lines, at the line that begins at `at` and ends at e
+module _ (s : List ℕ) (at e : ℕ) (here : at < length s) (ends : e ≡ at + lineEnd (drop at s)) where
+  some-left : 0 < length (drop at s)
+  some-left = rw length-drop (omega arith)
+
+  rest-left : length s ≤ e → length (drop at s) ≤ lineEnd (drop at s)
+  rest-left h = rw length-drop (omega arith)
+
+  line-left : e < length s → lineEnd (drop at s) < length (drop at s)
+  line-left h = rw length-drop (omega arith)
+
+  -- the next line begins behind the end
+  behind : drop (lineEnd (drop at s) + 2) (drop at s) ≡ drop (e + 2) s
+  behind =
+      let n : at + (lineEnd (drop at s) + 2) ≡ e + 2 = omega arith in
+      drop-drop (lineEnd (drop at s) + 2) at s ∙ rw n
+
+  pub next-in : e < length s → e + 2 ≤ length s
+  next-in h =
+      let r = end-room (drop at s) (line-left h) in
+      let q : lineEnd (drop at s) + 2 ≤ length s - at = rw length-drop at r in
+      omega arith
+
+  -- ---- the count
+  module _ (n : ℕ) (passed : lineCount s ≡ n + lineCount (drop at s)) where
+    pub count-at-rest : length s ≤ e → n + 1 ≡ lineCount s
+    count-at-rest h = omega (arith, count-rest (drop at s) some-left (rest-left h))
+
+    pub count-pass : e < length s → lineCount s ≡ n + 1 + lineCount (drop (e + 2) s)
+    count-pass h =
+        let c : lineCount (drop at s) ≡ suc (lineCount (drop (e + 2) s)) = rw (← behind) (count-line (drop at s) (line-left h)) in
+        omega arith
+
+  -- ---- the check: every line good, and receipts that rise
+  module _ (day : Day) (passed : goodLines day (splitLines s) ≡ goodLines day (splitLines (drop at s))) where
+    rest-bad : length s ≤ e → goodLines day (splitLines s) ≡ false
+    rest-bad h = passed ∙ good-rest day (drop at s) some-left (rest-left h)
+
+    module _ (x : LineRead) (read : x ≡ lineRead (take (lineEnd (drop at s)) (drop at s))) (t : Bool) (test : t ≡ (x .ok) && onDay day (dateDay (x .line .date))) where
+      first-good : e < length s → goodLines day (splitLines s) ≡ t && goodLines day (splitLines (drop (e + 2) s))
+      unfolding goodLine
+      first-good h = passed ∙ good-line day (drop at s) (line-left h) ∙ rw (behind, ← read, ← test)
+
+      pub good-pass : e < length s → not t ≡ false → goodLines day (splitLines s) ≡ goodLines day (splitLines (drop (e + 2) s))
+      good-pass h g = first-good h ∙ rw (not-false t g)
+
+      line-bad : e < length s → not t ≡ true → goodLines day (splitLines s) ≡ false
+      line-bad h g = first-good h ∙ rw (not-true t g)
+
+  pub rise-pass : (rose : Bool) (last : ℕ) → rising 0 (registryLines s) ≡ rose && rising last (registryLines (drop at s))
+      → (x : LineRead) → x ≡ lineRead (take (lineEnd (drop at s)) (drop at s)) → e < length s
+      → (q : Bool) → q ≡ rose && ltb last (x .line .receipt)
+      → rising 0 (registryLines s) ≡ q && rising (x .line .receipt) (registryLines (drop (e + 2) s))
+  unfolding registryLines rising
+  rise-pass rose last passed x read h q eq = passed ∙ rw (held-line (drop at s) (line-left h), behind, ← read, eq) (sym (and-assoc rose _ _))
+
+-- nothing is left
+module _ (s : List ℕ) (at : ℕ) (h : length s ≤ at) where
+  pub count-end : (n : ℕ) → lineCount s ≡ n + lineCount (drop at s) → n ≡ lineCount s
+  unfolding lineCount countOf splitLines
+  count-end n passed = let z : lineCount (drop at s) ≡ 0 = rw (drop-of-length-le s h) in omega arith
+
+  good-end : (day : Day) → goodLines day (splitLines s) ≡ goodLines day (splitLines (drop at s)) → goodLines day (splitLines s) ≡ true
+  unfolding goodLines splitLines
+  good-end day passed = passed ∙ rw (drop-of-length-le s h)
+
+  rise-end : (rose : Bool) (last : ℕ) → rising 0 (registryLines s) ≡ rose && rising last (registryLines (drop at s)) → rising 0 (registryLines s) ≡ rose
+  unfolding registryLines heldLines splitLines rising
+  rise-end rose last passed = passed ∙ rw (drop-of-length-le s h) (and-true rose)
+
+-- ---- the fault
+module _ (day : Day) (s : List ℕ) (n : ℕ) (count : n ≡ lineCount s) where
+  pub too-many : 512 < n → 53 ≡ registryFault day s
+  unfolding registryFault
+  too-many h = rw (← count, lt-leb n 512 h)
+
+  module _ (few : n ≤ 512) (r : ℕ) where
+    bad : goodLines day (splitLines s) ≡ false → r ≡ 52 → r ≡ registryFault day s
+    unfolding registryFault
+    bad g q = q ∙ rw (← count, le-leb n 512 few, g)
+
+    module _ (at : ℕ) (passed : goodLines day (splitLines s) ≡ goodLines day (splitLines (drop at s))) where
+      module _ (e : ℕ) (here : at < length s) (ends : e ≡ at + lineEnd (drop at s)) where
+        pub fault-rest : length s ≤ e → r ≡ 52 → r ≡ registryFault day s
+        fault-rest h = bad (rest-bad s at e here ends day passed h)
+
+        pub fault-line : (x : LineRead) → x ≡ lineRead (take (lineEnd (drop at s)) (drop at s)) → (t : Bool) → t ≡ (x .ok) && onDay day (dateDay (x .line .date))
+            → e < length s → not t ≡ true → r ≡ 52 → r ≡ registryFault day s
+        fault-line x read t test h g = bad (line-bad s at e here ends day passed x read t test h g)
+
+      pub fault-end : (rose : Bool) (last : ℕ) → rising 0 (registryLines s) ≡ rose && rising last (registryLines (drop at s))
+          → length s ≤ at → r ≡ cond rose 0 54 → r ≡ registryFault day s
+      unfolding registryFault
+      fault-end rose last rises h q = q ∙ rw (← count, le-leb n 512 few, good-end s at h day passed, rise-end s at h rose last rises)

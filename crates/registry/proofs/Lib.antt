@@ -1,0 +1,9 @@
+pub mod LineLaws
+pub mod LineParts
+pub mod LineAgain
+pub mod WriteLaws
+pub mod SplitLaws
+pub mod CheckLaws
+pub mod TextAgain
+pub mod LinesGood
+pub mod ReportLaws

@@ -1,0 +1,139 @@
+-- What a text without a fault holds: lines of the day, well formed, with rising receipts, 512 at most.
+use Prim.Native.Nat.{ℕ, suc, _≤_, _<_}
+use native.Mathlib.Omega.{arith}
+use mathlib.Core.Path.{_≡_, refl, sym, ap, _∙_}
+use mathlib.Core.List.{List, [], _∷_}
+use mathlib.Core.Bool.{Bool, true, false, cond, _&&_}
+use lib.Dec.{leb}
+use lib.ListN.{length, length-append, length-drop, length-replicate}
+use borrow.Author.Tests.{leb-true}
+use Rattle.fields.specs.declared.calendar.Day.{Day}
+use Rattle.fields.specs.declared.digits.Digits.{Digits}
+use Rattle.fields.specs.declared.digits.Digits.the-variants.{Value, Malformed}
+use Rattle.fields.specs.declared.number.NumberRead.{NumberRead}
+use Rattle.fields.specs.declared.date.DateRead.{DateRead}
+use Rattle.fields.specs.Amount.{isAmount, amountRead}
+use Rattle.fields.specs.Codes.{isReceipt, receiptRead, isKind, kindRead}
+use Rattle.fields.specs.Number.{isNumber, isNumberText, padded, numberOf, noNumber, numberRead}
+use Rattle.fields.specs.Date.{isWritten, noDate, dateRead}
+use Rattle.fields.proofs.Tests.{both, cond-elim}
+use Rattle.fields.proofs.DigitLaws.{range-within}
+use Rattle.fields.proofs.AmountLaws.{amount-within}
+use Rattle.fields.proofs.NumberLaws.{text-of}
+use Rattle.registry.specs.declared.line.LineRead.{LineRead}
+use Rattle.registry.specs.Line.{field, afterField, noLine, lineOf, lineRead, isLine}
+use Rattle.registry.specs.Registry.{splitLines, countOf, lineCount, goodLine, goodLines, heldLines, registryLines, rising, registryFault}
+use Rattle.registry.specs.RegistryText.{lineOn, everyLine}
+use Rattle.registry.proofs.LineParts.{line-is}
+use Rattle.registry.proofs.SplitLaws.{count-more, good-more}
+use Rattle.registry.proofs.TextAgain.{on-line}
+
+no : {A : Type 0} → false ≡ true → A
+no e = let z : _≡_ {A = ℕ} 0 1 = cc in absurd (omega arith)
+
+-- ---- fields that were read
+module _ (f : List ℕ) (good : isNumberText f ≡ true) where
+  number-is : isNumber (numberOf f) ≡ true
+  unfolding isNumber isNumberText
+  number-is = rw (text-of f) good
+
+  number-size : length (padded f) ≡ 30
+  unfolding isNumberText
+  number-size =
+      let a = both (leb 1 (length f)) _ good in
+      let b = both (leb (length f) 30) _ (a .1) in
+      let l : length f ≤ 30 = leb-true (length f) 30 (b .0) in
+      simp (length-append, length-drop, length-replicate) (omega arith)
+
+abbrev NumberGood : NumberRead → Type 0
+NumberGood r = r .ok ≡ true → (isNumber (r .number) ≡ true) × (length (r .number .bytes) ≡ 30)
+
+number-good : (f : List ℕ) → NumberGood (numberRead f)
+unfolding numberRead
+number-good f = cond-elim NumberGood (isNumberText f) _ noNumber (λ e _. (number-is f e, number-size f e)) (λ _ h. no h)
+
+date-good : (f : List ℕ) → (dateRead f) .ok ≡ true → isWritten ((dateRead f) .date) ≡ true
+unfolding dateRead
+date-good f = cond-elim (λ r. r .ok ≡ true → isWritten (r .date) ≡ true) (isWritten f) _ noDate (λ e _. e) (λ _ h. no h)
+
+-- ---- a line that was read
+abbrev LineGood : LineRead → Type 0
+LineGood r = r .ok ≡ true → (isLine (r .line) ≡ true) × (length (r .line .number .bytes) ≡ 30)
+
+of-good : (n : NumberRead) (k : Digits) (d : DateRead) (a r : Digits) → NumberGood n → ((v : ℕ) → Value v ≡ k → isKind v ≡ true)
+    → (d .ok ≡ true → isWritten (d .date) ≡ true) → ((v : ℕ) → Value v ≡ a → isAmount v ≡ true) → ((v : ℕ) → Value v ≡ r → isReceipt v ≡ true)
+    → LineGood (lineOf n k d a r)
+of-good n Malformed d a r gn gk gd ga gr h = no h
+of-good n (Value k) d Malformed r gn gk gd ga gr h = no h
+of-good n (Value k) d (Value a) Malformed gn gk gd ga gr h = no h
+of-good n (Value k) d (Value a) (Value r) gn gk gd ga gr h =
+    cond-elim LineGood (n .ok && d .ok) _ noLine
+    (λ t _.
+    let p = both (n .ok) (d .ok) t in
+    (line-is _ (record { number = gn (p .0) .0; kind = gk k refl; date = gd (p .1); amount = ga a refl; receipt = gr r refl }), gn (p .0) .1))
+    (λ _ e. no e)
+    h
+
+line-good : (l : List ℕ) → LineGood (lineRead l)
+unfolding lineRead
+line-good l =
+    let s₁ = afterField l in
+    let s₂ = afterField s₁ in
+    let s₃ = afterField s₂ in
+    of-good (numberRead (field l)) (kindRead (field s₁)) (dateRead (field s₂)) (amountRead (field s₃)) (receiptRead (afterField s₃))
+    (number-good (field l))
+    (λ v. range-within 3 0 999 (field s₁) v)
+    (date-good (field s₂))
+    (λ v. amount-within (field s₃) v)
+    (λ v. range-within 15 1 999999999999999 (afterField s₃) v)
+
+-- ---- the lines of a good text
+module _ (day : Day) where
+  good-on : (l : List ℕ) → goodLine day l ≡ true → lineOn day ((lineRead l) .line) ≡ true
+  unfolding goodLine
+  good-on l h =
+      let p = both ((lineRead l) .ok) _ h in
+      let g = line-good l (p .0) in
+      on-line day ((lineRead l) .line) (record { size = g .1; good = g .0; on = p .1 })
+
+  held-good : (ls : List (List ℕ)) → goodLines day ls ≡ true → everyLine day (heldLines ls) ≡ true
+  unfolding everyLine heldLines
+  held-good [] h = refl
+  held-good (l ∷ []) h = refl
+  held-good (l ∷ (m ∷ ls)) h =
+      let p = both (goodLine day l) _ (sym (good-more day l m ls) ∙ h) in
+      rw (good-on l (p .0), held-good (m ∷ ls) (p .1))
+
+  held-count : (ls : List (List ℕ)) → goodLines day ls ≡ true → length (heldLines ls) ≡ countOf ls
+  unfolding goodLines heldLines countOf
+  held-count [] h = refl
+  held-count ([] ∷ []) h = refl
+  held-count ((b ∷ l) ∷ []) h = no h
+  held-count (l ∷ (m ∷ ls)) h =
+      let p = both (goodLine day l) _ (sym (good-more day l m ls) ∙ h) in
+      rw (count-more l m ls) (ap suc (held-count (m ∷ ls) (p .1)))
+
+-- ---- no fault
+picked : (t : Bool) (a b : ℕ) → 0 < b → cond t a b ≡ 0 → (t ≡ true) × (a ≡ 0)
+picked true a b p e = (refl, e)
+picked false a b p e = absurd (omega arith)
+
+pub record GoodLines (day : Day) (s : List ℕ) : Type 0 where
+  pub lines : everyLine day (registryLines s) ≡ true
+  pub rise : rising 0 (registryLines s) ≡ true
+  pub few : length (registryLines s) ≤ 512
+  pub count : length (registryLines s) ≡ lineCount s
+
+pub lines-good : (day : Day) (s : List ℕ) → registryFault day s ≡ 0 → GoodLines day s
+unfolding registryFault registryLines lineCount
+lines-good day s h =
+    let a = picked (leb (lineCount s) 512) _ 53 (omega arith) h in
+    let b = picked (goodLines day (splitLines s)) _ 52 (omega arith) (a .1) in
+    let c = picked (rising 0 (registryLines s)) 0 54 (omega arith) (b .1) in
+    let n : length (registryLines s) ≡ lineCount s = held-count day (splitLines s) (b .0) in
+    record {
+      lines = held-good day (splitLines s) (b .0);
+      rise = c .0;
+      few = omega (arith, leb-true (lineCount s) 512 (a .0));
+      count = n;
+    }

@@ -1,0 +1,4 @@
+pub mod Line
+pub mod Registry
+pub mod RegistryText
+pub mod Report
