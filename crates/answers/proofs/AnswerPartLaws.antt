@@ -1,0 +1,127 @@
+-- Laws of the elements of a response and of the steps that read them, at each way out.
+use Prim.Native.Nat.{ℕ, _+_, _≤_, _<_}
+use mathlib.Core.Path.{_≡_, refl, sym, ap, _∙_}
+use mathlib.Core.List.{List, [], _∷_}
+use mathlib.Core.Bool.{Bool, true, false, cond, _&&_}
+use lib.ListN.{length, take, drop, drop-of-length-le}
+use lib.Seq.{drop-drop}
+use lib.Dec.{leb}
+use borrow.Author.Tests.{le-leb, lt-leb}
+use Rattle.fields.specs.declared.digits.Digits.{Digits}
+use Rattle.fields.specs.declared.digits.Digits.the-variants.{Value, Malformed}
+use Rattle.fields.specs.declared.date.DateRead.{DateRead}
+use Rattle.fields.specs.Digits.{digitsRead}
+use Rattle.fields.specs.Date.{dateRead}
+use Rattle.fields.proofs.ListLaws.{drop-next}
+use Rattle.message.specs.declared.action.Action.{Action}
+use Rattle.answers.specs.declared.answer.Answer.{Answer}
+use Rattle.answers.specs.declared.answer.AnswerRead.{AnswerRead}
+use Rattle.answers.specs.declared.answer.Parsed.{Parsed}
+use Rattle.answers.specs.declared.tags.Element.{Element}
+use Rattle.answers.specs.declared.tags.Element.the-variants.{Absent, Broken, Held}
+use Rattle.answers.specs.declared.parts.Part.{Part}
+use Rattle.answers.specs.AnswerRead.{starts, skipBlanks, Reading, Unreadable, SoFar, emptyAnswer, withDate, mayLackDate, unreadable, readingOf}
+use Rattle.answers.specs.AnswerParts.{foundOf, between, mayStand, mayLack, good, numberHeld, dateHeld, messageHeld, filled, tagStep, partFound, partStep, endStep, unparsed}
+
+module _ (x : Answer) (none : x ≡ emptyAnswer) where
+  pub none-read : record { ok = false; answer = x } ≡ unreadable
+  none-read = rw none
+
+  pub none-parsed : record { ok = false; answer = x; at = 0 } ≡ unparsed
+  none-parsed = rw none
+
+-- ---- what an element holds
+module _ (r : AnswerRead) where
+  pub number-good : (f : ℕ → Answer) (d : Digits) (v : ℕ) → d ≡ Value v → r ≡ good (f v) → r ≡ numberHeld f d
+  number-good f d v e q = rw e q
+
+  pub number-bad : (f : ℕ → Answer) (d : Digits) → d ≡ Malformed → r ≡ unreadable → r ≡ numberHeld f d
+  number-bad f d e q = rw e q
+
+  module _ (x : Answer) where
+    pub date-good : (d : DateRead) → d .ok ≡ true → r ≡ good (withDate x (d .date)) → r ≡ dateHeld x d
+    date-good d e q = rw e q
+
+    pub date-bad : (d : DateRead) → d .ok ≡ false → r ≡ unreadable → r ≡ dateHeld x d
+    date-bad d e q = rw e q
+
+    pub message-good : (n : ℕ) → n ≤ 512 → r ≡ good x → r ≡ messageHeld x n
+    message-good n h q = rw (le-leb n 512 h) q
+
+    pub message-long : (n : ℕ) → 512 < n → r ≡ unreadable → r ≡ messageHeld x n
+    message-long n h q = rw (lt-leb n 512 h) q
+
+  -- by the element
+  module _ (c : List ℕ) where
+    pub fill-as : (k l : Part) (x : Answer) → k ≡ l → r ≡ filled l x c → r ≡ filled k x c
+    fill-as k l x e q = rw e q
+
+    pub fill-number : (f : ℕ → Answer) (most : ℕ) (d : Digits) → r ≡ numberHeld f d → d ≡ digitsRead most c → r ≡ numberHeld f (digitsRead most c)
+    fill-number f most d q e = rw (← e) q
+
+    pub fill-date : (x : Answer) (d : DateRead) → r ≡ dateHeld x d → d ≡ dateRead c → r ≡ dateHeld x (dateRead c)
+    fill-date x d q e = rw (← e) q
+
+-- ---- what may be missing
+pub date-as : (a b : Action) (code : ℕ) (r : Bool) → a ≡ b → r ≡ mayLackDate b code → r ≡ mayLackDate a code
+date-as a b code r e q = rw e q
+
+pub lack-as : (k l : Part) (a : Action) (code : ℕ) (r : Bool) → k ≡ l → r ≡ mayLack l a code → r ≡ mayLack k a code
+lack-as k l a code r e q = rw e q
+
+-- ---- the step of a tag
+module _ (s tag : List ℕ) (p : Parsed) where
+  pub tag-stopped : p .ok ≡ false → readingOf s p ≡ tagStep tag (readingOf s p)
+  unfolding tagStep
+  tag-stopped n = rw n
+
+  module _ (going : p .ok ≡ true) (t : Bool) (is : t ≡ starts tag (drop (p .at) s)) where
+    pub tag-missing : t ≡ false → (r : Parsed) → r ≡ unparsed → readingOf s r ≡ tagStep tag (readingOf s p)
+    unfolding tagStep
+    tag-missing n r q = rw (q, going, ← is, n)
+
+    pub tag-passed : t ≡ true → (next : ℕ) → drop next s ≡ skipBlanks (drop (p .at + length tag) s) → SoFar (p .answer) (drop next s) ≡ tagStep tag (readingOf s p)
+    unfolding tagStep
+    tag-passed y next e = rw (going, ← is, y, drop-drop, e)
+
+-- ---- the step of an element
+module _ (k : Part) (a : Action) (s : List ℕ) (x : Answer) (at : ℕ) (e : Element) where
+  pub part-absent : e ≡ Absent → (t : Bool) → t ≡ mayLack k a (x .code) → cond t (SoFar x (drop at s)) Unreadable ≡ partFound k a x (drop at s) (foundOf s e)
+  part-absent q t et = rw (q, et)
+
+  pub part-broken : e ≡ Broken → (r : Parsed) → r ≡ unparsed → readingOf s r ≡ partFound k a x (drop at s) (foundOf s e)
+  part-broken q r er = rw (q, er)
+
+  pub part-held : (from size next : ℕ) → e ≡ Held from size next → (u c : List ℕ) → u ≡ drop from s → c ≡ take size u → (f : AnswerRead) → f ≡ filled k x c
+      → cond (f .ok) (SoFar (f .answer) (drop next s)) Unreadable ≡ partFound k a x (drop at s) (foundOf s e)
+  part-held from size next q u c eu ec f ef = rw (q, ← eu, ← ec, ← ef)
+
+module _ (k : Part) (a : Action) (s opener closer : List ℕ) (p : Parsed) where
+  pub step-stopped : p .ok ≡ false → readingOf s p ≡ partStep k a opener closer (readingOf s p)
+  unfolding partStep
+  step-stopped n = rw n
+
+  module _ (going : p .ok ≡ true) (t : Bool) (may : t ≡ mayStand k a) where
+    pub step-barred : t ≡ false → readingOf s p ≡ partStep k a opener closer (readingOf s p)
+    unfolding partStep
+    step-barred n = rw (going, ← may, n)
+
+    pub step-part : t ≡ true → (e : Element) → foundOf s e ≡ between opener closer (drop (p .at) s) → (r : Parsed)
+        → readingOf s r ≡ partFound k a (p .answer) (drop (p .at) s) (foundOf s e) → readingOf s r ≡ partStep k a opener closer (readingOf s p)
+    unfolding partStep
+    step-part y e ee r er = er ∙ rw (ee, going, ← may, y)
+
+-- ---- the end
+module _ (s : List ℕ) (p : Parsed) where
+  pub end-stopped : p .ok ≡ false → (r : AnswerRead) → r ≡ unreadable → r ≡ endStep (readingOf s p)
+  unfolding endStep
+  end-stopped n r q = q ∙ rw n
+
+  module _ (going : p .ok ≡ true) where
+    pub end-here : length s ≤ p .at → good (p .answer) ≡ endStep (readingOf s p)
+    unfolding endStep
+    end-here h = rw (going, drop-of-length-le s h)
+
+    pub end-later : p .at < length s → (r : AnswerRead) → r ≡ unreadable → r ≡ endStep (readingOf s p)
+    unfolding endStep
+    end-later h r q = q ∙ rw (going, drop-next s (p .at) h)

@@ -1,0 +1,82 @@
+-- What is read of an answer is in range.
+use Prim.Native.Nat.{ℕ, _^_, _≤_, _<_}
+use native.Mathlib.Omega.{arith}
+use mathlib.Core.Path.{_≡_, refl, sym}
+use mathlib.Core.List.{List}
+use mathlib.Core.Bool.{Bool, true, false, cond}
+use lib.ListN.{length, drop}
+use lib.Dec.{leb}
+use Rattle.fields.specs.declared.digits.Digits.{Digits}
+use Rattle.fields.specs.declared.digits.Digits.the-variants.{Value, Malformed}
+use Rattle.fields.specs.Digits.{digitsRead}
+use Rattle.fields.specs.Date.{dateRead}
+use Rattle.fields.proofs.Tests.{cond-elim}
+use Rattle.fields.proofs.DigitLaws.{digits-below}
+use Rattle.message.specs.declared.action.Action.{Action}
+use Rattle.answers.specs.declared.answer.Answer.{Answer}
+use Rattle.answers.specs.declared.answer.AnswerRead.{AnswerRead}
+use Rattle.answers.specs.declared.parts.Part.{Part}
+use Rattle.answers.specs.declared.parts.Part.the-variants.{Code, Authcode, Date, Message}
+use Rattle.answers.specs.Answer.{xmlLine, responseTag, codeTag, authcodeTag, dateTag, messageTag, opening, closing}
+use Rattle.answers.specs.AnswerRead.{starts, skipBlanks, Found, NoTag, Unclosed, Content, Reading, Unreadable, SoFar, emptyAnswer, withCode, withAuthcode, withDate, isEmpty, unreadable, answerRead}
+use Rattle.answers.specs.AnswerParts.{between, mayStand, mayLack, good, numberHeld, dateHeld, filled, tagStep, readOn, partFound, partStep, namedStep, partsStep, endStep}
+use Rattle.answers.proofs.AnswerSteps.{answer-steps}
+
+abbrev InRange : Answer → Type 0
+InRange x = (x .code ≤ 9999) × (x .authcode ≤ 999999999999999)
+
+-- the answer so far, as long as there is one
+abbrev soFar : Reading → Answer
+soFar Unreadable = emptyAnswer
+soFar (SoFar x t) = x
+
+none-range : InRange emptyAnswer
+none-range = (omega arith, omega arith)
+
+number-range : (f : ℕ → Answer) (most : ℕ) (c : List ℕ) → ((v : ℕ) → v < 10 ^ most → InRange (f v)) → InRange ((numberHeld f (digitsRead most c)) .answer)
+number-range f most c h = go (digitsRead most c) refl
+  where
+    go : (d : Digits) → digitsRead most c ≡ d → InRange ((numberHeld f d) .answer)
+    go Malformed e = none-range
+    go (Value v) e = h v (digits-below most c v (sym e))
+
+fill-range : (k : Part) (x : Answer) (c : List ℕ) → InRange x → InRange ((filled k x c) .answer)
+unfolding filled
+fill-range Code x c h = number-range (withCode x) 4 c (λ v l. (omega arith, h .1))
+fill-range Authcode x c h = number-range (withAuthcode x) 15 c (λ v l. (h .0, omega arith))
+fill-range Date x c h = cond-elim (λ (r : AnswerRead). InRange (r .answer)) ((dateRead c) .ok) _ _ (λ e. h) (λ e. none-range)
+fill-range Message x c h = cond-elim (λ (r : AnswerRead). InRange (r .answer)) (leb (length c) 512) _ _ (λ e. h) (λ e. none-range)
+
+-- ---- each step keeps it
+tag-range : (tag : List ℕ) (r : Reading) → InRange (soFar r) → InRange (soFar (tagStep tag r))
+unfolding tagStep
+tag-range tag Unreadable h = h
+tag-range tag (SoFar x t) h = cond-elim (λ (r : Reading). InRange (soFar r)) (starts tag t) _ _ (λ e. h) (λ e. none-range)
+
+module _ (k : Part) (a : Action) where
+  found-range : (x : Answer) (left : List ℕ) (f : Found) → InRange x → InRange (soFar (partFound k a x left f))
+  found-range x left NoTag h = cond-elim (λ (r : Reading). InRange (soFar r)) (mayLack k a (x .code)) _ _ (λ e. h) (λ e. none-range)
+  found-range x left Unclosed h = none-range
+  found-range x left (Content c t) h =
+      cond-elim (λ (r : Reading). InRange (soFar r)) ((filled k x c) .ok) _ _ (λ e. fill-range k x c h) (λ e. none-range)
+
+  part-range : (name : List ℕ) (r : Reading) → InRange (soFar r) → InRange (soFar (namedStep k a name r))
+  unfolding namedStep partStep
+  part-range name Unreadable h = h
+  part-range name (SoFar x t) h =
+      cond-elim (λ (r : Reading). InRange (soFar r)) (mayStand k a) _ _ (λ e. found-range x t (between (opening name) (closing name) t) h) (λ e. h)
+
+end-range : (r : Reading) → InRange (soFar r) → InRange ((endStep r) .answer)
+unfolding endStep
+end-range Unreadable h = h
+end-range (SoFar x t) h = cond-elim (λ (r : AnswerRead). InRange (r .answer)) (isEmpty t) _ _ (λ e. h) (λ e. none-range)
+
+all-range : (a : Action) (s : List ℕ) → InRange ((answerRead a s) .answer)
+unfolding partsStep
+all-range a s =
+    rw (answer-steps a s)
+    (end-range _ (tag-range _ _ (part-range Message a _ _ (part-range Date a _ _ (part-range Authcode a _ _ (part-range Code a _ _ (tag-range _ _ (tag-range _ (SoFar emptyAnswer s) none-range))))))))
+
+-- what the agent may store: a code of at most 4 digits, and an authcode of at most 15, or 0 where there is none
+pub read-code : (a : Action) (s : List ℕ) → (answerRead a s) .ok ≡ true → ((answerRead a s) .answer .code ≤ 9999) × ((answerRead a s) .answer .authcode ≤ 999999999999999)
+read-code a s e = all-range a s

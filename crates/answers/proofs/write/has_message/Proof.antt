@@ -1,0 +1,14 @@
+use borrow.Author.Needs.{needs}
+use Rattle.answers.proofs.AnswerTests.{picked-eq, passed-eq}
+use Rattle.answers.proofs.write.has_message.Statement.{statement}
+use Rattle.answers.proofs.write.has_message.Tie as tie
+
+ruleset laws = (picked-eq, passed-eq, needs)
+
+pub has-message-spec : {M : Type 1} → statement M
+has-message-spec =
+    tie.close
+    (tie.spec
+    (λ c. search laws)
+    (λ c. search laws)
+    (λ c. search laws))

@@ -1,0 +1,4 @@
+pub mod Answer
+pub mod AnswerRead
+pub mod AnswerText
+pub mod AnswerParts

@@ -1,0 +1,138 @@
+// The four elements of a response, under one rule.
+use crate::answer;
+use crate::answer::Answer;
+use crate::answer::AnswerRead;
+use fields::date;
+use fields::date::DateRead;
+use fields::digits;
+use fields::digits::Digits;
+use message::action::Action;
+ghost use mathlib.Core.Path.{_≡_};
+ghost use lib.ListN.{length};
+ghost use Rattle.answers.specs.AnswerRead.{takesMore, mayLackDate, withCode, withAuthcode};
+ghost use Rattle.answers.specs.AnswerParts.{mayStand, mayLack, numberHeld, dateHeld, messageHeld, filled};
+
+pub(crate) enum Part {
+    Code,
+    Authcode,
+    Date,
+    Message,
+}
+
+// Whether an action's answers may have an authcode and a date.
+pub(crate) fn takes_more(a: Action) -> bool
+    ensures { λ r. ⌜ r ≡ takesMore a ⌝ }
+{
+    match a {
+        Action::Check => false,
+        Action::Payment => true,
+        Action::Status => true,
+        Action::Cancel => true,
+    }
+}
+
+// Whether an answer with this code may be without a date.
+pub(crate) fn may_lack_date(a: Action, code: u64) -> bool
+    ensures { λ r. ⌜ r ≡ mayLackDate a code ⌝ }
+{
+    match a {
+        Action::Check => true,
+        Action::Payment => { if code == 1 { true } else { code == 31 } }
+        Action::Status => true,
+        Action::Cancel => true,
+    }
+}
+
+// Whether an action's answers may have an element.
+pub(crate) fn may_stand(k: Part, a: Action) -> bool
+    ensures { λ r. ⌜ r ≡ mayStand k a ⌝ }
+{
+    match k {
+        Part::Code => true,
+        Part::Authcode => takes_more(a),
+        Part::Date => takes_more(a),
+        Part::Message => true,
+    }
+}
+
+// Whether an answer with this code may be without an element.
+pub(crate) fn may_lack(k: Part, a: Action, code: u64) -> bool
+    ensures { λ r. ⌜ r ≡ mayLack k a code ⌝ }
+{
+    match k {
+        Part::Code => false,
+        Part::Authcode => true,
+        Part::Date => may_lack_date(a, code),
+        Part::Message => true,
+    }
+}
+
+// An answer with a code, where it was read.
+fn with_code(x: Answer, d: Digits) -> AnswerRead
+    ensures { λ r. ⌜ r ≡ numberHeld (withCode x) d ⌝ }
+{
+    match d {
+        Digits::Value(v) => {
+            let mut answer = x;
+            answer.code = v;
+            AnswerRead { ok: true, answer }
+        }
+        Digits::Malformed => answer::unreadable(),
+    }
+}
+
+// An answer with an authcode, where it was read.
+fn with_authcode(x: Answer, d: Digits) -> AnswerRead
+    ensures { λ r. ⌜ r ≡ numberHeld (withAuthcode x) d ⌝ }
+{
+    match d {
+        Digits::Value(v) => {
+            let mut answer = x;
+            answer.authorized = true;
+            answer.authcode = v;
+            AnswerRead { ok: true, answer }
+        }
+        Digits::Malformed => answer::unreadable(),
+    }
+}
+
+// An answer with a date, where it was read.
+fn with_date(x: Answer, d: DateRead) -> AnswerRead
+    ensures { λ r. ⌜ r ≡ dateHeld x d ⌝ }
+{
+    if d.ok {
+        let date = d.date;
+        let mut answer = x;
+        answer.dated = true;
+        answer.date = date;
+        AnswerRead { ok: true, answer }
+    } else {
+        answer::unreadable()
+    }
+}
+
+// An answer with a message of this size, of which nothing is kept.
+fn with_message(x: Answer, size: usize) -> AnswerRead
+    ensures { λ r. ⌜ r ≡ messageHeld x size ⌝ }
+{
+    if size <= 512 {
+        AnswerRead {
+            ok: true,
+            answer: x,
+        }
+    } else {
+        answer::unreadable()
+    }
+}
+
+// An answer with what an element holds.
+pub(crate) fn fill(k: Part, x: Answer, content: &[u8]) -> AnswerRead
+    ensures { λ r. ⌜ r ≡ filled k x (now (content .entry)) ⌝ }
+{
+    match k {
+        Part::Code => with_code(x, digits::read_digits(content, 4)),
+        Part::Authcode => with_authcode(x, digits::read_digits(content, 15)),
+        Part::Date => with_date(x, date::read_date(content)),
+        Part::Message => with_message(x, content.len()),
+    }
+}

@@ -1,0 +1,139 @@
+// Answers read, step by step: tags, elements, the end.
+use crate::answer;
+use crate::answer::Answer;
+use crate::answer::AnswerRead;
+use crate::answer::Parsed;
+use crate::parts;
+use crate::parts::Part;
+use crate::tags;
+use crate::tags::Element;
+use fields::scan;
+use message::action::Action;
+ghost use mathlib.Core.Path.{_≡_};
+ghost use lib.ListN.{drop};
+ghost use Rattle.answers.specs.AnswerRead.{openStep, readingOf, answerRead};
+ghost use Rattle.answers.specs.AnswerParts.{foundOf, unparsed, tagStep, partFound, partStep, partsStep, endStep};
+
+// What is held of a text that cannot be read.
+fn unparsed() -> Parsed
+    ensures { λ r. ⌜ r ≡ unparsed ⌝ }
+{
+    let answer = answer::empty_answer();
+    Parsed {
+        ok: false,
+        answer,
+        at: 0,
+    }
+}
+
+// A tag that must stand here, and the blanks behind it.
+fn tag_step(s: &[u8], tag: &[u8], p: Parsed) -> Parsed
+    ensures { λ r. ⌜ readingOf (now (s .entry)) r ≡ tagStep (now (tag .entry)) (readingOf (now (s .entry)) p) ⌝ }
+{
+    if p.ok {
+        let at = p.at;
+        if tags::starts_at(s, at, tag) {
+            let answer = p.answer;
+            let next = tags::skip_blanks(s, at + tag.len());
+            Parsed {
+                ok: true,
+                answer,
+                at: next,
+            }
+        } else {
+            unparsed()
+        }
+    } else {
+        p
+    }
+}
+
+// The reading behind an element, from the answer x before it and the place it would stand at.
+fn take_part(k: Part, a: Action, s: &[u8], x: Answer, at: usize, e: Element) -> Parsed
+    ensures { λ r. ⌜ readingOf (now (s .entry)) r ≡ partFound k a x (drop at (now (s .entry))) (foundOf (now (s .entry)) e) ⌝ }
+{
+    match e {
+        Element::Absent => {
+            let ok = parts::may_lack(k, a, x.code);
+            Parsed { ok, answer: x, at }
+        }
+        Element::Broken => unparsed(),
+        Element::Held(from, size, next) => {
+            let r = parts::fill(k, x, scan::first_bytes(tags::rest(s, from), size));
+            let answer = r.answer;
+            Parsed {
+                ok: r.ok,
+                answer,
+                at: next,
+            }
+        }
+    }
+}
+
+// One element, from its tags, where the action's answers may have it.
+fn part_step(k: Part, a: Action, s: &[u8], opener: &[u8], closer: &[u8], p: Parsed) -> Parsed
+    ensures { λ r. ⌜ readingOf (now (s .entry)) r ≡ partStep k a (now (opener .entry)) (now (closer .entry)) (readingOf (now (s .entry)) p) ⌝ }
+{
+    if p.ok {
+        if parts::may_stand(k, a) {
+            let at = p.at;
+            let x = p.answer;
+            let e = tags::element_at(s, at, opener, closer);
+            take_part(k, a, s, x, at, e)
+        } else {
+            p
+        }
+    } else {
+        p
+    }
+}
+
+// The XML line and the opening tag of the response.
+fn open_step(s: &[u8]) -> Parsed
+    ensures { λ r. ⌜ readingOf (now (s .entry)) r ≡ openStep (now (s .entry)) ⌝ }
+{
+    let answer = answer::empty_answer();
+    let p = Parsed {
+        ok: true,
+        answer,
+        at: 0,
+    };
+    let q = tag_step(s, b"<?xml version=\"1.0\" encoding=\"windows-1251\"?>", p);
+    tag_step(s, b"<response>", q)
+}
+
+// The elements of the response, one after another.
+fn parts_step(a: Action, s: &[u8], p: Parsed) -> Parsed
+    ensures { λ r. ⌜ readingOf (now (s .entry)) r ≡ partsStep a (readingOf (now (s .entry)) p) ⌝ }
+{
+    let coded = part_step(Part::Code, a, s, b"<code>", b"</code>", p);
+    let authorized = part_step(Part::Authcode, a, s, b"<authcode>", b"</authcode>", coded);
+    let dated = part_step(Part::Date, a, s, b"<date>", b"</date>", authorized);
+    part_step(Part::Message, a, s, b"<message>", b"</message>", dated)
+}
+
+// The answer, where the text has ended.
+fn end_step(s: &[u8], p: Parsed) -> AnswerRead
+    ensures { λ r. ⌜ r ≡ endStep (readingOf (now (s .entry)) p) ⌝ }
+{
+    if p.ok {
+        if s.len() <= p.at {
+            let answer = p.answer;
+            AnswerRead { ok: true, answer }
+        } else {
+            answer::unreadable()
+        }
+    } else {
+        answer::unreadable()
+    }
+}
+
+// An answer to an action, from its bytes.
+pub fn read_answer(a: Action, s: &[u8]) -> AnswerRead
+    ensures { λ r. ⌜ r ≡ answerRead a (now (s .entry)) ⌝ }
+{
+    let opened = open_step(s);
+    let filled = parts_step(a, s, opened);
+    let closed = tag_step(s, b"</response>", filled);
+    end_step(s, closed)
+}
