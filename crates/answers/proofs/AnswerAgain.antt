@@ -1,17 +1,16 @@
 -- Every answer that the gate's rules allow is read back from its bytes.
-use Prim.Native.Nat.{ℕ, suc, _+_, _^_, _≤_, _<_}
+use Prim.Native.Nat.{ℕ, _≤_}
 use native.Mathlib.Omega.{arith}
-use mathlib.Core.Path.{_≡_, refl, sym, ap, _∙_}
+use mathlib.Core.Path.{_≡_, refl, sym, _∙_}
 use mathlib.Core.List.{List, [], _∷_, _++_, append-assoc}
 use mathlib.Core.Bool.{Bool, true, false, cond, not, _&&_, _||_}
-use lib.ListN.{length, take, drop}
+use lib.ListN.{length, drop}
 use lib.Seq.{take-append-seam, drop-append-seam, drop-append-add}
 use lib.Dec.{eqb, leb}
-use borrow.Author.Tests.{le-leb, leb-true, ne-eqb, eqb-false}
-use Rattle.fields.specs.declared.digits.Digits.the-variants.{Value, Malformed}
+use borrow.Author.Tests.{le-leb, leb-true, ne-eqb}
 use Rattle.fields.specs.Lists.{every, find, eqList}
-use Rattle.fields.specs.Digits.{isDigit, digitsRead, decimal}
-use Rattle.fields.specs.Date.{isWritten, emptyDate, dateRead}
+use Rattle.fields.specs.Digits.{isDigit, decimal}
+use Rattle.fields.specs.Date.{isWritten, emptyDate}
 use Rattle.fields.proofs.Tests.{and-left, and-right, both, cond-elim}
 use Rattle.fields.proofs.ListLaws.{every-weaker}
 use Rattle.fields.proofs.ScanLaws.{eqList-refl}
@@ -22,9 +21,9 @@ use Rattle.answers.specs.declared.answer.Answer.{Answer}
 use Rattle.answers.specs.declared.parts.Part.{Part}
 use Rattle.answers.specs.declared.parts.Part.the-variants.{Code, Authcode, Date, Message}
 use Rattle.answers.specs.Answer.{xmlLine, responseTag, codeTag, authcodeTag, dateTag, messageTag, opening, closing, element, elementIf, hasMessage, messageOf, answerBytes}
-use Rattle.answers.specs.AnswerRead.{starts, isBlank, skipBlanks, NoTag, Content, Reading, Unreadable, SoFar, emptyAnswer, takesMore, mayLackDate, answerRead, isAnswer, answerAgain}
+use Rattle.answers.specs.AnswerRead.{starts, isBlank, skipBlanks, NoTag, Content, Reading, SoFar, emptyAnswer, takesMore, mayLackDate, answerRead, isAnswer, answerAgain}
 use Rattle.answers.specs.AnswerParts.{closedBy, between, mayStand, mayLack, good, filled, tagStep, partStep, namedStep, partsStep, endStep}
-use Rattle.answers.proofs.AnswerTextLaws.{message-size}
+use Rattle.answers.proofs.AnswerTextLaws.{message-elim, message-size}
 use Rattle.answers.proofs.AnswerSteps.{answer-steps}
 
 -- ---- contents have no < (60)
@@ -48,10 +47,7 @@ number-clear n = every-weaker isDigit isClear (decimal n) digit-clear (decimal-d
 
 message-clear : (code : ℕ) → every isClear (messageOf code) ≡ true
 unfolding messageOf every
-message-clear code =
-    cond-elim (λ (m : List ℕ). every isClear m ≡ true) (eqb code 30) _ _ (λ e. refl)
-    (λ e. cond-elim (λ (m : List ℕ). every isClear m ≡ true) (eqb code 31) _ _ (λ f. refl)
-    (λ f. cond-elim (λ (m : List ℕ). every isClear m ≡ true) (eqb code 32) _ _ (λ g. refl) (λ g. refl)))
+message-clear = message-elim (λ (m : List ℕ). every isClear m ≡ true) refl refl refl refl
 
 -- ---- a tag, and an element, before a rest that begins with no blank
 starts-self : (t u : List ℕ) → starts t (t ++ u) ≡ true

@@ -1,11 +1,10 @@
 -- Laws of the elements of a response and of the steps that read them, at each way out.
 use Prim.Native.Nat.{ℕ, _+_, _≤_, _<_}
-use mathlib.Core.Path.{_≡_, refl, sym, ap, _∙_}
-use mathlib.Core.List.{List, [], _∷_}
-use mathlib.Core.Bool.{Bool, true, false, cond, _&&_}
+use mathlib.Core.Path.{_≡_, _∙_}
+use mathlib.Core.List.{List}
+use mathlib.Core.Bool.{Bool, true, false, cond}
 use lib.ListN.{length, take, drop, drop-of-length-le}
 use lib.Seq.{drop-drop}
-use lib.Dec.{leb}
 use borrow.Author.Tests.{le-leb, lt-leb}
 use Rattle.fields.specs.declared.digits.Digits.{Digits}
 use Rattle.fields.specs.declared.digits.Digits.the-variants.{Value, Malformed}
@@ -20,7 +19,7 @@ use Rattle.answers.specs.declared.answer.Parsed.{Parsed}
 use Rattle.answers.specs.declared.tags.Element.{Element}
 use Rattle.answers.specs.declared.tags.Element.the-variants.{Absent, Broken, Held}
 use Rattle.answers.specs.declared.parts.Part.{Part}
-use Rattle.answers.specs.AnswerRead.{starts, skipBlanks, Reading, Unreadable, SoFar, emptyAnswer, withDate, mayLackDate, unreadable, readingOf}
+use Rattle.answers.specs.AnswerRead.{starts, skipBlanks, Unreadable, SoFar, emptyAnswer, withDate, mayLackDate, unreadable, readingOf}
 use Rattle.answers.specs.AnswerParts.{foundOf, between, mayStand, mayLack, good, numberHeld, dateHeld, messageHeld, filled, tagStep, partFound, partStep, endStep, unparsed}
 
 module _ (x : Answer) (none : x ≡ emptyAnswer) where

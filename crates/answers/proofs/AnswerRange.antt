@@ -3,8 +3,8 @@ use Prim.Native.Nat.{ℕ, _^_, _≤_, _<_}
 use native.Mathlib.Omega.{arith}
 use mathlib.Core.Path.{_≡_, refl, sym}
 use mathlib.Core.List.{List}
-use mathlib.Core.Bool.{Bool, true, false, cond}
-use lib.ListN.{length, drop}
+use mathlib.Core.Bool.{true, false}
+use lib.ListN.{length}
 use lib.Dec.{leb}
 use Rattle.fields.specs.declared.digits.Digits.{Digits}
 use Rattle.fields.specs.declared.digits.Digits.the-variants.{Value, Malformed}
@@ -17,13 +17,13 @@ use Rattle.answers.specs.declared.answer.Answer.{Answer}
 use Rattle.answers.specs.declared.answer.AnswerRead.{AnswerRead}
 use Rattle.answers.specs.declared.parts.Part.{Part}
 use Rattle.answers.specs.declared.parts.Part.the-variants.{Code, Authcode, Date, Message}
-use Rattle.answers.specs.Answer.{xmlLine, responseTag, codeTag, authcodeTag, dateTag, messageTag, opening, closing}
-use Rattle.answers.specs.AnswerRead.{starts, skipBlanks, Found, NoTag, Unclosed, Content, Reading, Unreadable, SoFar, emptyAnswer, withCode, withAuthcode, withDate, isEmpty, unreadable, answerRead}
-use Rattle.answers.specs.AnswerParts.{between, mayStand, mayLack, good, numberHeld, dateHeld, filled, tagStep, readOn, partFound, partStep, namedStep, partsStep, endStep}
+use Rattle.answers.specs.Answer.{opening, closing}
+use Rattle.answers.specs.AnswerRead.{starts, Found, NoTag, Unclosed, Content, Reading, Unreadable, SoFar, emptyAnswer, withCode, withAuthcode, isEmpty, answerRead}
+use Rattle.answers.specs.AnswerParts.{between, mayStand, mayLack, numberHeld, filled, tagStep, partFound, partStep, namedStep, partsStep, endStep}
 use Rattle.answers.proofs.AnswerSteps.{answer-steps}
 
 abbrev InRange : Answer → Type 0
-InRange x = (x .code ≤ 9999) × (x .authcode ≤ 999999999999999)
+InRange x = (x .code ≤ 9999) × (x .authcode ≤ 999999999999999) × (x .authorized ≡ false → x .authcode ≡ 0)
 
 -- the answer so far, as long as there is one
 abbrev soFar : Reading → Answer
@@ -31,7 +31,7 @@ soFar Unreadable = emptyAnswer
 soFar (SoFar x t) = x
 
 none-range : InRange emptyAnswer
-none-range = (omega arith, omega arith)
+none-range = (omega arith, omega arith, λ e. refl)
 
 number-range : (f : ℕ → Answer) (most : ℕ) (c : List ℕ) → ((v : ℕ) → v < 10 ^ most → InRange (f v)) → InRange ((numberHeld f (digitsRead most c)) .answer)
 number-range f most c h = go (digitsRead most c) refl
@@ -42,8 +42,8 @@ number-range f most c h = go (digitsRead most c) refl
 
 fill-range : (k : Part) (x : Answer) (c : List ℕ) → InRange x → InRange ((filled k x c) .answer)
 unfolding filled
-fill-range Code x c h = number-range (withCode x) 4 c (λ v l. (omega arith, h .1))
-fill-range Authcode x c h = number-range (withAuthcode x) 15 c (λ v l. (h .0, omega arith))
+fill-range Code x c h = number-range (withCode x) 4 c (λ v l. (omega arith, h .1, h .2))
+fill-range Authcode x c h = number-range (withAuthcode x) 15 c (λ v l. (h .0, omega arith, λ e. let z : _≡_ {A = ℕ} 0 1 = cc in absurd (omega arith)))
 fill-range Date x c h = cond-elim (λ (r : AnswerRead). InRange (r .answer)) ((dateRead c) .ok) _ _ (λ e. h) (λ e. none-range)
 fill-range Message x c h = cond-elim (λ (r : AnswerRead). InRange (r .answer)) (leb (length c) 512) _ _ (λ e. h) (λ e. none-range)
 
@@ -77,6 +77,10 @@ all-range a s =
     rw (answer-steps a s)
     (end-range _ (tag-range _ _ (part-range Message a _ _ (part-range Date a _ _ (part-range Authcode a _ _ (part-range Code a _ _ (tag-range _ _ (tag-range _ (SoFar emptyAnswer s) none-range))))))))
 
--- what the agent may store: a code of at most 4 digits, and an authcode of at most 15, or 0 where there is none
-pub read-code : (a : Action) (s : List ℕ) → (answerRead a s) .ok ≡ true → ((answerRead a s) .answer .code ≤ 9999) × ((answerRead a s) .answer .authcode ≤ 999999999999999)
-read-code a s e = all-range a s
+-- what the agent may store: a code of at most 4 digits, and an authcode of at most 15, 0 where there is none
+module _ (a : Action) (s : List ℕ) where
+  pub read-code : (answerRead a s) .ok ≡ true → ((answerRead a s) .answer .code ≤ 9999) × ((answerRead a s) .answer .authcode ≤ 999999999999999)
+  read-code e = let h = all-range a s in (h .0, h .1)
+
+  pub read-unauthorized : (answerRead a s) .answer .authorized ≡ false → (answerRead a s) .answer .authcode ≡ 0
+  read-unauthorized = (all-range a s) .2

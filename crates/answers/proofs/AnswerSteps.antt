@@ -1,7 +1,7 @@
 -- The code's steps are those of the definition.
 use Prim.Native.Nat.{ℕ}
-use mathlib.Core.Path.{_≡_, refl, sym, ap, _∙_}
-use mathlib.Core.List.{List, [], _∷_}
+use mathlib.Core.Path.{_≡_, refl, sym, _∙_}
+use mathlib.Core.List.{List}
 use mathlib.Core.Bool.{Bool, true, false, cond, _&&_}
 use lib.ListN.{length, drop}
 use lib.Dec.{leb}
@@ -15,8 +15,8 @@ use Rattle.answers.specs.declared.answer.AnswerRead.{AnswerRead}
 use Rattle.answers.specs.declared.parts.Part.{Part}
 use Rattle.answers.specs.declared.parts.Part.the-variants.{Code, Authcode, Date, Message}
 use Rattle.answers.specs.Answer.{xmlLine, responseTag, codeTag, authcodeTag, dateTag, messageTag, opening, closing}
-use Rattle.answers.specs.AnswerRead.{starts, skipBlanks, Found, NoTag, Unclosed, Content, contentOf, elementAt, Reading, Unreadable, SoFar, emptyAnswer, withCode, withAuthcode, withDate, openStep, codeFrom, codeFound, codeStep, takesMore, authcodeFrom, authcodeFound, authcodeStep, dateFound, dateStep, messageFound, messageStep, isEmpty, unreadable, closeStep, answerRead}
-use Rattle.answers.specs.AnswerParts.{closedBy, between, mayStand, mayLack, good, numberHeld, dateHeld, messageHeld, filled, tagStep, readOn, partFound, partStep, namedStep, partsStep, endStep}
+use Rattle.answers.specs.AnswerRead.{starts, skipBlanks, Found, NoTag, Unclosed, Content, contentOf, elementAt, Reading, Unreadable, SoFar, emptyAnswer, withCode, withAuthcode, withDate, openStep, codeFrom, codeFound, codeStep, authcodeFrom, authcodeFound, authcodeStep, dateFound, dateStep, messageFound, messageStep, isEmpty, unreadable, closeStep, answerRead}
+use Rattle.answers.specs.AnswerParts.{closedBy, between, mayStand, mayLack, good, numberHeld, dateHeld, filled, tagStep, readOn, partFound, partStep, namedStep, partsStep, endStep}
 
 open-same : (s : List ℕ) → tagStep (opening responseTag) (tagStep xmlLine (SoFar emptyAnswer s)) ≡ openStep s
 unfolding openStep tagStep

@@ -1,10 +1,10 @@
 -- Laws of tags, blanks and elements in a text.
-use Prim.Native.Nat.{ℕ, suc, _+_, _-_, _^_, _≤_, _<_}
+use Prim.Native.Nat.{ℕ, _+_, _-_, _^_, _≤_, _<_}
 use native.Mathlib.Omega.{arith}
 use native.Mathlib.Nat.{le-refl, add-assoc}
-use mathlib.Core.Path.{_≡_, refl, sym, ap, _∙_}
-use mathlib.Core.List.{List, [], _∷_, _++_}
-use mathlib.Core.Bool.{Bool, true, false, cond}
+use mathlib.Core.Path.{_≡_, sym, ap, _∙_}
+use mathlib.Core.List.{List, []}
+use mathlib.Core.Bool.{Bool, true, false}
 use mir.Syntax.{w64}
 use mir.Val.{Fits}
 use lib.ListN.{length, getD, take, drop, length-take, length-drop, drop-of-length-le}
@@ -76,9 +76,9 @@ module _ (s : List ℕ) (at : ℕ) (opener closer : List ℕ) (t : Bool) (is : t
 
       pub found-broken : v ≡ false → Unclosed ≡ between opener closer (drop at s)
       unfolding closedBy
-      found-broken n = sym (left ∙ rw (place, drop-drop, ← ev, n))
+      found-broken n = sym (left ∙ rw (place, drop-drop z (at + length opener) s, ← ev, n))
 
       pub found-held : v ≡ true → (next : ℕ) → drop next s ≡ skipBlanks (drop (at + length opener + z + length closer) s)
           → Content (take z (drop (at + length opener) s)) (drop next s) ≡ between opener closer (drop at s)
       unfolding closedBy
-      found-held y next en = sym (left ∙ rw (place, drop-drop, ← ev, y) (rw (drop-drop, ← add-assoc, en)))
+      found-held y next en = sym (left ∙ rw (place, drop-drop z (at + length opener) s, ← ev, y) (rw (drop-drop, ← add-assoc, en)))

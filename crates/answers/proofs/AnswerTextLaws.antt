@@ -10,10 +10,10 @@ use lib.ListN.{length, take, drop, length-append, length-take, length-drop}
 use lib.Seq.{take-all, take-at, length-take-le, take-append-seam, take-append-add}
 use borrow.Author.Tests.{eq-eqb, ne-eqb}
 use Rattle.fields.specs.Lists.{over, written, cursorAfter}
-use Rattle.fields.specs.Digits.{fixed, leadZeros, decimal}
+use Rattle.fields.specs.Digits.{decimal}
 use Rattle.fields.proofs.OutLaws.{cursor-moves, written-over}
 use Rattle.fields.proofs.DecimalLaws.{fixed-length}
-use Rattle.fields.proofs.Tests.{cond-elim, cond-le}
+use Rattle.fields.proofs.Tests.{cond-elim}
 use Rattle.answers.specs.declared.answer.Answer.{Answer}
 use Rattle.answers.specs.Answer.{xmlLine, responseTag, codeTag, authcodeTag, dateTag, messageTag, opening, closing, element, elementIf, hasMessage, messageOf, answerBytes}
 use Rattle.answers.specs.AnswerText.{Grown, enclosed, codeText, startText, dateText, messageText, endText}
@@ -81,12 +81,14 @@ decimal-size : (n : ℕ) → length (decimal n) ≤ 20
 unfolding decimal
 decimal-size n = rw (length-drop, fixed-length 20 n) (omega arith)
 
+-- a property of the messages is one of each code's
+pub message-elim : (P : List ℕ → Type 0) → P (messageOf 30) → P (messageOf 31) → P (messageOf 32) → P [] → (code : ℕ) → P (messageOf code)
+unfolding messageOf
+message-elim P p q r s code = cond-elim P (eqb code 30) _ _ (λ e. p) (λ e. cond-elim P (eqb code 31) _ _ (λ f. q) (λ f. cond-elim P (eqb code 32) _ _ (λ g. r) (λ g. s)))
+
 pub message-size : (code : ℕ) → length (messageOf code) ≤ 11
 unfolding messageOf
-message-size code =
-    cond-elim (λ (m : List ℕ). length m ≤ 11) (eqb code 30) _ _ (λ e. omega arith)
-    (λ e. cond-elim (λ (m : List ℕ). length m ≤ 11) (eqb code 31) _ _ (λ f. omega arith)
-    (λ f. cond-elim (λ (m : List ℕ). length m ≤ 11) (eqb code 32) _ _ (λ g. omega arith) (λ g. omega arith)))
+message-size = message-elim (λ (m : List ℕ). length m ≤ 11) (omega arith) (omega arith) (omega arith) (omega arith)
 
 module _ (d : List ℕ) (at : ℕ) (used : Bool) (opener c closer : List ℕ) (r : ℕ) (e : List ℕ) (g : Grown d at (enclosed used opener c closer) r e) where
   pub grown-number : (z : List ℕ) (k n : ℕ) (a : List ℕ) → c ≡ take k a → k ≡ cursorAfter z 0 (decimal n) → a ≡ written z 0 (decimal n) → length z ≡ 20

@@ -1,7 +1,7 @@
 -- Document 01, "Gate": the bytes of an answer.
 use Prim.Native.Nat.{ℕ}
 use mathlib.Core.List.{List, [], _∷_, _++_}
-use mathlib.Core.Bool.{Bool, true, false, cond}
+use mathlib.Core.Bool.{Bool, true, cond}
 use lib.Dec.{eqb}
 use Rattle.fields.specs.Digits.{decimal}
 use Rattle.answers.specs.declared.answer.Answer.{Answer}

@@ -1,6 +1,6 @@
 -- How the code reads the four elements of a response: by one rule over the element. `proofs/AnswerSteps` shows it to be that of AnswerRead.
 use Prim.Native.Nat.{ℕ, _+_}
-use mathlib.Core.List.{List, [], _∷_}
+use mathlib.Core.List.{List}
 use mathlib.Core.Bool.{Bool, true, false, cond}
 use lib.ListN.{length, take, drop}
 use lib.Dec.{leb}

@@ -1,6 +1,6 @@
 -- Document 01, "Gate": what the agent's reader takes as an answer to an action, by the templates of source 001, 3.2.1.
 use Prim.Native.Nat.{ℕ, _+_}
-use mathlib.Core.List.{List, [], _∷_, _++_}
+use mathlib.Core.List.{List, [], _∷_}
 use mathlib.Core.Bool.{Bool, true, false, cond, not, _&&_, _||_}
 use lib.ListN.{length, take, drop}
 use lib.Dec.{leb, eqb}

@@ -8,7 +8,6 @@ use fields::digits;
 use fields::digits::Digits;
 use message::action::Action;
 ghost use mathlib.Core.Path.{_≡_};
-ghost use lib.ListN.{length};
 ghost use Rattle.answers.specs.AnswerRead.{takesMore, mayLackDate, withCode, withAuthcode};
 ghost use Rattle.answers.specs.AnswerParts.{mayStand, mayLack, numberHeld, dateHeld, messageHeld, filled};
 

@@ -39,7 +39,7 @@ pub struct RequestRead {
 }
 
 // A request that is refused.
-pub fn refuse(fault: u64, a: Action) -> RequestRead
+pub(crate) fn refuse(fault: u64, a: Action) -> RequestRead
     ensures { λ r. ⌜ r ≡ refused fault a ⌝ }
 {
     RequestRead {
@@ -60,7 +60,7 @@ pub fn refuse(fault: u64, a: Action) -> RequestRead
 }
 
 // The action of a request.
-pub fn action_field(s: &[u8], t: Slots) -> ActionRead
+pub(crate) fn action_field(s: &[u8], t: Slots) -> ActionRead
     ensures { λ r. ⌜ r ≡ held Unknown actionOf (getD (slotsIn (now (s .entry)) t) 0 Absent) ⌝ }
 {
     let x = slots::text_of(s, t, 0);
@@ -73,7 +73,7 @@ pub fn action_field(s: &[u8], t: Slots) -> ActionRead
 }
 
 // The receipt, 0 where the action lacks it.
-pub fn receipt_field(a: Action, s: &[u8], t: Slots) -> Digits
+pub(crate) fn receipt_field(a: Action, s: &[u8], t: Slots) -> Digits
     ensures { λ r. ⌜ r ≡ receiptField a (slotsIn (now (s .entry)) t) ⌝ }
 {
     if !action::has_receipt(a) {
@@ -89,7 +89,7 @@ pub fn receipt_field(a: Action, s: &[u8], t: Slots) -> Digits
 }
 
 // The number, no bytes where the action lacks it.
-pub fn number_field(a: Action, s: &[u8], t: Slots) -> NumberRead
+pub(crate) fn number_field(a: Action, s: &[u8], t: Slots) -> NumberRead
     ensures { λ r. ⌜ r ≡ numberField a (slotsIn (now (s .entry)) t) ⌝ }
 {
     if !action::has_account(a) {
@@ -111,7 +111,7 @@ pub fn number_field(a: Action, s: &[u8], t: Slots) -> NumberRead
 }
 
 // The type, 1 where it is absent, 0 where the action lacks it.
-pub fn kind_field(a: Action, s: &[u8], t: Slots) -> Digits
+pub(crate) fn kind_field(a: Action, s: &[u8], t: Slots) -> Digits
     ensures { λ r. ⌜ r ≡ kindField a (slotsIn (now (s .entry)) t) ⌝ }
 {
     if !action::has_account(a) {
@@ -127,7 +127,7 @@ pub fn kind_field(a: Action, s: &[u8], t: Slots) -> Digits
 }
 
 // The kopecks, 0 where the action lacks them.
-pub fn amount_field(a: Action, s: &[u8], t: Slots) -> Digits
+pub(crate) fn amount_field(a: Action, s: &[u8], t: Slots) -> Digits
     ensures { λ r. ⌜ r ≡ amountField a (slotsIn (now (s .entry)) t) ⌝ }
 {
     if !action::has_account(a) {
@@ -143,7 +143,7 @@ pub fn amount_field(a: Action, s: &[u8], t: Slots) -> Digits
 }
 
 // The date, zeros where the action lacks it.
-pub fn date_field(a: Action, s: &[u8], t: Slots) -> DateRead
+pub(crate) fn date_field(a: Action, s: &[u8], t: Slots) -> DateRead
     ensures { λ r. ⌜ r ≡ dateField a (slotsIn (now (s .entry)) t) ⌝ }
 {
     if !action::has_date(a) {
@@ -162,7 +162,7 @@ pub fn date_field(a: Action, s: &[u8], t: Slots) -> DateRead
 }
 
 // The reason, 0 where the action lacks it.
-pub fn reason_field(a: Action, s: &[u8], t: Slots) -> Digits
+pub(crate) fn reason_field(a: Action, s: &[u8], t: Slots) -> Digits
     ensures { λ r. ⌜ r ≡ reasonField a (slotsIn (now (s .entry)) t) ⌝ }
 {
     if !action::has_reason(a) {
@@ -178,7 +178,7 @@ pub fn reason_field(a: Action, s: &[u8], t: Slots) -> Digits
 }
 
 // What an action asks once receipt, number and type are read, or the first fault of amount, date and reason.
-pub fn read_later(
+pub(crate) fn read_later(
     a: Action,
     s: &[u8],
     t: Slots,
@@ -214,7 +214,7 @@ pub fn read_later(
 }
 
 // What an action asks, or the first fault of its fields.
-pub fn read_fields(a: Action, s: &[u8], t: Slots) -> RequestRead
+pub(crate) fn read_fields(a: Action, s: &[u8], t: Slots) -> RequestRead
     ensures { λ r. ⌜ r ≡ fieldsRead a (slotsIn (now (s .entry)) t) ⌝ }
 {
     let Digits::Value(receipt) = receipt_field(a, s, t) else {

@@ -27,7 +27,7 @@ pub struct Text {
 }
 
 // What a text that meets row 31 gathers.
-pub fn broken() -> Scan
+pub(crate) fn broken() -> Scan
     ensures { λ r. ⌜ r ≡ brokenScan ⌝ }
 {
     Scan {
@@ -40,7 +40,7 @@ pub fn broken() -> Scan
 }
 
 // The part of a text from one place up to another.
-pub fn part(s: &[u8], from: usize, to: usize) -> &[u8]
+pub(crate) fn part(s: &[u8], from: usize, to: usize) -> &[u8]
     ensures { λ r. ⌜ now r ≡ take (to - from) (drop from (now (s .entry))) ⌝ }
 {
     if s.len() <= from {
@@ -53,7 +53,7 @@ pub fn part(s: &[u8], from: usize, to: usize) -> &[u8]
 }
 
 // Stores where the value of the name with place k stands; a name that has one already breaks the text, an unknown one is ignored.
-pub fn place(t: Slots, k: usize, from: usize, to: usize) -> Scan
+pub(crate) fn place(t: Slots, k: usize, from: usize, to: usize) -> Scan
     ensures { λ r. ⌜ r ≡ placed t k from to ⌝ }
 {
     if 7 <= k {
@@ -92,7 +92,7 @@ pub(crate) fn add_piece(s: &[u8], at: usize, end: usize, t: Slots) -> Scan
 }
 
 // Gathers every piece between ampersands.
-pub fn gather(s: &[u8]) -> Scan
+pub(crate) fn gather(s: &[u8]) -> Scan
     ensures { λ r. ⌜ scanned (now (s .entry)) r ≡ gathered (now (s .entry)) ⌝ }
 {
     let mut t = Slots {

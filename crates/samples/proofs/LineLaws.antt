@@ -32,6 +32,6 @@ module _ (s : List ℕ) (at e : ℕ) (h : at < length s) (ee : e ≡ find 10 (ta
   pub next-inside : at + e + 1 ≤ length s + 1
   next-inside = omega (arith, inside)
 
--- ---- a part of a buffer of 64 bytes
-pub part-size : (d : List ℕ) (n : ℕ) → length d ≡ 64 → n ≤ 64 → n ≡ length (take n d)
-part-size d n l h = let k : n ≤ length d = omega arith in sym (length-take-le n d k)
+-- ---- a part of a buffer of k bytes
+pub part-size : (d : List ℕ) (n k : ℕ) → length d ≡ k → n ≤ k → n ≡ length (take n d)
+part-size d n k l h = let k : n ≤ length d = omega arith in sym (length-take-le n d k)

@@ -1,8 +1,14 @@
 // Runs the vectors of standard input: prints each line, `: ` and what the crates answer.
+mod answer_vectors;
+mod asked_vectors;
+mod coding_vectors;
 mod day_vectors;
 mod digit_vectors;
 mod escape;
+mod given;
 mod number_vectors;
+mod registry_vectors;
+mod request_vectors;
 mod show;
 mod split;
 mod words;

@@ -1,6 +1,8 @@
 // Answers, printed.
 use fields::calendar::Day;
 use fields::digits::Digits;
+use fields::number::Number;
+use fields::scan;
 
 pub fn text(s: &[u8]) {
     io::write_all(1, s);
@@ -30,4 +32,37 @@ pub fn day(d: Day) {
     number(d.month as u64);
     text(b" ");
     number(d.day as u64);
+}
+
+// A name and a number.
+pub fn named(name: &[u8], n: u64) {
+    text(name);
+    number(n);
+}
+
+// The bytes of an account's number.
+pub fn account(x: Number) {
+    let n = x.len;
+    let bytes = x.bytes;
+    text(scan::first_bytes(&bytes, n));
+}
+
+// A byte, or \x and its digits where it does not print.
+fn byte(b: u8) {
+    match b {
+        32..=126 => text(&[b]),
+        _ => {
+            text(b"\\x");
+            io::print_hex(1, b as u64, 2);
+        }
+    }
+}
+
+// Bytes of any value.
+pub fn bytes(s: &[u8]) {
+    let mut i: usize = 0;
+    while i < s.len() {
+        byte(s[i]);
+        i += 1;
+    }
 }

@@ -1,7 +1,12 @@
 // The words of the vectors: the one place that says what each runs.
+use crate::answer_vectors;
+use crate::asked_vectors;
+use crate::coding_vectors;
 use crate::day_vectors;
 use crate::digit_vectors;
 use crate::number_vectors;
+use crate::registry_vectors;
+use crate::request_vectors;
 use crate::show;
 use crate::write_vectors;
 use fields::scan;
@@ -18,6 +23,18 @@ pub fn answer(word: &[u8], text: &[u8]) {
         return;
     }
     if write_words(word, text) {
+        return;
+    }
+    if coding_words(word, text) {
+        return;
+    }
+    if request_words(word, text) {
+        return;
+    }
+    if answer_words(word, text) {
+        return;
+    }
+    if registry_words(word, text) {
         return;
     }
     show::text(b"unknown word");
@@ -94,6 +111,78 @@ fn write_words(word: &[u8], text: &[u8]) -> bool {
     }
     if scan::same_bytes(word, b"put") {
         write_vectors::put(text);
+        return true;
+    }
+    false
+}
+
+// Url coding, and parameters.
+fn coding_words(word: &[u8], text: &[u8]) -> bool {
+    if scan::same_bytes(word, b"parameters") {
+        coding_vectors::parameters(text);
+        return true;
+    }
+    if scan::same_bytes(word, b"coded") {
+        coding_vectors::coded(text);
+        return true;
+    }
+    if scan::same_bytes(word, b"decoded") {
+        coding_vectors::decoded(text);
+        return true;
+    }
+    false
+}
+
+// Requests, read and written.
+fn request_words(word: &[u8], text: &[u8]) -> bool {
+    if scan::same_bytes(word, b"request") {
+        request_vectors::request(text);
+        return true;
+    }
+    if scan::same_bytes(word, b"long-request") {
+        request_vectors::long_request(text);
+        return true;
+    }
+    if scan::same_bytes(word, b"write-request") {
+        asked_vectors::write_request(text);
+        return true;
+    }
+    if scan::same_bytes(word, b"write-request-at") {
+        asked_vectors::write_request_at(text);
+        return true;
+    }
+    false
+}
+
+// Answers.
+fn answer_words(word: &[u8], text: &[u8]) -> bool {
+    if scan::same_bytes(word, b"answer") {
+        answer_vectors::answer(text);
+        return true;
+    }
+    if scan::same_bytes(word, b"long-answer") {
+        answer_vectors::long_answer(text);
+        return true;
+    }
+    if scan::same_bytes(word, b"write-answer") {
+        answer_vectors::write_answer(text);
+        return true;
+    }
+    false
+}
+
+// Registries and reports.
+fn registry_words(word: &[u8], text: &[u8]) -> bool {
+    if scan::same_bytes(word, b"registry") {
+        registry_vectors::check(text);
+        return true;
+    }
+    if scan::same_bytes(word, b"many-lines") {
+        registry_vectors::many_lines(text);
+        return true;
+    }
+    if scan::same_bytes(word, b"report") {
+        registry_vectors::is_report(text);
         return true;
     }
     false

@@ -1,0 +1,153 @@
+-- Laws of the changes that a decision may make.
+use Prim.Native.Nat.{ℕ, _+_, _≤_, _<_}
+use native.Mathlib.Omega.{arith}
+use mathlib.Core.Path.{_≡_, refl, sym, ap, _∙_}
+use mathlib.Core.Bool.{Bool, true, false, cond, not, _&&_}
+use mathlib.Core.List.{List, [], _∷_, _++_}
+use lib.Dec.{eqb, leb}
+use lib.IntN.{ℤ, pos}
+use lib.Signed.{mag}
+use lib.ListN.{length, getD, set}
+use borrow.Author.Tests.{leb-false}
+use Rattle.fields.specs.Date.{emptyDate}
+use Rattle.message.specs.declared.action.Action.{Action}
+use Rattle.message.specs.declared.action.Action.the-variants.{Check, Payment, Status, Cancel}
+use Rattle.message.specs.declared.request.Asked.{Asked}
+use Rattle.table.specs.declared.Record.{Record}
+use Rattle.table.specs.declared.Gate.{Gate}
+use Rattle.table.specs.declared.Found.{Found}
+use Rattle.table.specs.declared.Found.the-variants.{At, Nothing}
+use Rattle.table.specs.Table.{Rows, recordsOf, findRecord, rowsFrom, rowsWith, Whole, SameLengths}
+use Rattle.table.specs.Accounts.{balanceAt, credited, debited, withUsed}
+use Rattle.table.specs.Valid.{Sound, Ready, tableGood}
+use Rattle.table.proofs.TableLaws.{rows-set, rows-more, rows-kept}
+use Rattle.gate.specs.declared.decision.Standing.{Standing}
+use Rattle.gate.specs.declared.decision.Standing.the-variants.{Unrecorded, Done, Cancelled}
+use Rattle.gate.specs.declared.decision.View.{View}
+use Rattle.gate.specs.declared.decision.Change.{Change}
+use Rattle.gate.specs.declared.decision.Change.the-variants.{Keep, Append, Revoke}
+use Rattle.gate.specs.declared.decision.Decided.{Decided}
+use Rattle.gate.specs.declared.plan.Plan.{Plan}
+use Rattle.gate.specs.Decision.{keeps, paymentNew, cancelDone, decision}
+use Rattle.gate.specs.Deliver.{Within, recordFound, standingOf, accountOf, isFull, viewOf, planWith, planOf, makeRecord, revoked, creditedAt, debitedAt, replacedAt, Changed, changed, Made}
+use Rattle.gate.proofs.PlanLaws.{found-within, found-amount, account-within}
+
+-- ---- balances of the account that was found
+module _ (g : Gate) (f : Found) (a : ℕ) (is : f ≡ At a) where
+  pub at-place : Sound g → Within f (g .count) → a < 256
+  at-place s w = let h : a < g .count = w .at a is in omega (arith, s .count)
+
+  pub at-balance : Sound g → Within f (g .count) → mag (balanceAt g a) ≤ 10000000000000
+  at-balance s w = s .balances a (w .at a is)
+
+  pub credit-there : (n : ℕ) (r : Gate) → r ≡ credited g a n → r ≡ creditedAt g f n
+  credit-there n r e = e ∙ rw is
+
+  pub debit-there : (n : ℕ) (r : Gate) → r ≡ debited g a n → r ≡ debitedAt g f n
+  debit-there n r e = e ∙ rw is
+
+-- ---- the place that was found
+module _ (t : Rows) (used : ℕ) (whole : Whole t used) (f : Found) (within : Within f used) (r : Record) where
+  pub replaced : (i : ℕ) → f ≡ At i → (t′ : Rows) → t′ ≡ rowsWith t i r → t′ ≡ rowsFrom t (replacedAt (recordsOf t used) f r)
+  replaced i e t′ q = q ∙ rw e (sym (rows-set t used whole i r (within .at i e)))
+
+  pub nothing-replaced : f ≡ Nothing → (t′ : Rows) → t′ ≡ t → t′ ≡ rowsFrom t (replacedAt (recordsOf t used) f r)
+  nothing-replaced e t′ q = q ∙ rw e (sym (rows-kept t used whole))
+
+-- ---- a record more
+module _ (g : Gate) (t : Rows) (ready : Ready g t) (room : g .used < length (t .nums)) where
+  pub appended : (r r′ : Record) → r ≡ r′ → (t′ : Rows) → t′ ≡ rowsWith t (g .used) r → t′ ≡ rowsFrom t (recordsOf t (g .used) ++ (r′ ∷ []))
+  appended r r′ e t′ q =
+      let a : g .used < length (t .numbers) = omega (arith, ready .same .numbers) in
+      let b : g .used < length (t .dates) = omega (arith, ready .same .dates) in
+      q ∙ rw e (sym (rows-more t (g .used) (ready .whole) r′ room a b))
+
+-- the other rows have the room that the first has
+pub room-too : (n m used : ℕ) → m ≡ n → used < n → used < m
+room-too n m used e h = omega arith
+
+pub place-small : (n used : ℕ) → used < n → n ≤ 4096 → used < 4096
+place-small n used h l = omega arith
+
+-- the record that was found cancelled
+pub revoked-rows : (t : Rows) (used : ℕ) (f : Found) (r r′ : Record) → r ≡ r′ → (t′ : Rows) → t′ ≡ rowsFrom t (replacedAt (recordsOf t used) f r)
+    → t′ ≡ rowsFrom t (replacedAt (recordsOf t used) f r′)
+revoked-rows t used f r r′ e t′ q = q ∙ rw e
+
+pub used-more : (x y : Gate) (n : ℕ) → x ≡ y → record { accounts = x .accounts; count = x .count; closed = x .closed; used = n } ≡ withUsed y n
+used-more x y n e = ap (λ (z : Gate). withUsed z n) e
+
+-- ---- which decisions change what
+append-room : (v : View) (d : Decided) → d ≡ paymentNew v → d .change ≡ Append → v .full ≡ false
+unfolding paymentNew
+append-room v d e h = go (v .closed) (v .known) (v .full) (sym (ap (λ (x : Decided). x .change) e) ∙ h)
+  where
+    go : (c k f : Bool) → (cond c (keeps 5) (cond k (cond f (keeps 30) (record { code = 0; change = Append })) (keeps 2))) .change ≡ Append → f ≡ false
+    go true k f h = let z : _≡_ {A = ℕ} 0 1 = cc in absurd (omega arith)
+    go false true true h = let z : _≡_ {A = ℕ} 0 1 = cc in absurd (omega arith)
+    go false true false h = refl
+    go false false f h = let z : _≡_ {A = ℕ} 0 1 = cc in absurd (omega arith)
+
+cancel-never-appends : (v : View) → (cancelDone v) .change ≡ Append → ⊥
+unfolding cancelDone
+cancel-never-appends v h = go (v .closed) (v .short) h
+  where
+    go : (c s : Bool) → (cond c (keeps 9) (cond s (keeps 9) (record { code = 0; change = Revoke }))) .change ≡ Append → ⊥
+    go true s h = let z : _≡_ {A = ℕ} 0 1 = cc in omega arith
+    go false true h = let z : _≡_ {A = ℕ} 0 1 = cc in omega arith
+    go false false h = let z : _≡_ {A = ℕ} 0 1 = cc in omega arith
+
+-- only a payment that finds room is recorded
+decided-room : (a : Action) (s : Standing) (v : View) → (decision a s v) .change ≡ Append → v .full ≡ false
+unfolding decision
+decided-room Check s v h = let z : _≡_ {A = ℕ} 0 1 = cc in absurd (omega arith)
+decided-room Payment Unrecorded v h = append-room v (paymentNew v) refl h
+decided-room Payment Done v h = let z : _≡_ {A = ℕ} 0 1 = cc in absurd (omega arith)
+decided-room Payment Cancelled v h = let z : _≡_ {A = ℕ} 0 1 = cc in absurd (omega arith)
+decided-room Status Unrecorded v h = let z : _≡_ {A = ℕ} 0 1 = cc in absurd (omega arith)
+decided-room Status Done v h = let z : _≡_ {A = ℕ} 0 1 = cc in absurd (omega arith)
+decided-room Status Cancelled v h = let z : _≡_ {A = ℕ} 0 1 = cc in absurd (omega arith)
+decided-room Cancel Unrecorded v h = let z : _≡_ {A = ℕ} 0 1 = cc in absurd (omega arith)
+decided-room Cancel Done v h = absurd (cancel-never-appends v h)
+decided-room Cancel Cancelled v h = let z : _≡_ {A = ℕ} 0 1 = cc in absurd (omega arith)
+
+-- ---- what a plan gives the change
+module _ (g : Gate) (t : Rows) (q : Asked) (p : Plan) (is : p ≡ planOf g (recordsOf t (g .used)) (length (t .nums)) q) where
+  pub plan-room : p .decided .change ≡ Append → g .used < length (t .nums)
+  unfolding planOf planWith viewOf isFull
+  plan-room h =
+      let r : Record = recordFound (recordsOf t (g .used)) (findRecord (q .receipt) (recordsOf t (g .used))) in
+      let f : Found = findRecord (q .receipt) (recordsOf t (g .used)) in
+      let z : leb (length (t .nums)) (g .used) ≡ false =
+      decided-room (q .action) (standingOf f r) (viewOf g (length (t .nums)) q r (accountOf g q r)) (sym (ap (λ (x : Plan). x .decided .change) is) ∙ h) in
+      leb-false (length (t .nums)) (g .used) z
+
+  pub plan-found : tableGood g t ≡ true → Within (p .found) (g .used)
+  unfolding planOf planWith
+  plan-found good = found-within g t good (q .receipt) (p .found) (ap (λ (x : Plan). x .found) is)
+
+  pub plan-amount : tableGood g t ≡ true → p .payment .amount < 1000000000
+  unfolding planOf planWith
+  plan-amount good =
+      found-amount g t good (q .receipt) (findRecord (q .receipt) (recordsOf t (g .used))) refl (p .payment) (ap (λ (x : Plan). x .payment) is)
+
+  pub plan-account : Sound g → Within (p .account) (g .count)
+  unfolding planOf planWith
+  plan-account s =
+      account-within g q (recordFound (recordsOf t (g .used)) (findRecord (q .receipt) (recordsOf t (g .used)))) (p .account) s (ap (λ (x : Plan). x .account) is)
+
+-- ---- the three changes, as the definition has them
+module _ (g : Gate) (t : Rows) (clock : List ℕ) (q : Asked) (p : Plan) (c : Change) (gate : Gate) (subject : Record) (rows : Rows) where
+  pub kept : Whole t (g .used) → c ≡ Keep → gate ≡ g → subject ≡ p .payment → rows ≡ t → Made t (changed c g (recordsOf t (g .used)) clock q p) gate subject rows
+  unfolding changed
+  kept w e eg es er = rw e (record { gates = eg; subjects = es; left = er ∙ sym (rows-kept t (g .used) w) })
+
+  pub recorded : c ≡ Append → gate ≡ withUsed (creditedAt g (p .account) (q .amount)) (g .used + 1) → subject ≡ makeRecord g clock q
+      → rows ≡ rowsFrom t (recordsOf t (g .used) ++ (makeRecord g clock q ∷ [])) → Made t (changed c g (recordsOf t (g .used)) clock q p) gate subject rows
+  unfolding changed
+  recorded e eg es er = rw e (record { gates = eg; subjects = es; left = er })
+
+  pub cancelled : c ≡ Revoke → gate ≡ debitedAt g (p .account) (p .payment .amount) → subject ≡ revoked clock (p .payment)
+      → rows ≡ rowsFrom t (replacedAt (recordsOf t (g .used)) (p .found) (revoked clock (p .payment))) → Made t (changed c g (recordsOf t (g .used)) clock q p) gate subject rows
+  unfolding changed
+  cancelled e eg es er = rw e (record { gates = eg; subjects = es; left = er })

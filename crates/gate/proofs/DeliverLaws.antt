@@ -1,0 +1,114 @@
+-- Laws of a request delivered to the gate.
+use Prim.Native.Nat.{ℕ, _≤_, _<_}
+use native.Mathlib.Omega.{arith}
+use mathlib.Core.Path.{_≡_, refl, sym, ap, _∙_}
+use mathlib.Core.Bool.{Bool, true, false, cond, not}
+use mathlib.Core.List.{List}
+use lib.Dec.{eqb, leb}
+use lib.ListN.{length, getD}
+use borrow.Author.Tests.{not-true, not-false, le-leb, lt-leb, eq-eqb, ne-eqb}
+use Rattle.fields.specs.Lists.{written}
+use Rattle.fields.specs.Date.{isWritten}
+use Rattle.message.specs.declared.action.Action.{Action}
+use Rattle.message.specs.declared.request.Asked.{Asked}
+use Rattle.message.specs.declared.request.RequestRead.{RequestRead}
+use Rattle.fields.specs.declared.digits.Digits.{Digits}
+use Rattle.fields.specs.declared.digits.Digits.the-variants.{Value, Malformed}
+use Rattle.fields.specs.Amount.{amountRead}
+use Rattle.fields.proofs.Tests.{cond-elim}
+use Rattle.fields.proofs.DigitLaws.{within-high}
+use Rattle.fields.proofs.AmountLaws.{amount-within}
+use Rattle.coding.specs.Url.{decoded}
+use Rattle.message.specs.declared.action.Action.the-variants.{Check}
+use Rattle.message.specs.declared.action.ActionRead.{ActionRead}
+use Rattle.message.specs.declared.action.ActionRead.the-variants.{Known, Unknown}
+use Rattle.message.specs.Names.{actionOf, hasAccount}
+use Rattle.message.specs.Slots.{Slot, Absent, Holds, Gathered, Broken, Values, gathered}
+use Rattle.message.specs.Request.{held, fieldOf, valueIn, refused, fieldFault, askedOf, fieldsRead, actionRead, valuesRead, requestRead}
+use Rattle.answers.specs.declared.answer.Answer.{Answer}
+use Rattle.answers.specs.Answer.{answerBytes}
+use Rattle.table.specs.declared.Record.{Record}
+use Rattle.table.specs.declared.Gate.{Gate}
+use Rattle.table.specs.Table.{Rows, recordsOf, rowsFrom}
+use Rattle.table.specs.Valid.{tableGood}
+use Rattle.gate.specs.declared.plan.Plan.{Plan}
+use Rattle.gate.specs.Deliver.{noRecord, planOf, changed, Made, answerOf, Delivered, answered, respond, deliverRead, deliver}
+
+pub asked-answered : (g : Gate) (t : Rows) (clock : List ℕ) (q : Asked) (out : List ℕ) (p : Plan) (gate : Gate) (subject : Record) (rows : Rows) (x : Answer) (left : List ℕ)
+    → p ≡ planOf g (recordsOf t (g .used)) (length (t .nums)) q
+    → Made t (changed (p .decided .change) g (recordsOf t (g .used)) clock q p) gate subject rows
+    → x ≡ answerOf (q .action) (p .decided .code) subject clock → left ≡ written out 0 (answerBytes x)
+    → _≡_ {A = Delivered} (record { code = p .decided .code; gate = gate; rows = rows; out = left }) (respond g t clock q out)
+unfolding respond
+asked-answered g t clock q out p gate subject rows x left ep made ex el = rw (← ep, el, ex, made .subjects, made .gates, made .left)
+
+pub fault-answered : (a : Action) (fault : ℕ) (clock out left : List ℕ) (r : Record) (x : Answer) → r ≡ noRecord → x ≡ answerOf a fault r clock → left ≡ written out 0 (answerBytes x)
+    → left ≡ written out 0 (answerBytes (answerOf a fault noRecord clock))
+fault-answered a fault clock out left r x er ex el = el ∙ rw (ex, er)
+
+-- ---- the ways out of a delivery
+module _ (g : Gate) (t : Rows) (clock params out : List ℕ) where
+  module _ (rows : Rows) (left : List ℕ) (er : rows ≡ t) (el : left ≡ out) (b : Bool) (eb : b ≡ tableGood g t) where
+    pub not-table : not b ≡ true → _≡_ {A = Delivered} (record { code = 68; gate = g; rows = rows; out = left }) (deliver g t clock params out)
+    unfolding deliver
+    not-table h = rw (← eb, not-true b h, er, el)
+
+    module _ (h : not b ≡ false) where
+      pub no-room : length out < 512 → _≡_ {A = Delivered} (record { code = 50; gate = g; rows = rows; out = left }) (deliver g t clock params out)
+      unfolding deliver
+      no-room l = rw (← eb, not-false b h, lt-leb _ _ l, er, el)
+
+      pub no-clock : 512 ≤ length out → (w : Bool) → w ≡ isWritten clock → not w ≡ true → _≡_ {A = Delivered} (record { code = 51; gate = g; rows = rows; out = left }) (deliver g t clock params out)
+      unfolding deliver
+      no-clock l w ew n = rw (← eb, not-false b h, le-leb _ _ l, ← ew, not-true w n, er, el)
+
+  module _ (b : Bool) (eb : b ≡ tableGood g t) (h : not b ≡ false) (l : 512 ≤ length out) (w : Bool) (ew : w ≡ isWritten clock) (n : not w ≡ false) (q : RequestRead) (eq : q ≡ requestRead params) where
+    pub read-refused : (q .fault ≡ 0 → ⊥) → (rows : Rows) → rows ≡ t → (left : List ℕ) → left ≡ written out 0 (answerBytes (answerOf (q .asked .action) (q .fault) noRecord clock))
+        → _≡_ {A = Delivered} (record { code = q .fault; gate = g; rows = rows; out = left }) (deliver g t clock params out)
+    unfolding deliver deliverRead
+    read-refused f rows er left el = rw (← eb, not-false b h, le-leb _ _ l, ← ew, not-false w n, ← eq, ne-eqb _ _ f, er, el)
+
+    pub read-answered : q .fault ≡ 0 → (d : Delivered) → d ≡ respond g t clock (q .asked) out → d ≡ deliver g t clock params out
+    unfolding deliver deliverRead
+    read-answered f d e = e ∙ rw (← eb, not-false b h, le-leb _ _ l, ← ew, not-false w n, ← eq, eq-eqb _ _ f)
+
+  pub table-is : (b : Bool) → b ≡ tableGood g t → not b ≡ false → tableGood g t ≡ true
+  table-is b e h = sym e ∙ not-false b h
+
+-- ---- an amount that was read is in its range
+held-amount : (used : Bool) (k : Slot) → valueIn (fieldOf used (Value 0) Malformed amountRead k) < 1000000000
+unfolding fieldOf held
+held-amount false k = omega arith
+held-amount true Absent = omega arith
+held-amount true (Holds v) = go (amountRead (decoded v)) refl
+  where
+    go : (d : Digits) → amountRead (decoded v) ≡ d → valueIn d < 1000000000
+    go Malformed e = omega arith
+    go (Value x) e = omega (arith, within-high 1 999999999 x (amount-within (decoded v) x (sym e)))
+
+refused-amount : (f : ℕ) (a : Action) → (refused f a) .asked .amount < 1000000000
+unfolding refused
+refused-amount f a = omega arith
+
+fields-amount : (a : Action) (s : List Slot) → (fieldsRead a s) .asked .amount < 1000000000
+unfolding fieldsRead askedOf
+fields-amount a s =
+    cond-elim (λ (r : RequestRead). r .asked .amount < 1000000000) (eqb (fieldFault a s) 0) (record { fault = 0; asked = askedOf a s }) (refused (fieldFault a s) a)
+    (λ _. held-amount (hasAccount a) (getD s 3 Absent))
+    (λ _. refused-amount (fieldFault a s) a)
+
+values-amount : (x : Gathered) → (valuesRead x) .asked .amount < 1000000000
+values-amount Broken = refused-amount 31 Check
+values-amount (Values s) = go (held Unknown actionOf (getD s 0 Absent))
+  where
+    go : (a : ActionRead) → (actionRead a s) .asked .amount < 1000000000
+    go Unknown = refused-amount 1 Check
+    go (Known a) = fields-amount a s
+
+pub asked-amount : (s : List ℕ) (q : RequestRead) → q ≡ requestRead s → q .asked .amount < 1000000000
+unfolding requestRead
+asked-amount s q e =
+    rw e
+    (cond-elim (λ (r : RequestRead). r .asked .amount < 1000000000) (leb (length s) 2048) (valuesRead (gathered s)) (refused 31 Check)
+    (λ _. values-amount (gathered s))
+    (λ _. refused-amount 31 Check))

@@ -1,0 +1,6 @@
+pub mod CaseLaws
+pub mod ReplyLaws
+pub mod PlanLaws
+pub mod ChangeLaws
+pub mod DeliverLaws
+pub mod OpeningLaws

@@ -1,0 +1,19 @@
+use borrow.Author.Needs.{needs}
+use Rattle.gate.proofs.ChangeLaws.{appended, room-too, place-small, used-more}
+use Rattle.gate.proofs.change.append.Statement.{statement}
+use Rattle.gate.proofs.change.append.Tie as tie
+
+ruleset laws = (appended, room-too, place-small, used-more, needs)
+
+pub append-spec : {M : Type 1} → statement M
+append-spec =
+    tie.close
+    (tie.spec
+    (λ c κs. search laws)
+    (λ c κs. search laws)
+    (λ c κs. search laws)
+    (λ c. search laws)
+    (λ c. search laws)
+    (λ c. search laws)
+    (λ c. search laws)
+    (λ c. search laws))

@@ -1,0 +1,18 @@
+use borrow.Author.Needs.{needs}
+use Rattle.gate.proofs.ChangeLaws.{revoked-rows}
+use Rattle.gate.proofs.change.revoke.Statement.{statement}
+use Rattle.gate.proofs.change.revoke.Tie as tie
+
+ruleset laws = (revoked-rows, needs)
+
+pub revoke-spec : {M : Type 1} → statement M
+revoke-spec =
+    tie.close
+    (tie.spec
+    (λ c κs. search laws)
+    (λ c κs. search laws)
+    (λ c κs. search laws)
+    (λ c. search laws)
+    (λ c. search laws)
+    (λ c. search laws)
+    (λ c. search laws))

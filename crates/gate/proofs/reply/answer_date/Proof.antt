@@ -1,0 +1,16 @@
+use borrow.Author.Needs.{needs}
+use Rattle.gate.proofs.ReplyLaws.{date-7, date-other, date-cancel, date-credit}
+use Rattle.gate.proofs.reply.answer_date.Statement.{statement}
+use Rattle.gate.proofs.reply.answer_date.Tie as tie
+
+ruleset laws = (date-7, date-other, date-cancel, date-credit, needs)
+
+pub answer-date-spec : {M : Type 1} → statement M
+answer-date-spec =
+    tie.close
+    (tie.spec
+    (λ c. search laws)
+    (λ c. search laws)
+    (λ c κs. search laws)
+    (λ c. search laws)
+    (λ c. search laws))

@@ -1,0 +1,17 @@
+use borrow.Author.Needs.{needs}
+use Rattle.gate.proofs.ReplyLaws.{answer-is}
+use Rattle.gate.proofs.reply.answer_of.Statement.{statement}
+use Rattle.gate.proofs.reply.answer_of.Tie as tie
+
+ruleset laws = (answer-is, needs)
+
+pub answer-of-spec : {M : Type 1} → statement M
+answer-of-spec =
+    tie.close
+    (tie.spec
+    (λ c κs. search laws)
+    (λ c κs. search laws)
+    (λ c κs. search laws)
+    (λ c κs. search laws)
+    (λ c κs. search laws)
+    (λ c. search laws))

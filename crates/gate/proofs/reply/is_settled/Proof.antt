@@ -1,0 +1,14 @@
+use borrow.Author.Needs.{needs}
+use Rattle.gate.proofs.ReplyLaws.{settled-0, settled-7, settled-not}
+use Rattle.gate.proofs.reply.is_settled.Statement.{statement}
+use Rattle.gate.proofs.reply.is_settled.Tie as tie
+
+ruleset laws = (settled-0, settled-7, settled-not, needs)
+
+pub is-settled-spec : {M : Type 1} → statement M
+is-settled-spec =
+    tie.close
+    (tie.spec
+    (λ c. search laws)
+    (λ c. search laws)
+    (λ c. search laws))

@@ -1,0 +1,259 @@
+-- Document 01, "Gate": a request delivered to the gate, and the answer that is written.
+use Prim.Native.Nat.{ℕ, _+_, _<_}
+use mathlib.Core.Path.{_≡_}
+use mathlib.Core.List.{List, [], _∷_, _++_}
+use mathlib.Core.Bool.{Bool, true, false, cond, not, _&&_, _||_}
+use lib.Dec.{eqb, leb, ltb}
+use lib.IntN.{ℤ, pos}
+use lib.Signed.{ltZ}
+use lib.ListN.{length, getD, set}
+use Rattle.fields.specs.declared.calendar.Day.{Day}
+use Rattle.fields.specs.declared.calendar.DayRead.{DayRead}
+use Rattle.fields.specs.declared.calendar.DayRead.the-variants.{Good, NoDate}
+use Rattle.fields.specs.declared.number.Number.{Number}
+use Rattle.fields.specs.Lists.{written}
+use Rattle.fields.specs.Calendar.{dayBefore}
+use Rattle.fields.specs.Date.{dateDay, isWritten, emptyDate}
+use Rattle.message.specs.declared.action.Action.{Action}
+use Rattle.message.specs.declared.action.Action.the-variants.{Check, Payment, Status, Cancel}
+use Rattle.message.specs.declared.request.Asked.{Asked}
+use Rattle.message.specs.declared.request.RequestRead.{RequestRead}
+use Rattle.answers.specs.declared.answer.Answer.{Answer}
+use Rattle.message.specs.Request.{requestRead, unusedNumber}
+use Rattle.answers.specs.Answer.{answerBytes}
+use Rattle.table.specs.declared.Record.{Record}
+use Rattle.table.specs.declared.Gate.{Gate}
+use Rattle.table.specs.declared.Found.{Found}
+use Rattle.table.specs.declared.Found.the-variants.{At, Nothing}
+use Rattle.table.specs.Lists.{isFound}
+use Rattle.table.specs.Table.{Rows, recordsOf, rowsFrom, findRecord}
+use Rattle.table.specs.Accounts.{accountsOf, findAccount, balanceAt, credited, debited, withUsed}
+use Rattle.table.specs.Valid.{tableGood}
+use Rattle.gate.specs.declared.decision.Standing.{Standing}
+use Rattle.gate.specs.declared.decision.Standing.the-variants.{Unrecorded, Done, Cancelled}
+use Rattle.gate.specs.declared.decision.View.{View}
+use Rattle.gate.specs.declared.decision.Change.{Change}
+use Rattle.gate.specs.declared.decision.Change.the-variants.{Keep, Append, Revoke}
+use Rattle.gate.specs.declared.decision.Decided.{Decided}
+use Rattle.gate.specs.declared.plan.Plan.{Plan}
+use Rattle.gate.specs.Decision.{decision}
+
+-- a place that was found, below a bound
+pub record Within (f : Found) (n : ℕ) : Type 0 where
+  pub at : (i : ℕ) → f ≡ At i → i < n
+
+-- ---- what the decision looks at
+abbrev pub noRecord : Record
+noRecord =
+    record {
+      receipt = 0;
+      number = unusedNumber;
+      kind = 0;
+      amount = 0;
+      date = emptyDate;
+      state = 0;
+      authcode = 0;
+      credit = emptyDate;
+      cancel = emptyDate;
+    }
+
+-- a receipt is known by the receipt alone
+abbrev pub recordFound : List Record → Found → Record
+recordFound rs (At i) = getD rs i noRecord
+recordFound rs Nothing = noRecord
+
+abbrev pub standingOf : Found → Record → Standing
+standingOf Nothing r = Unrecorded
+standingOf (At i) r = cond (eqb (r .state) 1) Done Cancelled
+
+-- whether a date is on or before the closed day
+abbrev pub dayClosed : Day → DayRead → Bool
+dayClosed closed NoDate = true
+dayClosed closed (Good d) = not (dayBefore closed d)
+
+unfoldable pub dateClosed : Gate → List ℕ → Bool
+dateClosed g date = dayClosed (g .closed) (dateDay date)
+
+-- a cancel concerns its record's account and date, every other action its own
+unfoldable pub isCancel : Action → Bool
+isCancel Check = false
+isCancel Payment = false
+isCancel Status = false
+isCancel Cancel = true
+
+unfoldable pub accountOf : Gate → Asked → Record → Found
+accountOf g q r =
+    cond (isCancel (q .action)) (findAccount (r .number) (r .kind) (accountsOf g)) (findAccount (q .number) (q .kind) (accountsOf g))
+
+unfoldable pub dateOf : Asked → Record → List ℕ
+dateOf q r = cond (isCancel (q .action)) (r .date) (q .date)
+
+abbrev pub isShort : Gate → Found → ℕ → Bool
+isShort g Nothing n = false
+isShort g (At a) n = ltZ (balanceAt g a) (pos n)
+
+unfoldable pub isFull : Gate → ℕ → Bool
+isFull g lent = leb lent (g .used)
+
+unfoldable pub viewOf : Gate → ℕ → Asked → Record → Found → View
+viewOf g lent q r account =
+    record { known = isFound account; full = isFull g lent; closed = dateClosed g (dateOf q r); short = isShort g account (r .amount) }
+
+-- the decision for a request, with the record and the account that it concerns
+unfoldable pub planWith : Gate → ℕ → Asked → Found → Record → Plan
+planWith g lent q found r =
+    record {
+      decided = decision (q .action) (standingOf found r) (viewOf g lent q r (accountOf g q r));
+      found = found;
+      payment = r;
+      account = accountOf g q r;
+    }
+
+unfoldable pub planOf : Gate → List Record → ℕ → Asked → Plan
+planOf g rs lent q = planWith g lent q (findRecord (q .receipt) rs) (recordFound rs (findRecord (q .receipt) rs))
+
+-- ---- the three changes
+-- the nth record has authcode n
+unfoldable pub nextAuthcode : Gate → ℕ
+nextAuthcode g = g .used + 1
+
+unfoldable pub makeRecord : Gate → List ℕ → Asked → Record
+makeRecord g clock q =
+    record {
+      receipt = q .receipt;
+      number = q .number;
+      kind = q .kind;
+      amount = q .amount;
+      date = q .date;
+      state = 1;
+      authcode = nextAuthcode g;
+      credit = clock;
+      cancel = emptyDate;
+    }
+
+unfoldable pub revoked : List ℕ → Record → Record
+revoked clock r =
+    record {
+      receipt = r .receipt;
+      number = r .number;
+      kind = r .kind;
+      amount = r .amount;
+      date = r .date;
+      state = 2;
+      authcode = r .authcode;
+      credit = r .credit;
+      cancel = clock;
+    }
+
+abbrev pub creditedAt : Gate → Found → ℕ → Gate
+creditedAt g Nothing n = g
+creditedAt g (At a) n = credited g a n
+
+abbrev pub debitedAt : Gate → Found → ℕ → Gate
+debitedAt g Nothing n = g
+debitedAt g (At a) n = debited g a n
+
+abbrev pub replacedAt : List Record → Found → Record → List Record
+replacedAt rs Nothing r = rs
+replacedAt rs (At i) r = set rs i r
+
+-- the gate and the records after a change, and the record that the answer speaks of
+pub record Changed : Type 0 where
+  pub gate : Gate
+  pub records : List Record
+  pub subject : Record
+
+unfoldable pub changed : Change → Gate → List Record → List ℕ → Asked → Plan → Changed
+changed Keep g rs clock q p = record { gate = g; records = rs; subject = p .payment }
+changed Append g rs clock q p =
+    record {
+      gate = withUsed (creditedAt g (p .account) (q .amount)) (g .used + 1);
+      records = rs ++ (makeRecord g clock q ∷ []);
+      subject = makeRecord g clock q;
+    }
+changed Revoke g rs clock q p =
+    record {
+      gate = debitedAt g (p .account) (p .payment .amount);
+      records = replacedAt rs (p .found) (revoked clock (p .payment));
+      subject = revoked clock (p .payment);
+    }
+
+-- what a change leaves of the gate, the rows and the record that it speaks of
+pub record Made (t : Rows) (c : Changed) (gate : Gate) (subject : Record) (rows : Rows) : Type 0 where
+  pub gates : gate ≡ c .gate
+  pub subjects : subject ≡ c .subject
+  pub left : rows ≡ rowsFrom t (c .records)
+
+-- ---- the answer
+-- authcode goes with 0 and 7, except on check
+abbrev pub settles : ℕ → Bool
+settles code = eqb code 0 || eqb code 7
+
+unfoldable pub answersAuthcode : Action → ℕ → Bool
+answersAuthcode Check code = false
+answersAuthcode Payment code = settles code
+answersAuthcode Status code = settles code
+answersAuthcode Cancel code = settles code
+
+-- every payment answer has a date, status and cancel with 0 or 7, a check none
+unfoldable pub answersDate : Action → ℕ → Bool
+answersDate Check code = false
+answersDate Payment code = true
+answersDate Status code = settles code
+answersDate Cancel code = settles code
+
+-- the cancel date with 7 and with cancel's 0, the credit date with other 0s, the clock with other codes
+unfoldable pub answerDate : Action → ℕ → Record → List ℕ → List ℕ
+answerDate a code r clock =
+    cond (eqb code 7) (r .cancel) (cond (eqb code 0) (cond (isCancel a) (r .cancel) (r .credit)) clock)
+
+unfoldable pub answerOf : Action → ℕ → Record → List ℕ → Answer
+answerOf a code r clock =
+    record {
+      code = code;
+      authorized = answersAuthcode a code;
+      authcode = cond (answersAuthcode a code) (r .authcode) 0;
+      dated = answersDate a code;
+      date = cond (answersDate a code) (answerDate a code r clock) emptyDate;
+    }
+
+-- ---- the call
+-- what a call answers and leaves: its code, the gate, the rows and the answer's buffer
+pub record Delivered : Type 0 where
+  pub code : ℕ
+  pub gate : Gate
+  pub rows : Rows
+  pub out : List ℕ
+
+abbrev pub answered : Rows → List ℕ → Action → ℕ → List ℕ → Changed → Delivered
+answered t out a code clock c =
+    record {
+      code = code;
+      gate = c .gate;
+      rows = rowsFrom t (c .records);
+      out = written out 0 (answerBytes (answerOf a code (c .subject) clock));
+    }
+
+-- a request without a fault: the decision, its change and the answer
+abbrev pub respondBy : Gate → Rows → List ℕ → Asked → List ℕ → Plan → Delivered
+respondBy g t clock q out p =
+    answered t out (q .action) (p .decided .code) clock (changed (p .decided .change) g (recordsOf t (g .used)) clock q p)
+
+unfoldable pub respond : Gate → Rows → List ℕ → Asked → List ℕ → Delivered
+respond g t clock q out = respondBy g t clock q out (planOf g (recordsOf t (g .used)) (length (t .nums)) q)
+
+-- a fault of the request is answered too, and keeps the state
+unfoldable pub deliverRead : Gate → Rows → List ℕ → RequestRead → List ℕ → Delivered
+deliverRead g t clock q out =
+    cond (eqb (q .fault) 0)
+    (respond g t clock (q .asked) out)
+    (record { code = q .fault; gate = g; rows = t; out = written out 0 (answerBytes (answerOf (q .asked .action) (q .fault) noRecord clock)) })
+
+-- 68, 50 and 51 write nothing and keep all
+unfoldable pub deliver : Gate → Rows → List ℕ → List ℕ → List ℕ → Delivered
+deliver g t clock params out =
+    cond (tableGood g t)
+    (cond (leb 512 (length out))
+    (cond (isWritten clock) (deliverRead g t clock (requestRead params) out) (record { code = 51; gate = g; rows = t; out = out }))
+    (record { code = 50; gate = g; rows = t; out = out }))
+    (record { code = 68; gate = g; rows = t; out = out })

@@ -1,0 +1,183 @@
+// The three changes that a decision may make: none, a record more, its record cancelled.
+use crate::decision::Change;
+use crate::plan::Plan;
+use message::request::Asked;
+use table::Found;
+use table::Gate;
+use table::Record;
+use table::accounts;
+use table::rows;
+ghost use mathlib.Core.Path.{_≡_};
+ghost use mathlib.Core.List.{[], _∷_, _++_};
+ghost use mathlib.Core.Bool.{true};
+ghost use Prim.Native.Nat.{_+_, _<_, _≤_};
+ghost use lib.ListN.{length};
+ghost use Rattle.table.specs.Table.{Rows, recordsOf, rowsFrom, Whole};
+ghost use Rattle.table.specs.Accounts.{withUsed};
+ghost use Rattle.table.specs.Valid.{Sound, Ready, tableGood};
+ghost use Rattle.gate.specs.Deliver.{Within, makeRecord, revoked, creditedAt, debitedAt, replacedAt, planOf, changed, Made};
+
+// What a change leaves: the gate, and the record that the answer speaks of.
+pub struct Outcome {
+    pub gate: Gate,
+    pub subject: Record,
+}
+
+// The record of a payment that is credited now.
+fn make_record(g: Gate, clock: [u8; 19], q: Asked) -> Record
+    requires { ⌜ g .used < 4096 ⌝ }
+    ensures { λ r. ⌜ r ≡ makeRecord g clock q ⌝ }
+{
+    let number = q.number;
+    let date = q.date;
+    Record {
+        receipt: q.receipt,
+        number,
+        kind: q.kind,
+        amount: q.amount,
+        date,
+        state: 1,
+        authcode: g.used as u64 + 1,
+        credit: clock,
+        cancel: [0u8; 19],
+    }
+}
+
+// A record that is cancelled now.
+fn revoke_record(clock: [u8; 19], r: Record) -> Record
+    ensures { λ x. ⌜ x ≡ revoked clock r ⌝ }
+{
+    let mut next = r;
+    next.state = 2;
+    next.cancel = clock;
+    next
+}
+
+// An amount added to the balance of the account that was found.
+fn credit_at(g: Gate, f: Found, n: u64) -> Gate
+    requires { ⌜ Sound g × Within f (g .count) × (n < 1000000000) ⌝ }
+    ensures { λ r. ⌜ r ≡ creditedAt g f n ⌝ }
+{
+    match f {
+        Found::At(a) => accounts::credit(g, a, n),
+        Found::Nothing => g,
+    }
+}
+
+// An amount taken from the balance of the account that was found.
+fn debit_at(g: Gate, f: Found, n: u64) -> Gate
+    requires { ⌜ Sound g × Within f (g .count) × (n < 1000000000) ⌝ }
+    ensures { λ r. ⌜ r ≡ debitedAt g f n ⌝ }
+{
+    match f {
+        Found::At(a) => accounts::debit(g, a, n),
+        Found::Nothing => g,
+    }
+}
+
+// Puts a record in the place that was found.
+fn replace_at(
+    nums: &mut [[u64; 6]],
+    numbers: &mut [[u8; 30]],
+    dates: &mut [[[u8; 19]; 3]],
+    used: usize,
+    f: Found,
+    r: Record,
+)
+    requires { ⌜ Whole (record { nums = now nums; numbers = now numbers; dates = now dates }) used × Within f used ⌝ }
+    ensures { λ _. ⌜ _≡_ {A = Rows} (record { nums = now (nums .exit); numbers = now (numbers .exit); dates = now (dates .exit) })
+        (rowsFrom (record { nums = now (nums .entry); numbers = now (numbers .entry); dates = now (dates .entry) })
+        (replacedAt (recordsOf (record { nums = now (nums .entry); numbers = now (numbers .entry); dates = now (dates .entry) }) used) f r)) ⌝ }
+{
+    if let Found::At(i) = f {
+        rows::store(nums, numbers, dates, i, r);
+    }
+}
+
+// A record more, and its amount on its account.
+fn append(
+    nums: &mut [[u64; 6]],
+    numbers: &mut [[u8; 30]],
+    dates: &mut [[[u8; 19]; 3]],
+    g: Gate,
+    clock: [u8; 19],
+    q: Asked,
+    account: Found,
+) -> Outcome
+    requires { ⌜ Ready g (record { nums = now nums; numbers = now numbers; dates = now dates }) ⌝ }
+    requires { ⌜ (g .used < length (now nums)) × Within account (g .count) × (q .amount < 1000000000) ⌝ }
+    ensures { λ o. ⌜ (o .gate ≡ withUsed (creditedAt g account (q .amount)) (g .used + 1)) × (o .subject ≡ makeRecord g clock q) ⌝ }
+    ensures { λ o. ⌜ _≡_ {A = Rows} (record { nums = now (nums .exit); numbers = now (numbers .exit); dates = now (dates .exit) })
+        (rowsFrom (record { nums = now (nums .entry); numbers = now (numbers .entry); dates = now (dates .entry) })
+        (recordsOf (record { nums = now (nums .entry); numbers = now (numbers .entry); dates = now (dates .entry) }) (g .used) ++ (makeRecord g clock q ∷ []))) ⌝ }
+{
+    let used = g.used;
+    let r = make_record(g, clock, q);
+    rows::store(nums, numbers, dates, used, r);
+    let mut next = credit_at(g, account, q.amount);
+    next.used = used + 1;
+    Outcome {
+        gate: next,
+        subject: r,
+    }
+}
+
+// The record that was found cancelled, and its amount off its account.
+fn revoke(
+    nums: &mut [[u64; 6]],
+    numbers: &mut [[u8; 30]],
+    dates: &mut [[[u8; 19]; 3]],
+    g: Gate,
+    clock: [u8; 19],
+    f: Found,
+    r: Record,
+    account: Found,
+) -> Outcome
+    requires { ⌜ Ready g (record { nums = now nums; numbers = now numbers; dates = now dates }) ⌝ }
+    requires { ⌜ Within f (g .used) × Within account (g .count) × (r .amount < 1000000000) ⌝ }
+    ensures { λ o. ⌜ (o .gate ≡ debitedAt g account (r .amount)) × (o .subject ≡ revoked clock r) ⌝ }
+    ensures { λ o. ⌜ _≡_ {A = Rows} (record { nums = now (nums .exit); numbers = now (numbers .exit); dates = now (dates .exit) })
+        (rowsFrom (record { nums = now (nums .entry); numbers = now (numbers .entry); dates = now (dates .entry) })
+        (replacedAt (recordsOf (record { nums = now (nums .entry); numbers = now (numbers .entry); dates = now (dates .entry) }) (g .used)) f (revoked clock r))) ⌝ }
+{
+    let used = g.used;
+    let next = revoke_record(clock, r);
+    replace_at(nums, numbers, dates, used, f, next);
+    Outcome {
+        gate: debit_at(g, account, r.amount),
+        subject: next,
+    }
+}
+
+// Makes the change that was decided.
+pub(crate) fn make_change(
+    nums: &mut [[u64; 6]],
+    numbers: &mut [[u8; 30]],
+    dates: &mut [[[u8; 19]; 3]],
+    g: Gate,
+    clock: [u8; 19],
+    q: Asked,
+    p: Plan,
+) -> Outcome
+    requires { ⌜ Ready g (record { nums = now nums; numbers = now numbers; dates = now dates }) ⌝ }
+    requires { ⌜ tableGood g (record { nums = now nums; numbers = now numbers; dates = now dates }) ≡ true ⌝ }
+    requires { ⌜ (p ≡ planOf g (recordsOf (record { nums = now nums; numbers = now numbers; dates = now dates }) (g .used)) (length (now nums)) q) × (q .amount < 1000000000) ⌝ }
+    ensures { λ o. ⌜ Made (record { nums = now (nums .entry); numbers = now (numbers .entry); dates = now (dates .entry) })
+        (changed (p .decided .change) g (recordsOf (record { nums = now (nums .entry); numbers = now (numbers .entry); dates = now (dates .entry) }) (g .used)) clock q p)
+        (o .gate) (o .subject)
+        (record { nums = now (nums .exit); numbers = now (numbers .exit); dates = now (dates .exit) }) ⌝ }
+{
+    let d = p.decided;
+    let c = d.change;
+    let found = p.found;
+    let account = p.account;
+    let payment = p.payment;
+    match c {
+        Change::Keep => Outcome {
+            gate: g,
+            subject: payment,
+        },
+        Change::Append => append(nums, numbers, dates, g, clock, q, account),
+        Change::Revoke => revoke(nums, numbers, dates, g, clock, found, payment, account),
+    }
+}

@@ -1,0 +1,110 @@
+// One decision from action and record.
+use message::action::Action;
+ghost use mathlib.Core.Path.{_≡_};
+ghost use Rattle.gate.specs.Decision.{keeps, checkCode, paymentNew, cancelDone, decision};
+
+// How a receipt stands in the table.
+pub enum Standing {
+    Unrecorded,
+    Done,
+    Cancelled,
+}
+
+// What else a decision looks at: the account is known, the table is full, the date is on or before the closed day, the balance is below the amount.
+pub struct View {
+    pub known: bool,
+    pub full: bool,
+    pub closed: bool,
+    pub short: bool,
+}
+
+// What a decision changes: nothing, a record more, or its record cancelled.
+pub enum Change {
+    Keep,
+    Append,
+    Revoke,
+}
+
+pub struct Decided {
+    pub code: u64,
+    pub change: Change,
+}
+
+fn keep(code: u64) -> Decided
+    ensures { λ r. ⌜ r ≡ keeps code ⌝ }
+{
+    Decided {
+        code,
+        change: Change::Keep,
+    }
+}
+
+fn check_code(v: View) -> u64
+    ensures { λ r. ⌜ r ≡ checkCode v ⌝ }
+{
+    if v.known {
+        if v.full { 30 } else { 0 }
+    } else {
+        2
+    }
+}
+
+fn payment_new(v: View) -> Decided
+    ensures { λ r. ⌜ r ≡ paymentNew v ⌝ }
+{
+    if v.closed {
+        return keep(5);
+    }
+    if v.known {
+        if v.full {
+            keep(30)
+        } else {
+            Decided {
+                code: 0,
+                change: Change::Append,
+            }
+        }
+    } else {
+        keep(2)
+    }
+}
+
+fn cancel_done(v: View) -> Decided
+    ensures { λ r. ⌜ r ≡ cancelDone v ⌝ }
+{
+    if v.closed {
+        return keep(9);
+    }
+    if v.short {
+        keep(9)
+    } else {
+        Decided {
+            code: 0,
+            change: Change::Revoke,
+        }
+    }
+}
+
+// The answer's code and the change.
+pub fn decide(a: Action, s: Standing, v: View) -> Decided
+    ensures { λ r. ⌜ r ≡ decision a s v ⌝ }
+{
+    match a {
+        Action::Check => keep(check_code(v)),
+        Action::Payment => match s {
+            Standing::Unrecorded => payment_new(v),
+            Standing::Done => keep(0),
+            Standing::Cancelled => keep(7),
+        },
+        Action::Status => match s {
+            Standing::Unrecorded => keep(6),
+            Standing::Done => keep(0),
+            Standing::Cancelled => keep(7),
+        },
+        Action::Cancel => match s {
+            Standing::Unrecorded => keep(9),
+            Standing::Done => cancel_done(v),
+            Standing::Cancelled => keep(0),
+        },
+    }
+}

@@ -1,0 +1,115 @@
+// Opening an account, and drawing from one.
+use fields::amount;
+use fields::codes;
+use fields::number::Number;
+use table::Found;
+use table::Gate;
+use table::accounts;
+use table::valid;
+ghost use mathlib.Core.Path.{_≡_};
+ghost use mathlib.Core.Bool.{_&&_};
+ghost use Rattle.fields.specs.Codes.{isKind};
+ghost use Rattle.fields.specs.Number.{isNumber};
+ghost use Rattle.table.specs.Table.{Rows};
+ghost use Rattle.table.specs.Valid.{Sound};
+ghost use Rattle.gate.specs.Deliver.{Within};
+ghost use Rattle.gate.specs.Opening.{openTo, openCall, drawOn, drawFrom, drawCall};
+
+// What a call answers: its code, and the gate as it leaves it.
+pub struct Reply {
+    pub code: u64,
+    pub gate: Gate,
+}
+
+// Whether number and type are well formed.
+fn is_named(n: Number, kind: u64) -> bool
+    ensures { λ t. ⌜ t ≡ isNumber n && isKind kind ⌝ }
+{
+    if !n.is_valid() {
+        return false;
+    }
+    codes::is_kind(kind)
+}
+
+fn open_to(g: Gate, n: Number, kind: u64) -> Reply
+    requires { ⌜ Sound g ⌝ }
+    ensures { λ r. ⌜ r ≡ openTo g n kind ⌝ }
+{
+    if !is_named(n, kind) {
+        return Reply { code: 59, gate: g };
+    }
+    if let Found::At(_) = accounts::find_account(g, n, kind) {
+        return Reply { code: 56, gate: g };
+    }
+    if 256 <= g.count {
+        return Reply { code: 57, gate: g };
+    }
+    Reply {
+        code: 0,
+        gate: accounts::open_account(g, n, kind),
+    }
+}
+
+// Opens an account with a balance of 0.
+pub fn open_call(
+    nums: &[[u64; 6]],
+    numbers: &[[u8; 30]],
+    dates: &[[[u8; 19]; 3]],
+    g: Gate,
+    n: Number,
+    kind: u64,
+) -> Reply
+    ensures { λ r. ⌜ r ≡ openCall g (record { nums = now (nums .entry); numbers = now (numbers .entry); dates = now (dates .entry) }) n kind ⌝ }
+{
+    if !valid::table_good(nums, numbers, dates, g) {
+        return Reply { code: 68, gate: g };
+    }
+    open_to(g, n, kind)
+}
+
+fn draw_on(g: Gate, f: Found, kopecks: u64) -> Reply
+    requires { ⌜ Sound g × Within f (g .count) ⌝ }
+    ensures { λ r. ⌜ r ≡ drawOn g f kopecks ⌝ }
+{
+    let Found::At(a) = f else {
+        return Reply { code: 59, gate: g };
+    };
+    if !amount::is_amount(kopecks) {
+        return Reply { code: 58, gate: g };
+    }
+    if accounts::below(g, a, kopecks) {
+        return Reply { code: 58, gate: g };
+    }
+    Reply {
+        code: 0,
+        gate: accounts::debit(g, a, kopecks),
+    }
+}
+
+fn draw_from(g: Gate, n: Number, kind: u64, kopecks: u64) -> Reply
+    requires { ⌜ Sound g ⌝ }
+    ensures { λ r. ⌜ r ≡ drawFrom g n kind kopecks ⌝ }
+{
+    if !is_named(n, kind) {
+        return Reply { code: 59, gate: g };
+    }
+    draw_on(g, accounts::find_account(g, n, kind), kopecks)
+}
+
+// Draws kopecks from an account, as a print job does.
+pub fn draw_call(
+    nums: &[[u64; 6]],
+    numbers: &[[u8; 30]],
+    dates: &[[[u8; 19]; 3]],
+    g: Gate,
+    n: Number,
+    kind: u64,
+    kopecks: u64,
+) -> Reply
+    ensures { λ r. ⌜ r ≡ drawCall g (record { nums = now (nums .entry); numbers = now (numbers .entry); dates = now (dates .entry) }) n kind kopecks ⌝ }
+{
+    if !valid::table_good(nums, numbers, dates, g) {
+        return Reply { code: 68, gate: g };
+    }
+    draw_from(g, n, kind, kopecks)
+}

@@ -1,0 +1,28 @@
+use borrow.Author.Needs.{needs}
+use Rattle.samples.proofs.LineLaws.{part-size}
+use Rattle.samples.proofs.asked_vectors.write_request_at.Statement.{statement}
+use Rattle.samples.proofs.asked_vectors.write_request_at.Tie as tie
+
+ruleset laws = (part-size, needs)
+
+pub write-request-at-spec : {M : Type 1} → statement M
+write-request-at-spec =
+    tie.close
+    (tie.spec
+    (λ c κs. search laws)
+    (λ c κs. search laws)
+    (λ c κs. search laws)
+    (λ c. search laws)
+    (λ c. search laws)
+    (λ c. search laws)
+    (λ c κs. search laws)
+    (λ c. search laws)
+    (λ c. search laws)
+    (λ c κs. search laws)
+    (λ c. search laws)
+    (λ c κs. search laws)
+    (λ c. search laws)
+    (λ c. search laws)
+    (λ c κs. search laws)
+    (λ c κs. search laws)
+    (λ c. search laws))

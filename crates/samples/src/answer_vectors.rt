@@ -1,0 +1,87 @@
+// Answers.
+use crate::given;
+use crate::show;
+use crate::split;
+use answers::answer::Answer;
+use answers::answer::AnswerRead;
+use answers::read;
+use answers::write;
+use fields::digits;
+use fields::digits::Digits;
+use fields::out;
+use fields::scan;
+use message::action;
+use message::action::Action;
+use message::action::ActionRead;
+
+// The answer to an action.
+pub fn answer(s: &[u8]) {
+    let ActionRead::Known(a) = action::read_action(split::head(s)) else {
+        show::text(b"unknown action");
+        return;
+    };
+    show_read(read::read_answer(a, split::tail(s)));
+}
+
+// A check's answer with a message of so many bytes; 78 bytes stand before it.
+pub fn long_answer(s: &[u8]) {
+    let Digits::Value(n) = digits::read_digits(s, 3) else {
+        show::text(b"malformed");
+        return;
+    };
+    if 600 < n {
+        show::text(b"malformed");
+        return;
+    }
+    let head =
+        b"<?xml version=\"1.0\" encoding=\"windows-1251\"?><response><code>0</code><message>";
+    let mut space = [b'm'; 1024];
+    out::put_bytes(head, &mut space, 0);
+    let e = out::put_bytes(b"</message></response>", &mut space, 78 + n as usize);
+    show_read(read::read_answer(Action::Check, scan::first_bytes(&space, e)));
+}
+
+fn show_read(r: AnswerRead) {
+    if r.ok {
+        let x = r.answer;
+        show_answer(x);
+    } else {
+        show::text(b"unreadable");
+    }
+}
+
+fn show_answer(x: Answer) {
+    show::named(b"code=", x.code);
+    if x.authorized {
+        show::named(b" authcode=", x.authcode);
+    }
+    if x.dated {
+        let date = x.date;
+        show::text(b" date=");
+        show::text(&date);
+    }
+}
+
+// The bytes of an answer from code, authcode and date; `-` gives none.
+pub fn write_answer(s: &[u8]) {
+    let rest = split::tail(s);
+    let date = given::date(split::tail(rest));
+    let x = Answer {
+        code: given::value(s),
+        authorized: is_given(split::head(rest)),
+        authcode: given::value(rest),
+        dated: is_given(split::tail(rest)),
+        date,
+    };
+    let mut space = [0u8; 512];
+    let n = write::write_answer(x, &mut space, 0);
+    show::text(scan::first_bytes(&space, n));
+}
+
+fn is_given(s: &[u8]) -> bool {
+    if scan::same_bytes(s, b"-") {
+        false
+    } else {
+        true
+    }
+}

@@ -1,0 +1,45 @@
+// Url coding, and where the parameters of a request stand.
+use crate::show;
+use crate::split;
+use coding::params;
+use coding::params::Method;
+use coding::url;
+use fields::scan;
+
+// The parameters of `GET` and a target, or of `POST` and a body, in brackets.
+pub fn parameters(s: &[u8]) {
+    let rest = split::tail(s);
+    if scan::same_bytes(split::head(s), b"GET") {
+        bracketed(params::parameters(Method::Get, rest, b""));
+        return;
+    }
+    if scan::same_bytes(split::head(s), b"POST") {
+        bracketed(params::parameters(Method::Post, b"/x?y", rest));
+        return;
+    }
+    show::text(b"malformed");
+}
+
+fn bracketed(s: &[u8]) {
+    show::text(b"[");
+    show::text(s);
+    show::text(b"]");
+}
+
+// The bytes of s, url-coded.
+pub fn coded(s: &[u8]) {
+    let mut space = io::buffer();
+    let n = url::write_coded(s, &mut space, 0);
+    show::text(scan::first_bytes(&space, n));
+}
+
+// The bytes that s codes.
+pub fn decoded(s: &[u8]) {
+    if url::well_coded(s) {
+        let mut space = io::buffer();
+        let n = url::decode(s, &mut space);
+        show::bytes(scan::first_bytes(&space, n));
+    } else {
+        show::text(b"bad escape");
+    }
+}

@@ -1,0 +1,33 @@
+// Fields that a vector gives: they may be out of range.
+use crate::split;
+use fields::digits;
+use fields::digits::Digits;
+use fields::number::Number;
+use fields::out;
+use fields::scan;
+
+// The value of the digits before the first space; 0 where there are none.
+pub fn value(s: &[u8]) -> u64 {
+    let d = digits::read_digits(split::head(s), 20);
+    match d {
+        Digits::Value(v) => v,
+        Digits::Malformed => 0,
+    }
+}
+
+// A number of these bytes, of which thirty at most are held.
+pub fn number(s: &[u8]) -> Number {
+    let mut bytes = [0u8; 30];
+    out::put_bytes(scan::first_bytes(s, 30), &mut bytes, 0);
+    Number {
+        bytes,
+        len: s.len(),
+    }
+}
+
+// Nineteen bytes: the first of s, then zeros.
+pub fn date(s: &[u8]) -> [u8; 19] {
+    let mut date = [0u8; 19];
+    out::put_bytes(scan::first_bytes(s, 19), &mut date, 0);
+    date
+}

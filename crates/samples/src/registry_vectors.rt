@@ -1,0 +1,116 @@
+// Registries and reports.
+use crate::given;
+use crate::show;
+use crate::split;
+use fields::calendar;
+use fields::calendar::Day;
+use fields::calendar::DayRead;
+use fields::digits;
+use fields::digits::Digits;
+use fields::out;
+use fields::scan;
+use registry::line::Line;
+use registry::report;
+use registry::text;
+
+// A day, or zeros where it is no date.
+fn day_of(s: &[u8]) -> Day {
+    let r = calendar::read_day(s);
+    match r {
+        DayRead::Good(d) => d,
+        DayRead::NoDate => Day {
+            year: 0,
+            month: 0,
+            day: 0,
+        },
+    }
+}
+
+// The fault of a registry of a day, and the lines of one without.
+pub fn check(s: &[u8]) {
+    let rest = split::tail(s);
+    let fault = text::check_registry(day_of(split::head(s)), rest);
+    show::fault(fault);
+    if fault == 0 {
+        show_lines(rest);
+    }
+}
+
+fn show_lines(s: &[u8]) {
+    let mut at: usize = 0;
+    while at < s.len() {
+        let e = text::end_of_line(s, at);
+        if s.len() <= e {
+            return;
+        }
+        let r = text::line_at(s, at);
+        let line = r.line;
+        show_line(line);
+        at = e + 2;
+    }
+}
+
+// Receipt, kopecks, number and type.
+fn show_line(x: Line) {
+    let number = x.number;
+    show::named(b"; ", x.receipt);
+    show::named(b" ", x.amount);
+    show::text(b" ");
+    show::account(number);
+    show::named(b" ", x.kind);
+}
+
+// A payment of one kopeck.
+fn small_line(receipt: u64) -> Line {
+    let number = given::number(b"a");
+    let date = given::date(b"2005-09-20T00:00:00");
+    Line {
+        number,
+        kind: 1,
+        date,
+        amount: 1,
+        receipt,
+    }
+}
+
+// Writes the lines of the receipts 1 to n, and hands back where they end.
+fn write_lines(n: u64, dst: &mut [u8]) -> usize {
+    let mut at: usize = 0;
+    let mut i: u64 = 0;
+    while i < n {
+        i += 1;
+        let line = small_line(i);
+        at = line.write(dst, at);
+    }
+    at
+}
+
+// The fault of so many lines, `ended` or with a `rest` behind them.
+pub fn many_lines(s: &[u8]) {
+    let Digits::Value(n) = digits::read_digits(split::head(s), 3) else {
+        show::text(b"malformed");
+        return;
+    };
+    let mut space = io::large_buffer();
+    let at = write_lines(n, &mut space);
+    let e = add_rest(split::tail(s), &mut space, at);
+    let day = day_of(b"2005-09-20");
+    show::fault(text::check_registry(day, scan::first_bytes(&space, e)));
+}
+
+fn add_rest(word: &[u8], dst: &mut [u8], at: usize) -> usize {
+    if scan::same_bytes(word, b"rest") {
+        out::put_bytes(b"x", dst, at)
+    } else {
+        at
+    }
+}
+
+// Whether a text is a report of so many lines.
+pub fn is_report(s: &[u8]) {
+    if report::is_report(split::tail(s), given::value(s) as usize) {
+        show::text(b"good");
+    } else {
+        show::fault(65);
+    }
+}

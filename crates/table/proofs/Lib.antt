@@ -1,0 +1,6 @@
+pub mod ListLaws
+pub mod TableLaws
+pub mod SignedLaws
+pub mod AccountLaws
+pub mod RangeLaws
+pub mod ValidLaws

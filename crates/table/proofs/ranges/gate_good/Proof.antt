@@ -1,0 +1,16 @@
+use borrow.Author.Needs.{needs}
+use Rattle.table.proofs.RangeLaws.{no-claim, gate-many, gate-no-day, gate-rest, gate-sound}
+use Rattle.table.proofs.ranges.gate_good.Statement.{statement}
+use Rattle.table.proofs.ranges.gate_good.Tie as tie
+
+ruleset laws = (no-claim, gate-many, gate-no-day, gate-rest, gate-sound, needs)
+
+pub gate-good-spec : {M : Type 1} → statement M
+gate-good-spec =
+    tie.close
+    (tie.spec
+    (λ c. search laws)
+    (λ c κs. search laws)
+    (λ c. search laws)
+    (λ c κs. search laws)
+    (λ c. search laws))

@@ -1,0 +1,58 @@
+-- Document 01, "Gate": the accounts, each with a signed balance.
+use mathlib.Core.Bool.{Bool, true, false, _&&_}
+use mathlib.Core.List.{List, []}
+use Prim.Native.Nat.{ℕ, _+_}
+use lib.Dec.{eqb, leb, ltb}
+use lib.IntN.{ℤ, pos, negsuc, _+ℤ_, _-ℤ_}
+use lib.ListN.{getD, set, take}
+use Rattle.fields.specs.declared.calendar.Day.{Day}
+use Rattle.fields.specs.declared.number.Number.{Number}
+use Rattle.fields.specs.Number.{sameNumber}
+use Rattle.table.specs.declared.Account.{Account}
+use Rattle.table.specs.declared.Gate.{Gate}
+use Rattle.table.specs.declared.Found.{Found}
+use Rattle.table.specs.Lists.{firstFrom}
+
+-- number with type names an account
+unfoldable pub isAccount : Number → ℕ → Account → Bool
+isAccount n k a = eqb (a .kind) k && sameNumber (a .number) n
+
+-- the accounts in use
+abbrev pub accountsOf : Gate → List Account
+accountsOf g = take (g .count) (g .accounts)
+
+-- a lookup takes the first account that fits
+unfoldable pub findAccount : Number → ℕ → List Account → Found
+findAccount n k l = firstFrom (isAccount n k) 0 l
+
+abbrev pub noAccount : Account
+noAccount = record { number = record { bytes = []; len = 0 }; kind = 0; balance = pos 0 }
+
+abbrev pub balanceAt : Gate → ℕ → ℤ
+balanceAt g i = (getD (g .accounts) i noAccount) .balance
+
+abbrev pub withBalance : Account → ℤ → Account
+withBalance a z = record { number = a .number; kind = a .kind; balance = z }
+
+-- the gate with the balance z at account i
+abbrev pub gateBalance : Gate → ℕ → ℤ → Gate
+gateBalance g i z =
+    record { accounts = set (g .accounts) i (withBalance (getD (g .accounts) i noAccount) z); count = g .count; closed = g .closed; used = g .used }
+
+-- an amount added to the balance of account i, or taken from it
+unfoldable pub credited : Gate → ℕ → ℕ → Gate
+credited g i n = gateBalance g i (balanceAt g i +ℤ pos n)
+
+unfoldable pub debited : Gate → ℕ → ℕ → Gate
+debited g i n = gateBalance g i (balanceAt g i -ℤ pos n)
+
+abbrev pub withUsed : Gate → ℕ → Gate
+withUsed g n = record { accounts = g .accounts; count = g .count; closed = g .closed; used = n }
+
+abbrev pub withClosed : Gate → Day → Gate
+withClosed g d = record { accounts = g .accounts; count = g .count; closed = d; used = g .used }
+
+-- one account more, with a balance of 0
+unfoldable pub opened : Gate → Number → ℕ → Gate
+opened g n k =
+    record { accounts = set (g .accounts) (g .count) (record { number = n; kind = k; balance = pos 0 }); count = g .count + 1; closed = g .closed; used = g .used }

@@ -1,0 +1,4 @@
+pub mod Lists
+pub mod Table
+pub mod Accounts
+pub mod Valid

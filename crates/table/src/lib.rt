@@ -1,0 +1,40 @@
+// The gate's state: accounts, and the payment table in three lent rows.
+pub mod accounts;
+pub mod ranges;
+pub mod rows;
+pub mod valid;
+
+use fields::calendar::Day;
+use fields::number::Number;
+
+// A payment. State 1 is done, 2 is cancelled; a done record's cancel date is nineteen zero bytes.
+pub struct Record {
+    pub receipt: u64,
+    pub number: Number,
+    pub kind: u64,
+    pub amount: u64,
+    pub date: [u8; 19],
+    pub state: u64,
+    pub authcode: u64,
+    pub credit: [u8; 19],
+    pub cancel: [u8; 19],
+}
+
+pub struct Account {
+    pub number: Number,
+    pub kind: u64,
+    pub balance: i64,
+}
+
+// The accounts in use are the first `count`, the records in use the first `used` of the lent table.
+pub struct Gate {
+    pub accounts: [Account; 256],
+    pub count: usize,
+    pub closed: Day,
+    pub used: usize,
+}
+
+pub enum Found {
+    At(usize),
+    Nothing,
+}
