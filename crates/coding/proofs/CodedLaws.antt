@@ -21,33 +21,15 @@ use Rattle.coding.proofs.UnitLaws.{decoded-unit, well-unit, unit-other}
 use Rattle.coding.proofs.WriteLaws.{code-length}
 
 -- ---- plain bytes
-pub plain-minus : isPlain 45 ≡ true
+-- `-`, `.`, `:` and T stand for themselves
+pub plain-marks : (isPlain 45 ≡ true) × (isPlain 46 ≡ true) × (isPlain 58 ≡ true) × (isPlain 84 ≡ true)
 unfolding isPlain
-plain-minus = refl
+plain-marks = (refl, refl, refl, refl)
 
-pub plain-point : isPlain 46 ≡ true
+-- `&`, `=` and `%` do not
+pub coded-marks : (isPlain 38 ≡ false) × (isPlain 61 ≡ false) × (isPlain 37 ≡ false)
 unfolding isPlain
-plain-point = refl
-
-pub plain-colon : isPlain 58 ≡ true
-unfolding isPlain
-plain-colon = refl
-
-pub plain-T : isPlain 84 ≡ true
-unfolding isPlain
-plain-T = refl
-
-pub other-and : isPlain 38 ≡ false
-unfolding isPlain
-other-and = refl
-
-pub other-equals : isPlain 61 ≡ false
-unfolding isPlain
-other-equals = refl
-
-pub other-percent : isPlain 37 ≡ false
-unfolding isPlain
-other-percent = refl
+coded-marks = (refl, refl, refl)
 
 module _ (b : ℕ) where
   pub capital-plain : within 65 90 b ≡ true → isPlain b ≡ true
@@ -128,18 +110,18 @@ module _ (b : ℕ) (byte : isByte b ≡ true) where
 
   pub decoded-code : (t : List ℕ) → decoded (codedByte b ++ t) ≡ b ∷ decoded t
   decoded-code t =
-      code-elim (λ (xs : List ℕ). decoded (xs ++ t) ≡ b ∷ decoded t) (λ p. decoded-other b t (plain-differs b 37 p other-percent))
+      code-elim (λ (xs : List ℕ). decoded (xs ++ t) ≡ b ∷ decoded t) (λ p. decoded-other b t (plain-differs b 37 p (coded-marks .2)))
       (unfold decoded in rw (digit-value (b / 16) high, digit-value (b % 16) low, halves))
 
   pub well-code : (t : List ℕ) → wellCoded (codedByte b ++ t) ≡ wellCoded t
   well-code t =
-      code-elim (λ (xs : List ℕ). wellCoded (xs ++ t) ≡ wellCoded t) (λ p. well-other b t (plain-differs b 37 p other-percent))
+      code-elim (λ (xs : List ℕ). wellCoded (xs ++ t) ≡ wellCoded t) (λ p. well-other b t (plain-differs b 37 p (coded-marks .2)))
       (unfold wellCoded in rw (digit-is-hex (b / 16) high, digit-is-hex (b % 16) low))
 
   pub code-codes : every isCode (codedByte b) ≡ true
   code-codes =
       code-elim (λ (xs : List ℕ). every isCode xs ≡ true) (λ p. unfold every in unfold isCode in rw p)
-      (unfold every in unfold isCode in rw (digit-is-plain (b / 16) high, digit-is-plain (b % 16) low, other-percent))
+      (unfold every in unfold isCode in rw (digit-is-plain (b / 16) high, digit-is-plain (b % 16) low, (coded-marks .2)))
 
 -- ---- coded text
 pub decode-coded : (s : List ℕ) → every isByte s ≡ true → decoded (coded s) ≡ s

@@ -28,6 +28,9 @@ use Rattle.message.specs.declared.action.ActionRead.the-variants.{Known,
 use Rattle.message.specs.declared.slots.Text.{Text}
 use Rattle.message.specs.Names.{actionWord, actionOf}
 use Rattle.message.specs.Slots.{Slot, Absent, Holds, clipped, clippedSlot, textSlot}
+use Rattle.message.specs.declared.request.Reader.{Reader}
+use Rattle.message.specs.declared.request.Reader.the-variants.{Receipt, Kind, Amount, Reason}
+use Rattle.message.specs.RequestWalk.{readBy}
 use Rattle.message.specs.Request.{held, fieldOf}
 
 -- ---- decoding shortens a text at most to a third
@@ -103,13 +106,13 @@ range-long : (most low high : ℕ) → most ≤ 32 → (w : List ℕ) → 32 < l
 unfolding rangeRead digitsRead
 range-long most low high m w h = rw (digits-long most m w h)
 
-pub receipt-long : (w : List ℕ) → 32 < length w → receiptRead w ≡ receiptRead []
+receipt-long : (w : List ℕ) → 32 < length w → receiptRead w ≡ receiptRead []
 receipt-long = range-long 15 1 999999999999999 (omega arith)
 
-pub kind-long : (w : List ℕ) → 32 < length w → kindRead w ≡ kindRead []
+kind-long : (w : List ℕ) → 32 < length w → kindRead w ≡ kindRead []
 kind-long = range-long 3 0 999 (omega arith)
 
-pub reason-long : (w : List ℕ) → 32 < length w → reasonRead w ≡ reasonRead []
+reason-long : (w : List ℕ) → 32 < length w → reasonRead w ≡ reasonRead []
 reason-long = range-long 1 1 5 (omega arith)
 
 pub number-none : (w : List ℕ) → 32 < length w → numberRead w ≡ numberRead []
@@ -135,7 +138,7 @@ amount-part-bad : (w : Digits) → amountOf w Malformed ≡ Malformed
 amount-part-bad Malformed = refl
 amount-part-bad (Value x) = refl
 
-pub amount-none : (w : List ℕ) → 32 < length w → amountRead w ≡ amountRead []
+amount-none : (w : List ℕ) → 32 < length w → amountRead w ≡ amountRead []
 unfolding amountRead digitsRead find
 amount-none w h = go (leb (find 46 w) 7) refl
   where
@@ -150,3 +153,14 @@ amount-none w h = go (leb (find 46 w) 7) refl
     go false t =
         let l : 7 < length (take (find 46 w) w) = rw size (leb-false (find 46 w) 7 t) in
         rw (← read-long 7 (take (find 46 w) w) l)
+
+-- ---- the readers together
+pub read-at : (k k′ : Reader) (s : List ℕ) (r : Digits) → k ≡ k′ → r ≡ readBy k′ s → r ≡ readBy k s
+read-at k k′ s r e q = q ∙ rw e
+
+pub digits-none : (k : Reader) (w : List ℕ) → 32 < length w → readBy k w ≡ readBy k []
+unfolding readBy
+digits-none Receipt w h = receipt-long w h
+digits-none Kind w h = kind-long w h
+digits-none Amount w h = amount-none w h
+digits-none Reason w h = reason-long w h

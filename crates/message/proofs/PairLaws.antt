@@ -17,7 +17,7 @@ use Rattle.coding.specs.Params.{pieces}
 use Rattle.coding.proofs.RangeLaws.{above}
 use Rattle.coding.proofs.FindLaws.{tests-differ, find-absent, find-seam, find-both, find-other}
 use Rattle.coding.proofs.ParamLaws.{split-last, split-append}
-use Rattle.coding.proofs.CodedLaws.{other-and, other-equals, decode-coded, coded-well, coded-plain, coded-find}
+use Rattle.coding.proofs.CodedLaws.{coded-marks, decode-coded, coded-well, coded-plain, coded-find}
 use Rattle.message.specs.Names.{nameIndex}
 use Rattle.message.specs.Slots.{Slot, Absent, Holds, Values, addPiece, gatherFrom, gathered}
 use Rattle.message.specs.Request.{held, fieldOf}
@@ -80,14 +80,14 @@ piece-then xs (entry true name value most b l ∷ es) h = split-append 38 xs _ h
 module _ (name value : List ℕ) (plain : every isPlain name ≡ true) (bytes : every isByte value ≡ true) where
   piece-whole : find 38 (name ++ (61 ∷ coded value)) ≡ length (name ++ (61 ∷ coded value))
   piece-whole =
-      let v : find 38 (coded value) ≡ length (coded value) = coded-find 38 value other-and (λ e. omega arith) bytes in
+      let v : find 38 (coded value) ≡ length (coded value) = coded-find 38 value (coded-marks .0) (λ e. omega arith) bytes in
       let w : find 38 (61 ∷ coded value) ≡ length (61 ∷ coded value) = find-other 38 61 (coded value) (λ e. omega arith) ∙ ap suc v in
-      find-both 38 name (61 ∷ coded value) (find-absent isPlain 38 name other-and plain) w
+      find-both 38 name (61 ∷ coded value) (find-absent isPlain 38 name (coded-marks .0) plain) w
 
   add-pair : (before after : List Slot) → nameIndex name ≡ length before → length before < 7
       → addPiece (before ++ (Absent ∷ after)) (name ++ (61 ∷ coded value)) ≡ Values (before ++ (Holds (coded value) ∷ after))
   add-pair before after n k =
-      let f : find 61 (name ++ (61 ∷ coded value)) ≡ length name = find-seam 61 name (coded value) (find-absent isPlain 61 name other-equals plain) in
+      let f : find 61 (name ++ (61 ∷ coded value)) ≡ length name = find-seam 61 name (coded value) (find-absent isPlain 61 name (coded-marks .1) plain) in
       let size : length (name ++ (61 ∷ coded value)) ≡ length name + suc (length (coded value)) = length-append name (61 ∷ coded value) in
       let l : length name < length (name ++ (61 ∷ coded value)) = omega arith in
       let j : suc (length name) ≡ length name + 1 = omega arith in

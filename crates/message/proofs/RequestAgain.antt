@@ -25,7 +25,7 @@ use Rattle.fields.proofs.NumberLaws.{byte-below-256, text-bytes, number-again}
 use Rattle.fields.proofs.DateLaws.{date-again, date-bytes}
 use Rattle.coding.specs.Url.{isPlain}
 use Rattle.coding.specs.Units.{isByte}
-use Rattle.coding.proofs.CodedLaws.{plain-minus, plain-point, plain-colon, plain-T, digit-plain, coded-plain, coded-length}
+use Rattle.coding.proofs.CodedLaws.{plain-marks, digit-plain, coded-plain, coded-length}
 use Rattle.message.specs.declared.action.Action.{Action}
 use Rattle.message.specs.declared.action.Action.the-variants.{Check, Payment, Status, Cancel}
 use Rattle.message.specs.declared.action.ActionRead.the-variants.{Known, Unknown}
@@ -129,7 +129,7 @@ module _ (q : Asked) (dated : length (q .date) ≡ 19) (sized : length (q .numbe
 
   abbrev ofAmount : Entry
   ofAmount =
-      plainEntry (hasAccount (q .action)) amountName (amountBytes (q .amount)) 10 (λ _. amount-bytes isPlain (q .amount) digit-plain plain-point)
+      plainEntry (hasAccount (q .action)) amountName (amountBytes (q .amount)) 10 (λ _. amount-bytes isPlain (q .amount) digit-plain (plain-marks .1))
       (λ e. amount-length (q .amount) (parts .amount e))
 
   abbrev ofReceipt : Entry
@@ -137,7 +137,7 @@ module _ (q : Asked) (dated : length (q .date) ≡ 19) (sized : length (q .numbe
 
   abbrev ofDate : Entry
   ofDate =
-      plainEntry (hasDate (q .action)) dateName (q .date) 19 (λ e. date-bytes isPlain (q .date) digit-plain plain-minus plain-T plain-colon (parts .date e))
+      plainEntry (hasDate (q .action)) dateName (q .date) 19 (λ e. date-bytes isPlain (q .date) digit-plain (plain-marks .0) (plain-marks .3) (plain-marks .2) (parts .date e))
       (λ _. omega arith)
 
   abbrev ofReason : Entry

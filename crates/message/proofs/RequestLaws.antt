@@ -18,14 +18,33 @@ use Rattle.message.specs.declared.action.ActionRead.the-variants.{Known,
 use Rattle.message.specs.declared.request.RequestRead.{RequestRead}
 use Rattle.message.specs.declared.slots.Scan.{Scan}
 use Rattle.fields.specs.Date.{emptyDate}
-use Rattle.message.specs.Names.{actionOf}
+use Rattle.message.specs.Names.{actionOf, hasAccount, hasReceipt, hasReason}
 use Rattle.message.specs.Slots.{Slot, Absent, Broken, Values, gathered, slotsIn, scanned}
-use Rattle.message.specs.RequestWalk.{laterFault, laterRead}
-use Rattle.message.specs.Request.{held, unusedNumber, receiptField, numberField, kindField, amountField, dateField, reasonField, refused, firstFault, fieldFault, askedOf, fieldsRead, requestRead}
+use Rattle.message.specs.declared.request.Reader.the-variants.{Receipt, Kind, Amount, Reason}
+use Rattle.message.specs.RequestWalk.{readBy, laterFault, laterRead}
+use Rattle.message.specs.Request.{held, fieldOf, unusedNumber, receiptField, numberField, kindField, amountField, dateField, reasonField, refused, firstFault, fieldFault, askedOf, fieldsRead, requestRead}
 
 pub refused-is : (f : ℕ) (a : Action) (r : RequestRead) → r ≡ record { fault = f; asked = record { action = a; number = unusedNumber; kind = 0; amount = 0; receipt = 0; date = emptyDate; reason = 0 } } → r ≡ refused f a
 unfolding refused
 refused-is f a r q = q
+
+-- ---- the digit fields, as their one function reads them
+module _ (a : Action) (t : List Slot) (u : Bool) (r : Digits) where
+  pub is-receipt : u ≡ hasReceipt a → r ≡ fieldOf u (Value 0) Malformed (readBy Receipt) (getD t 4 Absent) → r ≡ receiptField a t
+  unfolding readBy
+  is-receipt e q = q ∙ rw e
+
+  pub is-kind : u ≡ hasAccount a → r ≡ fieldOf u (Value 0) (Value 1) (readBy Kind) (getD t 2 Absent) → r ≡ kindField a t
+  unfolding readBy
+  is-kind e q = q ∙ rw e
+
+  pub is-amount : u ≡ hasAccount a → r ≡ fieldOf u (Value 0) Malformed (readBy Amount) (getD t 3 Absent) → r ≡ amountField a t
+  unfolding readBy
+  is-amount e q = q ∙ rw e
+
+  pub is-reason : u ≡ hasReason a → r ≡ fieldOf u (Value 0) Malformed (readBy Reason) (getD t 6 Absent) → r ≡ reasonField a t
+  unfolding readBy
+  is-reason e q = q ∙ rw e
 
 -- ---- the fields in their order: the first that is malformed decides
 module _ (a : Action) (t : List Slot) (r : RequestRead) where

@@ -7,8 +7,20 @@ use Rattle.fields.specs.declared.number.Number.{Number}
 use Rattle.fields.specs.Digits.{faultOf}
 use Rattle.message.specs.declared.action.Action.{Action}
 use Rattle.message.specs.declared.request.RequestRead.{RequestRead}
+use Rattle.message.specs.declared.request.Reader.{Reader}
+use Rattle.message.specs.declared.request.Reader.the-variants.{Receipt, Kind, Amount, Reason}
+use Rattle.fields.specs.declared.digits.Digits.{Digits}
+use Rattle.fields.specs.Amount.{amountRead}
+use Rattle.fields.specs.Codes.{receiptRead, kindRead, reasonRead}
 use Rattle.message.specs.Slots.{Slot}
 use Rattle.message.specs.Request.{amountField, dateField, reasonField, valueIn, refused, firstFault}
+
+-- the four readers of digit fields
+unfoldable pub readBy : Reader → List ℕ → Digits
+readBy Receipt s = receiptRead s
+readBy Kind s = kindRead s
+readBy Amount s = amountRead s
+readBy Reason s = reasonRead s
 
 -- amount, date and reason
 unfoldable pub laterFault : Action → List Slot → ℕ

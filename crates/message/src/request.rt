@@ -14,11 +14,13 @@ use fields::number::Number;
 use fields::number::NumberRead;
 use fields::scan;
 ghost use mathlib.Core.Path.{_≡_};
+ghost use Prim.Native.Nat.{_<_};
 ghost use lib.ListN.{getD};
+ghost use Rattle.fields.specs.declared.digits.Digits.the-variants.{Value};
 ghost use Rattle.message.specs.declared.action.ActionRead.the-variants.{Unknown};
 ghost use Rattle.message.specs.Names.{actionOf};
-ghost use Rattle.message.specs.Request.{held, refused, receiptField, numberField, kindField, amountField, dateField, reasonField, fieldsRead, requestRead};
-ghost use Rattle.message.specs.RequestWalk.{laterRead};
+ghost use Rattle.message.specs.Request.{held, fieldOf, refused, receiptField, numberField, kindField, amountField, dateField, reasonField, fieldsRead, requestRead};
+ghost use Rattle.message.specs.RequestWalk.{readBy, laterRead};
 ghost use Rattle.message.specs.Slots.{Absent, slotsIn};
 
 // The fields of a request; those that its action lacks are at fixed values, zeros.
@@ -36,6 +38,14 @@ pub struct Asked {
 pub struct RequestRead {
     pub fault: u64,
     pub asked: Asked,
+}
+
+// The readers of the digit fields.
+pub enum Reader {
+    Receipt,
+    Kind,
+    Amount,
+    Reason,
 }
 
 // A request that is refused.
@@ -72,20 +82,85 @@ pub(crate) fn action_field(s: &[u8], t: Slots) -> ActionRead
     action::read_action(scan::first_bytes(&b, n))
 }
 
-// The receipt, 0 where the action lacks it.
-pub(crate) fn receipt_field(a: Action, s: &[u8], t: Slots) -> Digits
-    ensures { λ r. ⌜ r ≡ receiptField a (slotsIn (now (s .entry)) t) ⌝ }
+// The value that one of the four digit readers makes of bytes.
+fn read_by(reader: Reader, s: &[u8]) -> Digits
+    ensures { λ r. ⌜ r ≡ readBy reader (now (s .entry)) ⌝ }
 {
-    if !action::has_receipt(a) {
+    match reader {
+        Reader::Receipt => codes::read_receipt(s),
+        Reader::Kind => codes::read_kind(s),
+        Reader::Amount => amount::read_amount(s),
+        Reader::Reason => codes::read_reason(s),
+    }
+}
+
+// A digit field: 0 where the action lacks it, `absent` where the request does.
+fn digits_field(reader: Reader, used: bool, absent: Digits, s: &[u8], t: Slots, k: usize) -> Digits
+    requires { ⌜ k < 7 ⌝ }
+    ensures { λ r. ⌜ r ≡ fieldOf used (Value 0) absent (readBy reader) (getD (slotsIn (now (s .entry)) t) k Absent) ⌝ }
+{
+    if !used {
         return Digits::Value(0);
     }
-    let x = slots::text_of(s, t, 4);
+    let x = slots::text_of(s, t, k);
     if !x.present {
-        return Digits::Malformed;
+        return absent;
     }
     let n = x.len;
     let b = x.bytes;
-    codes::read_receipt(scan::first_bytes(&b, n))
+    read_by(reader, scan::first_bytes(&b, n))
+}
+
+fn receipt_field(a: Action, s: &[u8], t: Slots) -> Digits
+    ensures { λ r. ⌜ r ≡ receiptField a (slotsIn (now (s .entry)) t) ⌝ }
+{
+    digits_field(
+        Reader::Receipt,
+        action::has_receipt(a),
+        Digits::Malformed,
+        s,
+        t,
+        4,
+    )
+}
+
+fn kind_field(a: Action, s: &[u8], t: Slots) -> Digits
+    ensures { λ r. ⌜ r ≡ kindField a (slotsIn (now (s .entry)) t) ⌝ }
+{
+    digits_field(
+        Reader::Kind,
+        action::has_account(a),
+        Digits::Value(1),
+        s,
+        t,
+        2,
+    )
+}
+
+fn amount_field(a: Action, s: &[u8], t: Slots) -> Digits
+    ensures { λ r. ⌜ r ≡ amountField a (slotsIn (now (s .entry)) t) ⌝ }
+{
+    digits_field(
+        Reader::Amount,
+        action::has_account(a),
+        Digits::Malformed,
+        s,
+        t,
+        3,
+    )
+}
+
+fn reason_field(a: Action, s: &[u8], t: Slots) -> Digits
+    ensures { λ r. ⌜ r ≡ reasonField a (slotsIn (now (s .entry)) t) ⌝ }
+{
+    digits_field(
+        Reader::Reason,
+        action::has_reason(a),
+        Digits::Malformed,
+        s,
+        t,
+        6,
+    )
 }
 
 // The number, no bytes where the action lacks it.
@@ -110,38 +185,6 @@ pub(crate) fn number_field(a: Action, s: &[u8], t: Slots) -> NumberRead
     number::read_number(scan::first_bytes(&b, n))
 }
 
-// The type, 1 where it is absent, 0 where the action lacks it.
-pub(crate) fn kind_field(a: Action, s: &[u8], t: Slots) -> Digits
-    ensures { λ r. ⌜ r ≡ kindField a (slotsIn (now (s .entry)) t) ⌝ }
-{
-    if !action::has_account(a) {
-        return Digits::Value(0);
-    }
-    let x = slots::text_of(s, t, 2);
-    if !x.present {
-        return Digits::Value(1);
-    }
-    let n = x.len;
-    let b = x.bytes;
-    codes::read_kind(scan::first_bytes(&b, n))
-}
-
-// The kopecks, 0 where the action lacks them.
-pub(crate) fn amount_field(a: Action, s: &[u8], t: Slots) -> Digits
-    ensures { λ r. ⌜ r ≡ amountField a (slotsIn (now (s .entry)) t) ⌝ }
-{
-    if !action::has_account(a) {
-        return Digits::Value(0);
-    }
-    let x = slots::text_of(s, t, 3);
-    if !x.present {
-        return Digits::Malformed;
-    }
-    let n = x.len;
-    let b = x.bytes;
-    amount::read_amount(scan::first_bytes(&b, n))
-}
-
 // The date, zeros where the action lacks it.
 pub(crate) fn date_field(a: Action, s: &[u8], t: Slots) -> DateRead
     ensures { λ r. ⌜ r ≡ dateField a (slotsIn (now (s .entry)) t) ⌝ }
@@ -159,22 +202,6 @@ pub(crate) fn date_field(a: Action, s: &[u8], t: Slots) -> DateRead
     let n = x.len;
     let b = x.bytes;
     date::read_date(scan::first_bytes(&b, n))
-}
-
-// The reason, 0 where the action lacks it.
-pub(crate) fn reason_field(a: Action, s: &[u8], t: Slots) -> Digits
-    ensures { λ r. ⌜ r ≡ reasonField a (slotsIn (now (s .entry)) t) ⌝ }
-{
-    if !action::has_reason(a) {
-        return Digits::Value(0);
-    }
-    let x = slots::text_of(s, t, 6);
-    if !x.present {
-        return Digits::Malformed;
-    }
-    let n = x.len;
-    let b = x.bytes;
-    codes::read_reason(scan::first_bytes(&b, n))
 }
 
 // What an action asks once receipt, number and type are read, or the first fault of amount, date and reason.

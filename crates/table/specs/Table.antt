@@ -69,10 +69,6 @@ hasReceipt x r = eqb (r .receipt) x
 unfoldable pub findRecord : ℕ → List Record → Found
 findRecord x rs = firstFrom (hasReceipt x) 0 rs
 
--- the receipts of the first n records
-unfoldable pub receiptsOf : List (List ℕ) → ℕ → List ℕ
-receiptsOf ns n = tab n (λ i. getD (getD ns i []) 0 0)
-
 -- the rows have n records, each with the lengths of its arrays
 pub record Whole (t : Rows) (n : ℕ) : Type 0 where
   pub nums : n ≤ length (t .nums)

@@ -1,19 +1,14 @@
 use borrow.Author.Needs.{needs}
-use Rattle.message.proofs.FieldLaws.{field-lacks, field-absent, field-read, kind-long}
+use Rattle.message.proofs.RequestLaws.{is-kind}
 use Rattle.message.proofs.request.kind_field.Statement.{statement}
 use Rattle.message.proofs.request.kind_field.Tie as tie
 
-ruleset laws = (field-lacks, field-absent, field-read, kind-long, needs)
+ruleset laws = (is-kind, needs)
 
 pub kind-field-spec : {M : Type 1} → statement M
 kind-field-spec =
     tie.close
     (tie.spec
-    (λ c κs. search laws)
-    (λ c. search laws)
-    (λ c κs. search laws)
-    (λ c. search laws)
-    (λ c. search laws)
     (λ c κs. search laws)
     (λ c κs. search laws)
     (λ c. search laws))
