@@ -5,12 +5,13 @@ use native.Mathlib.Nat.{add-suc, suc-add, add-zero, add-assoc}
 use native.Mathlib.Omega.{arith}
 use mathlib.Core.Path.{_≡_, refl, ap, sym, _∙_}
 use mathlib.Core.List.{List, [], _∷_, _++_, append-assoc}
-use lib.ListN.{length, getD, take, drop, set, length-append, length-drop, take-append-drop, drop-of-length-le}
-use lib.Seq.{take-suc-set, drop-set-lt, length-take-le, take-at, drop-append-add, drop-drop}
+use lib.ListN.{length, getD, take, drop, set, length-append, length-drop, take-append-drop, drop-of-length-le, List·getD-append}
+use lib.Seq.{take-suc-set, drop-set-lt, length-take-le, take-at, drop-append-add, drop-drop, getD-take, getD-drop, getD-append-add}
 use borrow.Author.Tests.{le-leb, lt-leb, leb-true}
 use lib.Dec.{leb}
 use mathlib.Core.Bool.{Bool, true, false, cond}
 use Rattle.fields.specs.Lists.{over, written, cursorAfter}
+use Rattle.fields.proofs.Tests.{cond-elim}
 use Rattle.fields.proofs.ListLaws.{drop-next}
 
 pub over-step : (d : List ℕ) (p x : ℕ) (xs : List ℕ) → p < length d → over d p (x ∷ xs) ≡ over (set d p x) (p + 1) xs
@@ -106,3 +107,35 @@ module _ (d : List ℕ) (at : ℕ) (xs ys : List ℕ) (fit : at + (length xs + l
       let q : at + length (xs ++ ys) ≤ length d = rw length-append (omega arith) in
       rw (← cursor-moves d at xs first-fits, ← written-over d at xs first-fits, ← written-over (over d at xs) (at + length xs) ys p, ← written-over d at (xs ++ ys) q)
       (over-over d at xs first-fits ys)
+
+-- ---- every byte outside the text stays: before the cursor, and from the cursor that is handed back on
+module _ (d : List ℕ) (at : ℕ) (xs : List ℕ) where
+  over-before : at + length xs ≤ length d → (i : ℕ) → i < at → getD (over d at xs) i 0 ≡ getD d i 0
+  over-before fit i h =
+      let l : length (take at d) ≡ at = length-take-le at d (omega arith) in
+      List·getD-append (take at d) (xs ++ drop (at + length xs) d) 0 i (omega arith) ∙ getD-take at d i 0 h
+
+  over-past : at + length xs ≤ length d → (i : ℕ) → at + length xs ≤ i → getD (over d at xs) i 0 ≡ getD d i 0
+  over-past fit i h =
+      let s : length (take at d ++ xs) ≡ at + length xs = head-size d at xs fit in
+      let e : i ≡ length (take at d ++ xs) + (i - (at + length xs)) = omega arith in
+      let f : i ≡ at + length xs + (i - (at + length xs)) = omega arith in
+      rw (← append-assoc (take at d) xs (drop (at + length xs) d))
+      (ap (λ (j : ℕ). getD ((take at d ++ xs) ++ drop (at + length xs) d) j 0) e
+      ∙ getD-append-add (take at d ++ xs) (drop (at + length xs) d) (i - (at + length xs)) 0
+      ∙ getD-drop (at + length xs) d (i - (at + length xs)) 0
+      ∙ ap (λ (j : ℕ). getD d j 0) (sym f))
+
+  pub bytes-before : (i : ℕ) → i < at → getD (written d at xs) i 0 ≡ getD d i 0
+  unfolding written
+  bytes-before i h =
+      cond-elim (λ (x : List ℕ). getD x i 0 ≡ getD d i 0) (leb (at + length xs) (length d)) (over d at xs) d
+      (λ t. over-before (leb-true (at + length xs) (length d) t) i h)
+      (λ _. refl)
+
+  pub bytes-past : (i : ℕ) → at + length xs ≤ i → getD (written d at xs) i 0 ≡ getD d i 0
+  unfolding written
+  bytes-past i h =
+      cond-elim (λ (x : List ℕ). getD x i 0 ≡ getD d i 0) (leb (at + length xs) (length d)) (over d at xs) d
+      (λ t. over-past (leb-true (at + length xs) (length d) t) i h)
+      (λ _. refl)

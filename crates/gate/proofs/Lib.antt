@@ -4,3 +4,4 @@ pub mod PlanLaws
 pub mod ChangeLaws
 pub mod DeliverLaws
 pub mod OpeningLaws
+pub mod AnswerGood
