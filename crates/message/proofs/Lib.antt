@@ -7,3 +7,4 @@ pub mod RequestAgain
 pub mod WriteTexts
 pub mod AskedLaws
 pub mod WriteLaws
+pub mod RequestRange

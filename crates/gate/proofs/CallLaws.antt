@@ -1,0 +1,215 @@
+-- Opening an account and drawing from one keep row 68, the balance bound too.
+use Prim.Native.Nat.{ℕ, zero, suc, _+_, _-_, _<_, _≤_}
+use native.Mathlib.Nat.{add-zero}
+use native.Mathlib.Numerals.{add-one}
+use native.Mathlib.Decide.{ℕ-discrete}
+use native.Mathlib.Omega.{arith}
+use mathlib.Core.Path.{_≡_, refl, sym, ap, _∙_}
+use mathlib.Core.Bool.{Bool, true, false, cond, not, _&&_}
+use mathlib.Core.List.{List, [], _∷_, _++_}
+use lib.Dec.{leb, ltb}
+use lib.IntN.{ℤ, pos, negsuc, _-ℤ_}
+use lib.Signed.{ltZ}
+use lib.ListN.{length, take, getD, set, length-set}
+use lib.Seq.{getD-set-same, getD-set-other, take-suc-set}
+use borrow.Author.Tests.{leb-true, leb-false, le-leb, not-true}
+use Rattle.fields.specs.declared.number.Number.{Number}
+use Rattle.fields.specs.Amount.{isAmount}
+use Rattle.fields.specs.Codes.{isKind}
+use Rattle.fields.specs.Number.{isNumber}
+use Rattle.fields.proofs.Tests.{and-left, and-right, cond-elim}
+use Rattle.table.specs.declared.Account.{Account}
+use Rattle.table.specs.declared.Gate.{Gate}
+use Rattle.table.specs.declared.Record.{Record}
+use Rattle.table.specs.declared.Found.{Found}
+use Rattle.table.specs.declared.Found.the-variants.{At, Nothing}
+use Rattle.table.specs.Lists.{firstFrom, isFound}
+use Rattle.table.specs.Table.{Rows, recordAt, Whole}
+use Rattle.table.specs.Accounts.{isAccount, accountsOf, findAccount, noAccount, withBalance, balanceAt, debited, opened}
+use Rattle.table.specs.Valid.{near, rangesGood, accountKnown, authcodeGood, recordGood, tableGood, Ready}
+use Rattle.table.proofs.AccountLaws.{holder-within}
+use Rattle.table.proofs.RangeLaws.{no-claim}
+use Rattle.gate.specs.declared.opening.Reply.{Reply}
+use Rattle.gate.specs.Deliver.{debitedAt}
+use Rattle.gate.specs.Opening.{replies, openTo, openCall, drawOn, drawFrom, drawCall}
+use Rattle.gate.proofs.GoodLaws.{Good, Near, and-both, good-table, near-table, table-again, ready-again}
+use Rattle.gate.proofs.RowsLaws.{SameNames, names-debited, good-there}
+
+-- ---- a balance that is drawn on stays in its bound
+near-minus : (z : ℤ) (n : ℕ) → near z ≡ true → ltZ z (pos n) ≡ false → near (z -ℤ pos n) ≡ true
+unfolding near
+near-minus (pos m) zero h e = rw add-zero h
+near-minus (pos m) (suc n) h e = pick (ltb m (suc n)) e
+  where
+    pick : (b : Bool) → b ≡ false → near (cond b (negsuc (suc n - suc m)) (pos (m - suc n))) ≡ true
+    pick true q = no-claim (sym q)
+    pick false q = le-leb (m - suc n) 10000000000000 (omega (arith, leb-true m 10000000000000 h))
+near-minus (negsuc m) n h e = no-claim (sym e)
+
+near-set : (l : List Account) (i j : ℕ) (x : Account) → near (x .balance) ≡ true → near ((getD l j noAccount) .balance) ≡ true
+    → near ((getD (set l i x) j noAccount) .balance) ≡ true
+near-set [] i j x new old = old
+near-set (y ∷ l) zero zero x new old = new
+near-set (y ∷ l) zero (suc j) x new old = old
+near-set (y ∷ l) (suc i) zero x new old = old
+near-set (y ∷ l) (suc i) (suc j) x new old = near-set l i j x new old
+
+-- balances in their bound stay there where a covered amount is taken
+pub near-debited : (g : Gate) (a n : ℕ) → Near g → a < g .count → ltZ (balanceAt g a) (pos n) ≡ false → Near (debited g a n)
+unfolding debited
+near-debited g a n bound h funds =
+    record {
+      balances = λ i l.
+          near-set (g .accounts) a i (withBalance (getD (g .accounts) a noAccount) (balanceAt g a -ℤ pos n)) (near-minus (balanceAt g a) n (bound .balances a h) funds) (bound .balances i l);
+    }
+
+-- ---- a gate with the same names keeps the clauses
+good-names : (g g′ : Gate) (t : Rows) → SameNames g g′ → g′ .used ≡ g .used → Good g t → Good g′ t
+good-names g g′ t same used good =
+    let few = same .count in
+    record {
+      some = good .some;
+      most = good .most;
+      numbers = good .numbers;
+      dates = good .dates;
+      room = omega (arith, good .room);
+      count = omega (arith, good .count);
+      closed = rw (same .closed) (good .closed);
+      number = λ i h. rw (same .number i) (good .number i (omega arith));
+      kind = λ i h. rw (same .kind i) (good .kind i (omega arith));
+      records = λ i h. good-there g g′ same i (recordAt t i) (good .records i (omega arith));
+    }
+
+-- ---- an account more
+found-more : (p : Account → Bool) (i : ℕ) (l m : List Account) → isFound (firstFrom p i l) ≡ true → isFound (firstFrom p i (l ++ m)) ≡ true
+unfolding firstFrom
+found-more p i [] m h = no-claim h
+found-more p i (y ∷ l) m h = go (p y) (λ q. found-more p (i + 1) l m q) h
+  where
+    go : (b : Bool) → (isFound (firstFrom p (i + 1) l) ≡ true → isFound (firstFrom p (i + 1) (l ++ m)) ≡ true)
+        → isFound (cond b (At i) (firstFrom p (i + 1) l)) ≡ true → isFound (cond b (At i) (firstFrom p (i + 1) (l ++ m))) ≡ true
+    go true up q = refl
+    go false up q = up q
+
+module _ (g : Gate) (n : Number) (k : ℕ) where
+  abbrev newAccount : Account
+  newAccount = record { number = n; kind = k; balance = pos 0 }
+
+  module _ (room : g .count < length (g .accounts)) where
+    accounts-more : accountsOf (opened g n k) ≡ accountsOf g ++ (newAccount ∷ [])
+    unfolding opened
+    accounts-more = rw add-one (take-suc-set (g .accounts) (g .count) newAccount room)
+
+    -- an opening adds one account and leaves each other as it was
+    pub opened-other : (i : ℕ) → i < g .count → getD ((opened g n k) .accounts) i noAccount ≡ getD (g .accounts) i noAccount
+    unfolding opened
+    opened-other i h = getD-set-other (g .accounts) (g .count) i newAccount noAccount (omega arith)
+
+    pub opened-new : getD ((opened g n k) .accounts) (g .count) noAccount ≡ newAccount
+    unfolding opened
+    opened-new = getD-set-same (g .accounts) (g .count) newAccount noAccount room
+
+    opened-each : (P : Account → Type 0) → P newAccount → ((i : ℕ) → i < g .count → P (getD (g .accounts) i noAccount))
+        → (i : ℕ) → i < g .count + 1 → P (getD ((opened g n k) .accounts) i noAccount)
+    opened-each P new old i h = pick (ℕ-discrete i (g .count))
+      where
+        pick : Dec (i ≡ g .count) → P (getD ((opened g n k) .accounts) i noAccount)
+        pick (yes e) = rw (e, opened-new) new
+        pick (no d) = let l : i < g .count = omega arith in rw (opened-other i l) (old i l)
+
+    opened-record : (i : ℕ) (r : Record) → recordGood g i r ≡ true → recordGood (opened g n k) i r ≡ true
+    unfolding recordGood accountKnown findAccount
+    opened-record i r h =
+        let rest = and-right (authcodeGood i r) _ h in
+        and-both (authcodeGood i r) _ (and-left (authcodeGood i r) _ h)
+        (and-both (rangesGood r) _ (and-left (rangesGood r) _ rest)
+        (rw accounts-more (found-more (isAccount (r .number) (r .kind)) 0 (accountsOf g) (newAccount ∷ []) (and-right (rangesGood r) _ rest))))
+
+    opened-good : (t : Rows) → isNumber n ≡ true → isKind k ≡ true → g .count < 256 → Good g t → Good (opened g n k) t
+    unfolding opened
+    opened-good t en ek few good =
+        record {
+          some = good .some;
+          most = good .most;
+          numbers = good .numbers;
+          dates = good .dates;
+          room = good .room;
+          count = omega arith;
+          closed = good .closed;
+          number = opened-each (λ (a : Account). isNumber (a .number) ≡ true) en (good .number);
+          kind = opened-each (λ (a : Account). isKind (a .kind) ≡ true) ek (good .kind);
+          records = λ i h. opened-record i (recordAt t i) (good .records i h);
+        }
+
+    opened-near : Near g → Near (opened g n k)
+    unfolding opened near
+    opened-near bound = record { balances = opened-each (λ (a : Account). near (a .balance) ≡ true) refl (bound .balances) }
+
+-- ---- the calls
+-- row 68 holds again, and the number of records and the closed day are as they were
+pub record Stands (g : Gate) (t : Rows) (g′ : Gate) : Type 0 where
+  pub table : tableGood g′ t ≡ true
+  pub ready : Ready g′ t
+  pub used : g′ .used ≡ g .used
+  pub closed : g′ .closed ≡ g .closed
+
+module _ (g : Gate) (t : Rows) (ready : Ready g t) (good : tableGood g t ≡ true) where
+  stands : (g′ : Gate) → length (g′ .accounts) ≡ 256 → Good g′ t → Near g′ → g′ .used ≡ g .used → g′ .closed ≡ g .closed → Stands g t g′
+  stands g′ places facts bound used closed =
+      record { table = table-again g′ t places facts bound; ready = ready-again g′ t places facts bound (rw used (ready .whole)); used = used; closed = closed }
+
+  same : (code : ℕ) → Stands g t ((replies code g) .gate)
+  same code = record { table = good; ready = ready; used = refl; closed = refl }
+
+  facts : Good g t
+  facts = good-table g t (ready .sound .places) good
+
+  bound : Near g
+  bound = near-table g t (ready .sound .places) good
+
+  abbrev StandsReply : Reply → Type 0
+  StandsReply r = Stands g t (r .gate)
+
+  opened-stands : (n : Number) (k : ℕ) → isNumber n && isKind k ≡ true → leb 256 (g .count) ≡ false → Stands g t (opened g n k)
+  unfolding opened
+  opened-stands n k named few =
+      let l : g .count < 256 = leb-false 256 (g .count) few in
+      let room : g .count < length (g .accounts) = omega (arith, ready .sound .places) in
+      stands (opened g n k) (length-set (g .accounts) (g .count) _ ∙ ready .sound .places)
+      (opened-good g n k room t (and-left (isNumber n) (isKind k) named) (and-right (isNumber n) (isKind k) named) l facts)
+      (opened-near g n k room bound) refl refl
+
+  -- ---- 5: an opening keeps row 68
+  pub open-good : (n : Number) (k : ℕ) → Stands g t ((openCall g t n k) .gate)
+  unfolding openCall openTo
+  open-good n k =
+      cond-elim StandsReply (tableGood g t) _ _
+      (λ _. cond-elim StandsReply (isNumber n && isKind k) _ _
+      (λ named. cond-elim StandsReply (isFound (findAccount n k (accountsOf g))) _ _ (λ _. same 56)
+      (λ _. cond-elim StandsReply (leb 256 (g .count)) _ _ (λ _. same 57) (λ few. opened-stands n k named few)))
+      (λ _. same 59))
+      (λ _. same 68)
+
+  debited-stands : (a m : ℕ) → a < g .count → ltZ (balanceAt g a) (pos m) ≡ false → Stands g t (debited g a m)
+  unfolding debited
+  debited-stands a m h funds =
+      let names : SameNames g (debited g a m) = names-debited g (At a) m in
+      stands (debited g a m) (names .places ∙ ready .sound .places) (good-names g (debited g a m) t names refl facts) (near-debited g a m bound h funds) refl (names .closed)
+
+  draw-on-stands : (f : Found) (m : ℕ) → ((a : ℕ) → f ≡ At a → a < g .count) → Stands g t ((drawOn g f m) .gate)
+  unfolding drawOn
+  draw-on-stands Nothing m within = same 59
+  draw-on-stands (At a) m within =
+      cond-elim StandsReply (isAmount m && not (ltZ (balanceAt g a) (pos m))) _ _
+      (λ covered. debited-stands a m (within a refl) (not-true _ (and-right (isAmount m) _ covered)))
+      (λ _. same 58)
+
+  -- a draw keeps row 68
+  pub draw-good : (n : Number) (k m : ℕ) → Stands g t ((drawCall g t n k m) .gate)
+  unfolding drawCall drawFrom
+  draw-good n k m =
+      cond-elim StandsReply (tableGood g t) _ _
+      (λ _. cond-elim StandsReply (isNumber n && isKind k) _ _
+      (λ _. draw-on-stands (findAccount n k (accountsOf g)) m (λ a e. holder-within g n k a (findAccount n k (accountsOf g)) refl e))
+      (λ _. same 59))
+      (λ _. same 68)

@@ -1,0 +1,153 @@
+-- Row 68 as facts: every clause but the balance bound, and what brings them all together again.
+use Prim.Native.Nat.{ℕ, zero, suc, _+_, _-_, _<_, _≤_}
+use native.Mathlib.Nat.{add-zero, zero-add}
+use native.Mathlib.Omega.{arith}
+use mathlib.Core.Path.{_≡_, refl, sym, ap, _∙_}
+use mathlib.Core.Bool.{Bool, true, false, cond, _&&_}
+use mathlib.Core.List.{List, [], _∷_, _++_}
+use lib.Dec.{eqb, leb}
+use lib.ListN.{length, take, getD, length-set}
+use lib.Seq.{getD-take}
+use borrow.Author.Tests.{eq-eqb, eqb-true, le-leb, leb-true}
+use Rattle.fields.specs.Calendar.{isDay}
+use Rattle.fields.specs.Codes.{isKind}
+use Rattle.fields.specs.Number.{isNumber}
+use Rattle.fields.proofs.Tests.{and-left, and-right}
+use Rattle.table.specs.declared.Account.{Account}
+use Rattle.table.specs.declared.Gate.{Gate}
+use Rattle.table.specs.declared.Record.{Record}
+use Rattle.table.specs.Lists.{allFrom}
+use Rattle.table.specs.Table.{Rows, recordAt, recordsOf, Whole, SameLengths}
+use Rattle.table.specs.Accounts.{accountsOf, noAccount, balanceAt}
+use Rattle.table.specs.Valid.{near, accountGood, gateGood, recordGood, lentGood, tableGood, Sound, Ready}
+use Rattle.table.proofs.ListLaws.{all-at}
+use Rattle.table.proofs.TableLaws.{length-records, getD-records}
+use Rattle.table.proofs.AccountLaws.{in-use}
+use Rattle.table.proofs.RangeLaws.{near-mag}
+use Rattle.gate.specs.Deliver.{noRecord}
+
+-- every clause of row 68 but the balance bound
+pub record Good (g : Gate) (t : Rows) : Type 0 where
+  pub some : 1 ≤ length (t .nums)
+  pub most : length (t .nums) ≤ 4096
+  pub numbers : length (t .numbers) ≡ length (t .nums)
+  pub dates : length (t .dates) ≡ length (t .nums)
+  pub room : g .used ≤ length (t .nums)
+  pub count : g .count ≤ 256
+  pub closed : isDay (g .closed) ≡ true
+  pub number : (i : ℕ) → i < g .count → isNumber ((getD (g .accounts) i noAccount) .number) ≡ true
+  pub kind : (i : ℕ) → i < g .count → isKind ((getD (g .accounts) i noAccount) .kind) ≡ true
+  pub records : (i : ℕ) → i < g .used → recordGood g i (recordAt t i) ≡ true
+
+-- the balance bound
+pub record Near (g : Gate) : Type 0 where
+  pub balances : (i : ℕ) → i < g .count → near (balanceAt g i) ≡ true
+
+-- ---- tests joined, and tests of every element
+pub and-both : (t u : Bool) → t ≡ true → u ≡ true → t && u ≡ true
+and-both t u p q = rw (p, q)
+
+all-of-from : {A : Type 0} (p : ℕ → A → Bool) (i : ℕ) (l : List A) (z : A) → ((j : ℕ) → j < length l → p (i + j) (getD l j z) ≡ true) → allFrom p i l ≡ true
+unfolding allFrom
+all-of-from p i [] z f = refl
+all-of-from p i (y ∷ ys) z f =
+    let a : p i y ≡ true = rw add-zero at (f 0 (omega arith)) in
+    and-both (p i y) (allFrom p (i + 1) ys) a (all-of-from p (i + 1) ys z (λ j h. next j (f (suc j) (omega arith))))
+  where
+    next : (j : ℕ) → p (i + suc j) (getD ys j z) ≡ true → p (i + 1 + j) (getD ys j z) ≡ true
+    next j e = let s : i + 1 + j ≡ i + suc j = omega arith in rw s e
+
+all-of : {A : Type 0} (p : ℕ → A → Bool) (l : List A) (z : A) → ((i : ℕ) → i < length l → p i (getD l i z) ≡ true) → allFrom p 0 l ≡ true
+all-of p l z f = all-of-from p 0 l z (λ j h. ap (λ (k : ℕ). p k (getD l j z)) (zero-add j) ∙ f j h)
+
+-- ---- from the test to the facts
+module _ (g : Gate) (t : Rows) (places : length (g .accounts) ≡ 256) (good : tableGood g t ≡ true) where
+  lent-good : lentGood g t ≡ true
+  unfolding tableGood
+  lent-good = and-left (lentGood g t) _ good
+
+  gate-good : gateGood g ≡ true
+  unfolding tableGood
+  gate-good = and-left (gateGood g) _ (and-right (lentGood g t) _ good)
+
+  few : g .count ≤ 256
+  unfolding gateGood
+  few = leb-true (g .count) 256 (and-left (leb (g .count) 256) _ gate-good)
+
+  account-good : (i : ℕ) → i < g .count → accountGood (getD (g .accounts) i noAccount) ≡ true
+  unfolding gateGood
+  account-good i h =
+      ap accountGood (sym (getD-take (g .count) (g .accounts) i noAccount h))
+      ∙ all-at (λ i a. accountGood a) (accountsOf g) noAccount i (and-right (isDay (g .closed)) _ (and-right (leb (g .count) 256) _ gate-good))
+      (omega (arith, in-use g places few))
+
+  -- the balances of a good table are in their bound
+  pub near-table : Near g
+  unfolding accountGood
+  near-table =
+      record {
+        balances = λ i h. and-right (isKind ((getD (g .accounts) i noAccount) .kind)) _ (and-right (isNumber ((getD (g .accounts) i noAccount) .number)) _ (account-good i h));
+      }
+
+  -- and every other clause holds
+  pub good-table : Good g t
+  unfolding tableGood lentGood gateGood accountGood
+  good-table =
+      let most = and-right (leb 1 (length (t .nums))) _ lent-good in
+      let numbers = and-right (leb (length (t .nums)) 4096) _ most in
+      let dates = and-right (eqb (length (t .numbers)) (length (t .nums))) _ numbers in
+      let room = and-right (eqb (length (t .dates)) (length (t .nums))) _ dates in
+      record {
+        some = leb-true 1 (length (t .nums)) (and-left (leb 1 (length (t .nums))) _ lent-good);
+        most = leb-true (length (t .nums)) 4096 (and-left (leb (length (t .nums)) 4096) _ most);
+        numbers = eqb-true _ _ (and-left (eqb (length (t .numbers)) (length (t .nums))) _ numbers);
+        dates = eqb-true _ _ (and-left (eqb (length (t .dates)) (length (t .nums))) _ dates);
+        room = leb-true (g .used) (length (t .nums)) room;
+        count = few;
+        closed = and-left (isDay (g .closed)) _ (and-right (leb (g .count) 256) _ gate-good);
+        number = λ i h. and-left (isNumber ((getD (g .accounts) i noAccount) .number)) _ (account-good i h);
+        kind = λ i h. and-left (isKind ((getD (g .accounts) i noAccount) .kind)) _ (and-right (isNumber ((getD (g .accounts) i noAccount) .number)) _ (account-good i h));
+        records = λ i h.
+            ap (recordGood g i) (sym (getD-records t (g .used) i noRecord h))
+            ∙ all-at (recordGood g) (recordsOf t (g .used)) noRecord i (and-right (gateGood g) _ (and-right (lentGood g t) _ good)) (omega (arith, length-records t (g .used)));
+      }
+
+-- ---- and back
+module _ (g : Gate) (t : Rows) (places : length (g .accounts) ≡ 256) (good : Good g t) (bound : Near g) where
+  account-again : (i : ℕ) → i < g .count → accountGood (getD (g .accounts) i noAccount) ≡ true
+  unfolding accountGood
+  account-again i h = rw (good .number i h, good .kind i h, bound .balances i h)
+
+  gate-again : gateGood g ≡ true
+  unfolding gateGood
+  gate-again =
+      and-both (leb (g .count) 256) _ (le-leb _ _ (good .count))
+      (and-both (isDay (g .closed)) _ (good .closed)
+      (all-of (λ i a. accountGood a) (accountsOf g) noAccount
+      (λ i h. one i (omega (arith, in-use g places (good .count))))))
+    where
+      one : (i : ℕ) → i < g .count → accountGood (getD (accountsOf g) i noAccount) ≡ true
+      one i h = ap accountGood (getD-take (g .count) (g .accounts) i noAccount h) ∙ account-again i h
+
+  records-again : allFrom (recordGood g) 0 (recordsOf t (g .used)) ≡ true
+  records-again =
+      all-of (recordGood g) (recordsOf t (g .used)) noRecord (λ i h. one i (omega (arith, length-records t (g .used))))
+    where
+      one : (i : ℕ) → i < g .used → recordGood g i (getD (recordsOf t (g .used)) i noRecord) ≡ true
+      one i h = ap (recordGood g i) (getD-records t (g .used) i noRecord h) ∙ good .records i h
+
+  -- the clauses and the balance bound are row 68
+  pub table-again : tableGood g t ≡ true
+  unfolding tableGood lentGood
+  table-again =
+      rw (le-leb _ _ (good .some), le-leb _ _ (good .most), eq-eqb _ _ (good .numbers), eq-eqb _ _ (good .dates), le-leb _ _ (good .room), gate-again, records-again)
+
+  -- and make the gate and the rows ready, where each used record has its lengths
+  pub ready-again : Whole t (g .used) → Ready g t
+  ready-again w =
+      record {
+        whole = w;
+        same = record { numbers = good .numbers; dates = good .dates };
+        sound = record { places = places; count = good .count; balances = λ i h. near-mag (balanceAt g i) (bound .balances i h) };
+        size = good .most;
+      }

@@ -1,0 +1,130 @@
+-- A call that gives a fault keeps everything: the gate, the rows, and with 68, 50 and 51 the buffer too.
+use Prim.Native.Nat.{ℕ, _≤_, _<_}
+use mathlib.Core.Path.{_≡_, refl, sym, ap, _∙_}
+use mathlib.Core.Bool.{Bool, true, false, cond, not, _&&_}
+use mathlib.Core.List.{List}
+use lib.Dec.{eqb, leb}
+use lib.IntN.{pos}
+use lib.Signed.{ltZ}
+use lib.ListN.{length}
+use borrow.Author.Tests.{lt-leb, le-leb, eqb-true, eqb-false}
+use Rattle.fields.specs.declared.number.Number.{Number}
+use Rattle.fields.specs.Lists.{written}
+use Rattle.fields.specs.Amount.{isAmount}
+use Rattle.fields.specs.Codes.{isKind}
+use Rattle.fields.specs.Number.{isNumber}
+use Rattle.fields.specs.Date.{isWritten}
+use Rattle.fields.proofs.Tests.{cond-elim}
+use Rattle.message.specs.declared.request.Asked.{Asked}
+use Rattle.message.specs.declared.request.RequestRead.{RequestRead}
+use Rattle.message.specs.Request.{requestRead}
+use Rattle.answers.specs.Answer.{answerBytes}
+use Rattle.table.specs.declared.Gate.{Gate}
+use Rattle.table.specs.declared.Found.{Found}
+use Rattle.table.specs.declared.Found.the-variants.{At, Nothing}
+use Rattle.table.specs.Lists.{isFound}
+use Rattle.table.specs.Table.{Rows, recordsOf, rowsFrom}
+use Rattle.table.specs.Accounts.{accountsOf, findAccount, balanceAt, debited, opened}
+use Rattle.table.specs.Valid.{tableGood, Ready}
+use Rattle.table.proofs.TableLaws.{rows-kept}
+use Rattle.gate.specs.declared.opening.Reply.{Reply}
+use Rattle.gate.specs.Deliver.{noRecord, answerOf, Delivered, respond, deliverRead, deliver}
+use Rattle.gate.specs.Opening.{replies, openTo, openCall, drawOn, drawFrom, drawCall}
+use Rattle.gate.proofs.OnceLaws.{Outcome, stays, appends, revokes, outcome}
+
+-- ---- a delivery by its tests
+abbrev pub refusal : ℕ → Gate → Rows → List ℕ → Delivered
+refusal code g t out = record { code = code; gate = g; rows = t; out = out }
+
+module _ (g : Gate) (t : Rows) (clock params out : List ℕ) where
+  -- a table that is not good: 68, and nothing changes, the buffer neither
+  pub refused-table : tableGood g t ≡ false → deliver g t clock params out ≡ refusal 68 g t out
+  unfolding deliver
+  refused-table h = rw h
+
+  -- a buffer under 512 bytes: 50, and nothing changes
+  pub refused-room : tableGood g t ≡ true → length out < 512 → deliver g t clock params out ≡ refusal 50 g t out
+  unfolding deliver
+  refused-room h l = rw (h, lt-leb _ _ l)
+
+  -- a clock that is no date: 51, and nothing changes
+  pub refused-clock : tableGood g t ≡ true → 512 ≤ length out → isWritten clock ≡ false → deliver g t clock params out ≡ refusal 51 g t out
+  unfolding deliver
+  refused-clock h l c = rw (h, le-leb _ _ l, c)
+
+  -- what holds of every refusal and of every answer to a request read without fault holds of a delivery
+  pub delivered-by : (P : Delivered → Type 0) → ((code : ℕ) (left : List ℕ) → P (refusal code g t left))
+      → (tableGood g t ≡ true → isWritten clock ≡ true → (requestRead params) .fault ≡ 0 → P (respond g t clock ((requestRead params) .asked) out))
+      → P (deliver g t clock params out)
+  unfolding deliver deliverRead
+  delivered-by P keep answer =
+      let q : RequestRead = requestRead params in
+      cond-elim P (tableGood g t) _ _
+      (λ good. cond-elim P (leb 512 (length out)) _ _
+      (λ _. cond-elim P (isWritten clock) _ _
+      (λ dated. cond-elim P (eqb (q .fault) 0) _ _
+      (λ none. answer good dated (eqb-true (q .fault) 0 none))
+      (λ _. keep (q .fault) (written out 0 (answerBytes (answerOf (q .asked .action) (q .fault) noRecord clock)))))
+      (λ _. keep 51 out))
+      (λ _. keep 50 out))
+      (λ _. keep 68 out)
+
+-- ---- 1: a fault keeps the gate and the rows
+pub record Kept (g : Gate) (t : Rows) (d : Delivered) : Type 0 where
+  pub gate : d .gate ≡ g
+  pub rows : d .rows ≡ t
+
+module _ (g : Gate) (t : Rows) (ready : Ready g t) (clock : List ℕ) where
+  -- a decision with a code other than 0 keeps the gate and the rows
+  pub respond-keeps : (q : Asked) (out : List ℕ) → ((respond g t clock q out) .code ≡ 0 → ⊥) → Kept g t (respond g t clock q out)
+  respond-keeps q out = go (respond g t clock q out) (outcome g t clock q out)
+    where
+      go : (d : Delivered) → Outcome g t clock q d → (d .code ≡ 0 → ⊥) → Kept g t d
+      go d (stays eg er) n = record { gate = eg; rows = er ∙ rows-kept t (g .used) (ready .whole) }
+      go d (appends a ea en ef room day ec eg er) n = absurd (n ec)
+      go d (revokes i r f ea ei er ef es ec eg el) n = absurd (n ec)
+
+  -- a delivery with a code other than 0 keeps the gate and the rows
+  pub fault-keeps : (params out : List ℕ) → ((deliver g t clock params out) .code ≡ 0 → ⊥) → Kept g t (deliver g t clock params out)
+  fault-keeps params out =
+      delivered-by g t clock params out (λ (d : Delivered). (d .code ≡ 0 → ⊥) → Kept g t d)
+      (λ code left n. record { gate = refl; rows = refl })
+      (λ _ _ _. respond-keeps ((requestRead params) .asked) out)
+
+-- ---- the same for opening an account and drawing from one
+abbrev pub ReplyKeeps : Gate → Reply → Type 0
+ReplyKeeps g r = (r .code ≡ 0 → ⊥) → r .gate ≡ g
+
+module _ (g : Gate) where
+  refuses : (code : ℕ) → ReplyKeeps g (replies code g)
+  refuses code n = refl
+
+  done : (h : Gate) → ReplyKeeps g (replies 0 h)
+  done h n = absurd (n refl)
+
+  open-to-keeps : (n : Number) (k : ℕ) → ReplyKeeps g (openTo g n k)
+  unfolding openTo
+  open-to-keeps n k =
+      cond-elim (ReplyKeeps g) (isNumber n && isKind k) _ _
+      (λ _. cond-elim (ReplyKeeps g) (isFound (findAccount n k (accountsOf g))) _ _ (λ _. refuses 56)
+      (λ _. cond-elim (ReplyKeeps g) (leb 256 (g .count)) _ _ (λ _. refuses 57) (λ _. done (opened g n k))))
+      (λ _. refuses 59)
+
+  draw-on-keeps : (f : Found) (m : ℕ) → ReplyKeeps g (drawOn g f m)
+  unfolding drawOn
+  draw-on-keeps Nothing m = refuses 59
+  draw-on-keeps (At a) m =
+      cond-elim (ReplyKeeps g) (isAmount m && not (ltZ (balanceAt g a) (pos m))) _ _ (λ _. done (debited g a m)) (λ _. refuses 58)
+
+  -- an opening with a code other than 0 keeps the gate
+  pub open-keeps : (t : Rows) (n : Number) (k : ℕ) → ((openCall g t n k) .code ≡ 0 → ⊥) → (openCall g t n k) .gate ≡ g
+  unfolding openCall
+  open-keeps t n k = cond-elim (ReplyKeeps g) (tableGood g t) _ _ (λ _. open-to-keeps n k) (λ _. refuses 68)
+
+  -- a draw with a code other than 0 keeps the gate
+  pub draw-keeps : (t : Rows) (n : Number) (k m : ℕ) → ((drawCall g t n k m) .code ≡ 0 → ⊥) → (drawCall g t n k m) .gate ≡ g
+  unfolding drawCall drawFrom
+  draw-keeps t n k m =
+      cond-elim (ReplyKeeps g) (tableGood g t) _ _
+      (λ _. cond-elim (ReplyKeeps g) (isNumber n && isKind k) _ _ (λ _. draw-on-keeps (findAccount n k (accountsOf g)) m) (λ _. refuses 59))
+      (λ _. refuses 68)

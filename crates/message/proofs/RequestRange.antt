@@ -1,0 +1,214 @@
+-- What a request that was read without fault holds: each field that the action has is in its range, and arrays have their lengths.
+use Prim.Native.Nat.{ℕ, suc}
+use native.Mathlib.Omega.{arith}
+use mathlib.Core.Path.{_≡_, refl, sym, ap, _∙_}
+use mathlib.Core.Bool.{Bool, true, false, cond, not, _&&_, _||_}
+use mathlib.Core.List.{List, [], _∷_, _++_}
+use lib.Dec.{eqb, leb}
+use lib.ListN.{length, drop, getD, replicate, length-append, length-drop}
+use borrow.Author.Tests.{eqb-true, eqb-false, leb-true}
+use Rattle.fields.specs.declared.digits.Digits.{Digits}
+use Rattle.fields.specs.declared.digits.Digits.the-variants.{Value, Malformed}
+use Rattle.fields.specs.declared.number.Number.{Number}
+use Rattle.fields.specs.declared.number.NumberRead.{NumberRead}
+use Rattle.fields.specs.declared.date.DateRead.{DateRead}
+use Rattle.fields.specs.Lists.{every}
+use Rattle.fields.specs.Digits.{faultOf}
+use Rattle.fields.specs.Amount.{isAmount, amountRead}
+use Rattle.fields.specs.Codes.{isReceipt, isKind, isReason, receiptRead, kindRead, reasonRead}
+use Rattle.fields.specs.Number.{numberByte, isNumber, isNumberText, numberOf, noNumber, numberRead}
+use Rattle.fields.specs.Date.{isWritten, emptyDate, noDate, dateRead}
+use Rattle.fields.proofs.Tests.{and-left, and-right, cond-elim}
+use Rattle.fields.proofs.DigitLaws.{range-within}
+use Rattle.fields.proofs.AmountLaws.{amount-within}
+use Rattle.fields.proofs.NumberLaws.{text-of}
+use Rattle.fields.proofs.DateLaws.{written-parts}
+use Rattle.coding.specs.Url.{decoded}
+use Rattle.message.specs.declared.action.Action.{Action}
+use Rattle.message.specs.declared.action.Action.the-variants.{Check}
+use Rattle.message.specs.declared.action.ActionRead.{ActionRead}
+use Rattle.message.specs.declared.action.ActionRead.the-variants.{Known, Unknown}
+use Rattle.message.specs.declared.request.Asked.{Asked}
+use Rattle.message.specs.declared.request.RequestRead.{RequestRead}
+use Rattle.message.specs.Names.{actionOf, hasAccount, hasReceipt, hasDate, hasReason}
+use Rattle.message.specs.Slots.{Slot, Absent, Holds, Gathered, Broken, Values, gathered}
+use Rattle.message.specs.Request.{held, fieldOf, unusedNumber, receiptField, numberField, kindField, amountField, dateField, reasonField, valueIn, refused, firstFault, fieldFault, askedOf, fieldsRead, actionRead, valuesRead, requestRead}
+use Rattle.message.specs.RequestText.{isAsked}
+
+-- each field that the action has is in its range
+pub record AskedGood (q : Asked) : Type 0 where
+  pub receipt : hasReceipt (q .action) ≡ true → isReceipt (q .receipt) ≡ true
+  pub number : hasAccount (q .action) ≡ true → isNumber (q .number) ≡ true
+  pub kind : hasAccount (q .action) ≡ true → isKind (q .kind) ≡ true
+  pub amount : hasAccount (q .action) ≡ true → isAmount (q .amount) ≡ true
+  pub date : hasDate (q .action) ≡ true → isWritten (q .date) ≡ true
+  pub reason : hasReason (q .action) ≡ true → isReason (q .reason) ≡ true
+  pub dated : length (q .date) ≡ 19
+  pub sized : length (q .number .bytes) ≡ 30
+
+-- ---- digit fields
+module _ (good : ℕ → Bool) (code : ℕ) where
+  digits-good : (d : Digits) → faultOf (suc code) d ≡ 0 → ((v : ℕ) → Value v ≡ d → good v ≡ true) → good (valueIn d) ≡ true
+  digits-good Malformed e f = absurd (omega arith)
+  digits-good (Value v) e f = f v refl
+
+  field-good : (absent : Digits) (read : List ℕ → Digits) → ((v : ℕ) → Value v ≡ absent → good v ≡ true) → ((s : List ℕ) (v : ℕ) → Value v ≡ read s → good v ≡ true)
+      → (used : Bool) (k : Slot) → faultOf (suc code) (fieldOf used (Value 0) absent read k) ≡ 0 → used ≡ true
+      → good (valueIn (fieldOf used (Value 0) absent read k)) ≡ true
+  unfolding fieldOf held
+  field-good absent read fa fr false k e u = let z : _≡_ {A = ℕ} 0 1 = cc in absurd (omega arith)
+  field-good absent read fa fr true Absent e u = digits-good absent e fa
+  field-good absent read fa fr true (Holds v) e u = digits-good (read (decoded v)) e (fr (decoded v))
+
+no-value : {A : Type 0} (v : ℕ) → Value v ≡ Malformed → A
+no-value v e = let z : _≡_ {A = ℕ} 0 1 = cc in absurd (omega arith)
+
+one-kind : (v : ℕ) → Value v ≡ Value 1 → isKind v ≡ true
+one-kind v e = let z : v ≡ 1 = cc in rw z
+
+-- ---- numbers and dates
+ok-true : (b : Bool) (code : ℕ) → cond b 0 (suc code) ≡ 0 → b ≡ true
+ok-true true code e = refl
+ok-true false code e = absurd (omega arith)
+
+not-ok : {A : Type 0} → false ≡ true → A
+not-ok e = let z : _≡_ {A = ℕ} 0 1 = cc in absurd (omega arith)
+
+text-number : (s : List ℕ) → isNumberText s ≡ true → isNumber (numberOf s) ≡ true
+unfolding isNumber isNumberText
+text-number s h = rw (text-of s) h
+
+text-thirty : (s : List ℕ) → isNumberText s ≡ true → length ((numberOf s) .bytes) ≡ 30
+unfolding isNumberText
+text-thirty s h =
+    let l = leb-true (length s) 30 (and-left (leb (length s) 30) (every numberByte s) (and-right (leb 1 (length s)) _ h)) in
+    length-append s (drop (length s) (replicate 30 0)) ∙ omega (arith, length-drop {A = ℕ} (length s) (replicate 30 0))
+
+number-reads : (s : List ℕ) → (numberRead s) .ok ≡ true → isNumber ((numberRead s) .number) ≡ true
+unfolding numberRead
+number-reads s =
+    cond-elim (λ (r : NumberRead). r .ok ≡ true → isNumber (r .number) ≡ true) (isNumberText s) _ _ (λ h _. text-number s h) (λ _ e. not-ok e)
+
+number-thirty : (s : List ℕ) → length ((numberRead s) .number .bytes) ≡ 30
+unfolding numberRead
+number-thirty s = cond-elim (λ (r : NumberRead). length (r .number .bytes) ≡ 30) (isNumberText s) _ _ (λ h. text-thirty s h) (λ _. refl)
+
+date-reads : (s : List ℕ) → (dateRead s) .ok ≡ true → isWritten ((dateRead s) .date) ≡ true
+unfolding dateRead
+date-reads s = cond-elim (λ (r : DateRead). r .ok ≡ true → isWritten (r .date) ≡ true) (isWritten s) _ _ (λ h _. h) (λ _ e. not-ok e)
+
+date-nineteen : (s : List ℕ) → length ((dateRead s) .date) ≡ 19
+unfolding dateRead
+date-nineteen s = cond-elim (λ (r : DateRead). length (r .date) ≡ 19) (isWritten s) _ _ (λ h. (written-parts s h) .size) (λ _. refl)
+
+module _ (used : Bool) (k : Slot) where
+  abbrev numberIn : NumberRead
+  numberIn = fieldOf used (record { ok = true; number = unusedNumber }) noNumber numberRead k
+
+  abbrev dateIn : DateRead
+  dateIn = fieldOf used (record { ok = true; date = emptyDate }) noDate dateRead k
+
+number-good : (used : Bool) (k : Slot) → (numberIn used k) .ok ≡ true → used ≡ true → isNumber ((numberIn used k) .number) ≡ true
+unfolding fieldOf held
+number-good false k e u = not-ok u
+number-good true Absent e u = not-ok e
+number-good true (Holds v) e u = number-reads (decoded v) e
+
+number-sized : (used : Bool) (k : Slot) → length ((numberIn used k) .number .bytes) ≡ 30
+unfolding fieldOf held
+number-sized false k = refl
+number-sized true Absent = refl
+number-sized true (Holds v) = number-thirty (decoded v)
+
+date-good : (used : Bool) (k : Slot) → (dateIn used k) .ok ≡ true → used ≡ true → isWritten ((dateIn used k) .date) ≡ true
+unfolding fieldOf held
+date-good false k e u = not-ok u
+date-good true Absent e u = not-ok e
+date-good true (Holds v) e u = date-reads (decoded v) e
+
+date-sized : (used : Bool) (k : Slot) → length ((dateIn used k) .date) ≡ 19
+unfolding fieldOf held
+date-sized false k = refl
+date-sized true Absent = refl
+date-sized true (Holds v) = date-nineteen (decoded v)
+
+-- ---- no fault in a list of faults
+fault-none : (f : ℕ) (fs : List ℕ) → firstFault (f ∷ fs) ≡ 0 → (f ≡ 0) × (firstFault fs ≡ 0)
+unfolding firstFault
+fault-none f fs = go (eqb f 0) refl
+  where
+    go : (b : Bool) → eqb f 0 ≡ b → cond b (firstFault fs) f ≡ 0 → (f ≡ 0) × (firstFault fs ≡ 0)
+    go true e h = (eqb-true f 0 e, h)
+    go false e h = absurd (eqb-false f 0 e h)
+
+fields-good : (a : Action) (t : List Slot) → fieldFault a t ≡ 0 → AskedGood (askedOf a t)
+unfolding fieldFault askedOf
+fields-good a t h =
+    let receipt = fault-none _ _ h in
+    let number = fault-none _ _ (receipt .1) in
+    let kind = fault-none _ _ (number .1) in
+    let amount = fault-none _ _ (kind .1) in
+    let date = fault-none _ _ (amount .1) in
+    let reason = fault-none _ _ (date .1) in
+    record {
+      receipt = field-good isReceipt 3 Malformed receiptRead (λ v e. no-value v e) (range-within 15 1 999999999999999) (hasReceipt a) (getD t 4 Absent) (receipt .0);
+      number = number-good (hasAccount a) (getD t 1 Absent) (ok-true _ 1 (number .0));
+      kind = field-good isKind 1 (Value 1) kindRead one-kind (range-within 3 0 999) (hasAccount a) (getD t 2 Absent) (kind .0);
+      amount = field-good isAmount 2 Malformed amountRead (λ v e. no-value v e) amount-within (hasAccount a) (getD t 3 Absent) (amount .0);
+      date = date-good (hasDate a) (getD t 5 Absent) (ok-true _ 4 (date .0));
+      reason = field-good isReason 31 Malformed reasonRead (λ v e. no-value v e) (range-within 1 1 5) (hasReason a) (getD t 6 Absent) (reason .0);
+      dated = date-sized (hasDate a) (getD t 5 Absent);
+      sized = number-sized (hasAccount a) (getD t 1 Absent);
+    }
+
+-- ---- the request
+abbrev ReadGood : RequestRead → Type 0
+ReadGood r = r .fault ≡ 0 → AskedGood (r .asked)
+
+refused-good : (f : ℕ) (a : Action) → (f ≡ 0 → ⊥) → ReadGood (refused f a)
+unfolding refused
+refused-good f a n e = absurd (n e)
+
+values-good : (x : Gathered) → ReadGood (valuesRead x)
+unfolding fieldsRead
+values-good Broken = refused-good 31 Check (λ e. omega arith)
+values-good (Values s) = go (held Unknown actionOf (getD s 0 Absent))
+  where
+    go : (a : ActionRead) → ReadGood (actionRead a s)
+    go Unknown = refused-good 1 Check (λ e. omega arith)
+    go (Known a) =
+        cond-elim ReadGood (eqb (fieldFault a s) 0) (record { fault = 0; asked = askedOf a s }) (refused (fieldFault a s) a)
+        (λ h _. fields-good a s (eqb-true (fieldFault a s) 0 h))
+        (λ h. refused-good (fieldFault a s) a (eqb-false (fieldFault a s) 0 h))
+
+-- a request read without fault holds what its action has, each in its range
+pub read-good : (s : List ℕ) → (requestRead s) .fault ≡ 0 → AskedGood ((requestRead s) .asked)
+unfolding requestRead
+read-good s =
+    cond-elim ReadGood (leb (length s) 2048) (valuesRead (gathered s)) (refused 31 Check)
+    (λ _. values-good (gathered s))
+    (λ _. refused-good 31 Check (λ e. omega arith))
+
+used-if : (u p : Bool) → (u ≡ true → p ≡ true) → not u || p ≡ true
+used-if true p f = f refl
+used-if false p f = refl
+
+-- and passes the test that a writer makes
+pub read-asked : (s : List ℕ) → (requestRead s) .fault ≡ 0 → isAsked ((requestRead s) .asked) ≡ true
+unfolding isAsked
+read-asked s h =
+    let q : Asked = (requestRead s) .asked in
+    let g : AskedGood q = read-good s h in
+    rw (
+      used-if (hasReceipt (q .action)) (isReceipt (q .receipt)) (g .receipt),
+      used-if (hasAccount (q .action)) (isNumber (q .number) && (isKind (q .kind) && isAmount (q .amount))) (λ u. rw (g .number u, g .kind u, g .amount u)),
+      used-if (hasDate (q .action)) (isWritten (q .date)) (g .date),
+      used-if (hasReason (q .action)) (isReason (q .reason)) (g .reason),
+    )
+
+-- its date has nineteen bytes, its number thirty
+pub read-dated : (s : List ℕ) → (requestRead s) .fault ≡ 0 → length ((requestRead s) .asked .date) ≡ 19
+read-dated s h = (read-good s h) .dated
+
+pub read-sized : (s : List ℕ) → (requestRead s) .fault ≡ 0 → length ((requestRead s) .asked .number .bytes) ≡ 30
+read-sized s h = (read-good s h) .sized
