@@ -31,6 +31,7 @@ use Rattle.gate.specs.declared.plan.Plan.{Plan}
 use Rattle.gate.specs.Decision.{keeps, paymentNew, cancelDone, decision}
 use Rattle.gate.specs.Deliver.{Within, recordFound, standingOf, accountOf, isFull, viewOf, planWith, planOf, makeRecord, revoked, creditedAt, debitedAt, replacedAt, Changed, changed, Made}
 use Rattle.gate.proofs.PlanLaws.{found-within, found-amount, account-within}
+use Rattle.gate.proofs.OnceLaws.{append-of}
 
 -- ---- balances of the account that was found
 module _ (g : Gate) (f : Found) (a : ℕ) (is : f ≡ At a) where
@@ -77,40 +78,6 @@ revoked-rows t used f r r′ e t′ q = q ∙ rw e
 pub used-more : (x y : Gate) (n : ℕ) → x ≡ y → record { accounts = x .accounts; count = x .count; closed = x .closed; used = n } ≡ withUsed y n
 used-more x y n e = ap (λ (z : Gate). withUsed z n) e
 
--- ---- which decisions change what
-append-room : (v : View) (d : Decided) → d ≡ paymentNew v → d .change ≡ Append → v .full ≡ false
-unfolding paymentNew
-append-room v d e h = go (v .closed) (v .known) (v .full) (sym (ap (λ (x : Decided). x .change) e) ∙ h)
-  where
-    go : (c k f : Bool) → (cond c (keeps 5) (cond k (cond f (keeps 30) (record { code = 0; change = Append })) (keeps 2))) .change ≡ Append → f ≡ false
-    go true k f h = let z : _≡_ {A = ℕ} 0 1 = cc in absurd (omega arith)
-    go false true true h = let z : _≡_ {A = ℕ} 0 1 = cc in absurd (omega arith)
-    go false true false h = refl
-    go false false f h = let z : _≡_ {A = ℕ} 0 1 = cc in absurd (omega arith)
-
-cancel-never-appends : (v : View) → (cancelDone v) .change ≡ Append → ⊥
-unfolding cancelDone
-cancel-never-appends v h = go (v .closed) (v .short) h
-  where
-    go : (c s : Bool) → (cond c (keeps 9) (cond s (keeps 9) (record { code = 0; change = Revoke }))) .change ≡ Append → ⊥
-    go true s h = let z : _≡_ {A = ℕ} 0 1 = cc in omega arith
-    go false true h = let z : _≡_ {A = ℕ} 0 1 = cc in omega arith
-    go false false h = let z : _≡_ {A = ℕ} 0 1 = cc in omega arith
-
--- only a payment that finds room is recorded
-decided-room : (a : Action) (s : Standing) (v : View) → (decision a s v) .change ≡ Append → v .full ≡ false
-unfolding decision
-decided-room Check s v h = let z : _≡_ {A = ℕ} 0 1 = cc in absurd (omega arith)
-decided-room Payment Unrecorded v h = append-room v (paymentNew v) refl h
-decided-room Payment Done v h = let z : _≡_ {A = ℕ} 0 1 = cc in absurd (omega arith)
-decided-room Payment Cancelled v h = let z : _≡_ {A = ℕ} 0 1 = cc in absurd (omega arith)
-decided-room Status Unrecorded v h = let z : _≡_ {A = ℕ} 0 1 = cc in absurd (omega arith)
-decided-room Status Done v h = let z : _≡_ {A = ℕ} 0 1 = cc in absurd (omega arith)
-decided-room Status Cancelled v h = let z : _≡_ {A = ℕ} 0 1 = cc in absurd (omega arith)
-decided-room Cancel Unrecorded v h = let z : _≡_ {A = ℕ} 0 1 = cc in absurd (omega arith)
-decided-room Cancel Done v h = absurd (cancel-never-appends v h)
-decided-room Cancel Cancelled v h = let z : _≡_ {A = ℕ} 0 1 = cc in absurd (omega arith)
-
 -- ---- what a plan gives the change
 module _ (g : Gate) (t : Rows) (q : Asked) (p : Plan) (is : p ≡ planOf g (recordsOf t (g .used)) (length (t .nums)) q) where
   pub plan-room : p .decided .change ≡ Append → g .used < length (t .nums)
@@ -119,7 +86,7 @@ module _ (g : Gate) (t : Rows) (q : Asked) (p : Plan) (is : p ≡ planOf g (reco
       let r : Record = recordFound (recordsOf t (g .used)) (findRecord (q .receipt) (recordsOf t (g .used))) in
       let f : Found = findRecord (q .receipt) (recordsOf t (g .used)) in
       let z : leb (length (t .nums)) (g .used) ≡ false =
-      decided-room (q .action) (standingOf f r) (viewOf g (length (t .nums)) q r (accountOf g q r)) (sym (ap (λ (x : Plan). x .decided .change) is) ∙ h) in
+      (append-of (q .action) (standingOf f r) (viewOf g (length (t .nums)) q r (accountOf g q r)) (sym (ap (λ (x : Plan). x .decided .change) is) ∙ h)) .room in
       leb-false (length (t .nums)) (g .used) z
 
   pub plan-found : tableGood g t ≡ true → Within (p .found) (g .used)

@@ -69,7 +69,7 @@ module _ (g : Gate) (t : Rows) (clock params out : List ℕ) where
       (λ _. keep 50 out))
       (λ _. keep 68 out)
 
--- ---- 1: a fault keeps the gate and the rows
+-- ---- a fault keeps the gate and the rows
 pub record Kept (g : Gate) (t : Rows) (d : Delivered) : Type 0 where
   pub gate : d .gate ≡ g
   pub rows : d .rows ≡ t

@@ -41,7 +41,7 @@ not-revoke h = let z : _≡_ {A = ℕ} 0 1 = cc in absurd (omega arith)
 append-revoke : {A : Type 0} → Append ≡ Revoke → A
 append-revoke h = let z : _≡_ {A = ℕ} 0 1 = cc in absurd (omega arith)
 
--- ---- 2: nothing but a payment appends, and nothing but a cancel revokes
+-- ---- nothing but a payment appends, and nothing but a cancel revokes
 pub record Appends (a : Action) (s : Standing) (v : View) : Type 0 where
   pub action : a ≡ Payment
   pub standing : s ≡ Unrecorded
@@ -224,7 +224,7 @@ outcome g t clock q out =
     let p : Plan = planWith g (length (t .nums)) q f r in
     outcome-at g t clock q out f r rs refl refl refl (p .decided .change) p refl refl
 
--- ---- 3: a recorded receipt is never credited again
+-- ---- a recorded receipt is never credited again
 sub-below : (a n : ℕ) → subℕ a n ≤ℤ pos a
 sub-below a n = pick (ltb a n)
   where
@@ -255,7 +255,7 @@ unfolding debited
 debit-below g Nothing n j = ≤ℤ-refl _
 debit-below g (At a) n j = balance-set (g .accounts) a j (withBalance (getD (g .accounts) a noAccount) (balanceAt g a -ℤ pos n)) (minus-below (balanceAt g a) n)
 
-debit-used : (g : Gate) (f : Found) (n : ℕ) → (debitedAt g f n) .used ≡ g .used
+pub debit-used : (g : Gate) (f : Found) (n : ℕ) → (debitedAt g f n) .used ≡ g .used
 unfolding debited
 debit-used g Nothing n = refl
 debit-used g (At a) n = refl

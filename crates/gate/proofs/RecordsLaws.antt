@@ -17,7 +17,7 @@ use Rattle.table.specs.Table.{Rows, recordAt, recordsOf, rowsFrom}
 use Rattle.table.specs.Accounts.{debited}
 use Rattle.table.proofs.TableLaws.{length-records, getD-records, from-at}
 use Rattle.gate.specs.Deliver.{noRecord, makeRecord, revoked, debitedAt, respond, deliver, Delivered}
-use Rattle.gate.proofs.OnceLaws.{Outcome, stays, appends, revokes, outcome}
+use Rattle.gate.proofs.OnceLaws.{Outcome, stays, appends, revokes, outcome, debit-used}
 use Rattle.gate.proofs.KeepsLaws.{delivered-by}
 
 -- what a record is known by, and a record that is not done is final
@@ -53,11 +53,6 @@ revoked-identity : (clock : List ℕ) (r : Record) → r .state ≡ 1 → SameId
 unfolding revoked
 revoked-identity clock r h =
     record { receipt = refl; number = refl; kind = refl; amount = refl; date = refl; authcode = refl; credit = refl; final = λ n. absurd (n h) }
-
-pub debit-used : (g : Gate) (f : Found) (n : ℕ) → (debitedAt g f n) .used ≡ g .used
-unfolding debited
-debit-used g Nothing n = refl
-debit-used g (At a) n = refl
 
 -- the records after a delivery, place by place
 module _ (g : Gate) (t : Rows) (d : Delivered) where
@@ -100,7 +95,7 @@ module _ (g : Gate) (t : Rows) (d : Delivered) where
           pick (no n) =
               same-identity _ _ (getD-set-other (recordsOf t (g .used)) k i (revoked clock r) noRecord n ∙ getD-records t (g .used) i noRecord h)
 
--- ---- 4: a request read without fault, and any delivery, keep the records in use
+-- ---- a request read without fault, and any delivery, keep the records in use
 pub respond-lasts : (g : Gate) (t : Rows) (clock : List ℕ) (q : Asked) (out : List ℕ) → Lasting g t (respond g t clock q out)
 respond-lasts g t clock q out = lasting-outcome g t (respond g t clock q out) clock q (outcome g t clock q out)
 

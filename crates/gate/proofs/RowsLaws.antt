@@ -33,9 +33,8 @@ use Rattle.table.specs.Accounts.{isAccount, accountsOf, findAccount, noAccount,
 use Rattle.table.specs.Valid.{stateGood, rangesGood, accountKnown, authcodeGood, recordGood, tableGood, Ready}
 use Rattle.table.proofs.TableLaws.{length-records, getD-records, from-at, from-whole, whole-from, receipt-within}
 use Rattle.gate.specs.Deliver.{noRecord, nextAuthcode, makeRecord, revoked, debitedAt, respond, deliver, Delivered}
-use Rattle.gate.proofs.OnceLaws.{Outcome, stays, appends, revokes, outcome}
+use Rattle.gate.proofs.OnceLaws.{Outcome, stays, appends, revokes, outcome, debit-used}
 use Rattle.gate.proofs.KeepsLaws.{delivered-by}
-use Rattle.gate.proofs.RecordsLaws.{debit-used}
 use Rattle.gate.proofs.GoodLaws.{Good, Near, and-both, good-table, table-again, ready-again}
 
 -- ---- the accounts keep their names
@@ -219,7 +218,7 @@ module _ (g : Gate) (t : Rows) (good : Good g t) (clock : List ℕ) (dated : isW
               (revoked-good g clock k r dated (rw ir (each-used k l)))
           pick (no n) = ap (recordGood g i) (getD-set-other (recordsOf t (g .used)) k i (revoked clock r) noRecord n) ∙ each-used i h
 
--- ---- 5: a delivery keeps every clause of row 68 but the balance bound, and the accounts' names
+-- ---- a delivery keeps every clause of row 68 but the balance bound, and the accounts' names
 module _ (g : Gate) (t : Rows) (ready : Ready g t) (good : tableGood g t ≡ true) (clock params out : List ℕ) where
   pub delivered-again : Again g ((deliver g t clock params out) .gate) ((deliver g t clock params out) .rows)
   delivered-again =
