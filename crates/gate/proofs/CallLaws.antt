@@ -1,14 +1,14 @@
 -- Opening an account and drawing from one keep row 68, the balance bound too.
-use Prim.Native.Nat.{ℕ, zero, suc, _+_, _-_, _<_, _≤_}
+use Prim.Native.Nat.{ℕ, zero, suc, _+_, _-_, _<_}
 use native.Mathlib.Nat.{add-zero}
 use native.Mathlib.Numerals.{add-one}
 use native.Mathlib.Decide.{ℕ-discrete}
 use native.Mathlib.Omega.{arith}
-use mathlib.Core.Path.{_≡_, refl, sym, ap, _∙_}
+use mathlib.Core.Path.{_≡_, refl, sym, _∙_}
 use mathlib.Core.Bool.{Bool, true, false, cond, not, _&&_}
 use mathlib.Core.List.{List, [], _∷_, _++_}
 use lib.Dec.{leb, ltb}
-use lib.IntN.{ℤ, pos, negsuc, _-ℤ_}
+use lib.IntN.{ℤ, pos, negsuc, _+ℤ_, _-ℤ_}
 use lib.Signed.{ltZ}
 use lib.ListN.{length, take, getD, set, length-set}
 use lib.Seq.{getD-set-same, getD-set-other, take-suc-set}
@@ -24,16 +24,21 @@ use Rattle.table.specs.declared.Record.{Record}
 use Rattle.table.specs.declared.Found.{Found}
 use Rattle.table.specs.declared.Found.the-variants.{At, Nothing}
 use Rattle.table.specs.Lists.{firstFrom, isFound}
-use Rattle.table.specs.Table.{Rows, recordAt, Whole}
-use Rattle.table.specs.Accounts.{isAccount, accountsOf, findAccount, noAccount, withBalance, balanceAt, debited, opened}
+use Rattle.table.specs.Table.{Rows, recordAt, recordsOf, findRecord}
+use Rattle.table.specs.Accounts.{isAccount, accountsOf, findAccount, noAccount, withBalance, balanceAt, credited, debited, withUsed, opened}
 use Rattle.table.specs.Valid.{near, rangesGood, accountKnown, authcodeGood, recordGood, tableGood, Ready}
 use Rattle.table.proofs.AccountLaws.{holder-within}
 use Rattle.table.proofs.RangeLaws.{no-claim}
 use Rattle.gate.specs.declared.opening.Reply.{Reply}
-use Rattle.gate.specs.Deliver.{debitedAt}
+use Rattle.message.specs.declared.action.Action.the-variants.{Payment}
+use Rattle.message.specs.declared.request.Asked.{Asked}
+use Rattle.message.specs.Request.{requestRead}
+use Rattle.gate.specs.Deliver.{isShort, debitedAt, respond, deliver, Delivered}
 use Rattle.gate.specs.Opening.{replies, openTo, openCall, drawOn, drawFrom, drawCall}
+use Rattle.gate.proofs.OutcomeLaws.{Outcome, stays, appends, revokes, outcome}
+use Rattle.gate.proofs.KeepsLaws.{delivered-by}
 use Rattle.gate.proofs.GoodLaws.{Good, Near, and-both, good-table, near-table, table-again, ready-again}
-use Rattle.gate.proofs.RowsLaws.{SameNames, names-debited, good-there}
+use Rattle.gate.proofs.RowsLaws.{SameNames, names-same, names-debited, good-there, delivered-good, delivered-ready}
 
 -- ---- a balance that is drawn on stays in its bound
 near-minus : (z : ℤ) (n : ℕ) → near z ≡ true → ltZ z (pos n) ≡ false → near (z -ℤ pos n) ≡ true
@@ -62,6 +67,20 @@ near-debited g a n bound h funds =
       balances = λ i l.
           near-set (g .accounts) a i (withBalance (getD (g .accounts) a noAccount) (balanceAt g a -ℤ pos n)) (near-minus (balanceAt g a) n (bound .balances a h) funds) (bound .balances i l);
     }
+
+near-credited : (g : Gate) (a n : ℕ) → Near g → near (balanceAt g a +ℤ pos n) ≡ true → Near (credited g a n)
+unfolding credited
+near-credited g a n bound room =
+    record { balances = λ i l. near-set (g .accounts) a i (withBalance (getD (g .accounts) a noAccount) (balanceAt g a +ℤ pos n)) room (bound .balances i l) }
+
+near-used : (g : Gate) (n : ℕ) → Near g → Near (withUsed g n)
+near-used g n bound = record { balances = bound .balances }
+
+-- a payment that is not recorded leaves its account within the balance bound
+abbrev pub Roomy : Gate → Rows → Asked → Type 0
+Roomy g t q =
+    (a : ℕ) → q .action ≡ Payment → findRecord (q .receipt) (recordsOf t (g .used)) ≡ Nothing → findAccount (q .number) (q .kind) (accountsOf g) ≡ At a
+    → near (balanceAt g a +ℤ pos (q .amount)) ≡ true
 
 -- ---- a gate with the same names keeps the clauses
 good-names : (g g′ : Gate) (t : Rows) → SameNames g g′ → g′ .used ≡ g .used → Good g t → Good g′ t
@@ -105,6 +124,7 @@ module _ (g : Gate) (n : Number) (k : ℕ) where
     unfolding opened
     opened-other i h = getD-set-other (g .accounts) (g .count) i newAccount noAccount (omega arith)
 
+    -- the new account has the number and type asked for, and nothing on it
     pub opened-new : getD ((opened g n k) .accounts) (g .count) noAccount ≡ newAccount
     unfolding opened
     opened-new = getD-set-same (g .accounts) (g .count) newAccount noAccount room
@@ -213,3 +233,44 @@ module _ (g : Gate) (t : Rows) (ready : Ready g t) (good : tableGood g t ≡ tru
       (λ _. draw-on-stands (findAccount n k (accountsOf g)) m (λ a e. holder-within g n k a (findAccount n k (accountsOf g)) refl e))
       (λ _. same 59))
       (λ _. same 68)
+
+  draw-on-names : (f : Found) (m : ℕ) → SameNames g ((drawOn g f m) .gate)
+  unfolding drawOn
+  draw-on-names Nothing m = names-same g g refl
+  draw-on-names (At a) m =
+      cond-elim (λ (r : Reply). SameNames g (r .gate)) (isAmount m && not (ltZ (balanceAt g a) (pos m))) _ _
+      (λ _. names-debited g (At a) m)
+      (λ _. names-same g g refl)
+
+  -- a draw keeps the accounts' names
+  pub draw-names : (n : Number) (k m : ℕ) → SameNames g ((drawCall g t n k m) .gate)
+  unfolding drawCall drawFrom
+  draw-names n k m =
+      cond-elim (λ (r : Reply). SameNames g (r .gate)) (tableGood g t) _ _
+      (λ _. cond-elim (λ (r : Reply). SameNames g (r .gate)) (isNumber n && isKind k) _ _ (λ _. draw-on-names (findAccount n k (accountsOf g)) m)
+      (λ _. names-same g g refl))
+      (λ _. names-same g g refl)
+
+  -- ---- only a payment that is credited may take a balance past its bound
+  short-near : (f : Found) (n : Number) (k m : ℕ) → f ≡ findAccount n k (accountsOf g) → isShort g f m ≡ false → Near (debitedAt g f m)
+  short-near Nothing n k m is funds = bound
+  short-near (At a) n k m is funds = near-debited g a m bound (holder-within g n k a (At a) is refl) funds
+
+  outcome-near : (clock : List ℕ) (q : Asked) (d : Delivered) → Outcome g t clock q d → Roomy g t q → Near (d .gate)
+  outcome-near clock q d (stays eg er) room = rw eg bound
+  outcome-near clock q d (appends a ea en ef _ day ec eg er) room = rw eg (near-used (credited g a (q .amount)) (g .used + 1) (near-credited g a (q .amount) bound (room a ea en ef)))
+  outcome-near clock q d (revokes i r f ea ei er ef es day fu ec eg el) room = rw eg (short-near f (r .number) (r .kind) (r .amount) ef fu)
+
+  module _ (clock params out : List ℕ) (room : Roomy g t ((requestRead params) .asked)) where
+    delivered-near : Near ((deliver g t clock params out) .gate)
+    delivered-near =
+        delivered-by g t clock params out (λ (d : Delivered). Near (d .gate)) (λ code left. bound)
+        (λ _ _ _. outcome-near clock ((requestRead params) .asked) (respond g t clock ((requestRead params) .asked) out) (outcome g t clock ((requestRead params) .asked) out) room)
+
+    -- 5: a delivery keeps row 68 where its account has room for a payment
+    pub call-good : tableGood ((deliver g t clock params out) .gate) ((deliver g t clock params out) .rows) ≡ true
+    call-good = delivered-good g t ready good clock params out delivered-near
+
+    -- and the gate and the rows are ready for the next call
+    pub call-ready : Ready ((deliver g t clock params out) .gate) ((deliver g t clock params out) .rows)
+    call-ready = delivered-ready g t ready good clock params out delivered-near

@@ -31,7 +31,7 @@ use Rattle.gate.specs.declared.plan.Plan.{Plan}
 use Rattle.gate.specs.Decision.{keeps, paymentNew, cancelDone, decision}
 use Rattle.gate.specs.Deliver.{Within, recordFound, standingOf, accountOf, isFull, viewOf, planWith, planOf, makeRecord, revoked, creditedAt, debitedAt, replacedAt, Changed, changed, Made}
 use Rattle.gate.proofs.PlanLaws.{found-within, found-amount, account-within}
-use Rattle.gate.proofs.OnceLaws.{append-of}
+use Rattle.gate.proofs.OutcomeLaws.{append-of}
 
 -- ---- balances of the account that was found
 module _ (g : Gate) (f : Found) (a : ℕ) (is : f ≡ At a) where

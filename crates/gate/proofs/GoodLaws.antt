@@ -1,25 +1,23 @@
 -- Row 68 as facts: every clause but the balance bound, and what brings them all together again.
-use Prim.Native.Nat.{ℕ, zero, suc, _+_, _-_, _<_, _≤_}
+use Prim.Native.Nat.{ℕ, suc, _+_, _<_, _≤_}
 use native.Mathlib.Nat.{add-zero, zero-add}
 use native.Mathlib.Omega.{arith}
 use mathlib.Core.Path.{_≡_, refl, sym, ap, _∙_}
-use mathlib.Core.Bool.{Bool, true, false, cond, _&&_}
-use mathlib.Core.List.{List, [], _∷_, _++_}
+use mathlib.Core.Bool.{Bool, true, _&&_}
+use mathlib.Core.List.{List, [], _∷_}
 use lib.Dec.{eqb, leb}
-use lib.ListN.{length, take, getD, length-set}
+use lib.ListN.{length, getD}
 use lib.Seq.{getD-take}
 use borrow.Author.Tests.{eq-eqb, eqb-true, le-leb, leb-true}
 use Rattle.fields.specs.Calendar.{isDay}
 use Rattle.fields.specs.Codes.{isKind}
 use Rattle.fields.specs.Number.{isNumber}
 use Rattle.fields.proofs.Tests.{and-left, and-right}
-use Rattle.table.specs.declared.Account.{Account}
 use Rattle.table.specs.declared.Gate.{Gate}
-use Rattle.table.specs.declared.Record.{Record}
 use Rattle.table.specs.Lists.{allFrom}
-use Rattle.table.specs.Table.{Rows, recordAt, recordsOf, Whole, SameLengths}
+use Rattle.table.specs.Table.{Rows, recordAt, recordsOf, Whole}
 use Rattle.table.specs.Accounts.{accountsOf, noAccount, balanceAt}
-use Rattle.table.specs.Valid.{near, accountGood, gateGood, recordGood, lentGood, tableGood, Sound, Ready}
+use Rattle.table.specs.Valid.{near, accountGood, gateGood, recordGood, lentGood, tableGood, Ready}
 use Rattle.table.proofs.ListLaws.{all-at}
 use Rattle.table.proofs.TableLaws.{length-records, getD-records}
 use Rattle.table.proofs.AccountLaws.{in-use}
@@ -44,6 +42,7 @@ pub record Near (g : Gate) : Type 0 where
   pub balances : (i : ℕ) → i < g .count → near (balanceAt g i) ≡ true
 
 -- ---- tests joined, and tests of every element
+-- two tests that hold
 pub and-both : (t u : Bool) → t ≡ true → u ≡ true → t && u ≡ true
 and-both t u p q = rw (p, q)
 

@@ -1,13 +1,13 @@
 -- A call that gives a fault keeps everything: the gate, the rows, and with 68, 50 and 51 the buffer too.
 use Prim.Native.Nat.{ℕ, _≤_, _<_}
-use mathlib.Core.Path.{_≡_, refl, sym, ap, _∙_}
+use mathlib.Core.Path.{_≡_, refl, sym, _∙_}
 use mathlib.Core.Bool.{Bool, true, false, cond, not, _&&_}
 use mathlib.Core.List.{List}
 use lib.Dec.{eqb, leb}
 use lib.IntN.{pos}
 use lib.Signed.{ltZ}
 use lib.ListN.{length}
-use borrow.Author.Tests.{lt-leb, le-leb, eqb-true, eqb-false}
+use borrow.Author.Tests.{lt-leb, le-leb, eqb-true}
 use Rattle.fields.specs.declared.number.Number.{Number}
 use Rattle.fields.specs.Lists.{written}
 use Rattle.fields.specs.Amount.{isAmount}
@@ -23,16 +23,18 @@ use Rattle.table.specs.declared.Gate.{Gate}
 use Rattle.table.specs.declared.Found.{Found}
 use Rattle.table.specs.declared.Found.the-variants.{At, Nothing}
 use Rattle.table.specs.Lists.{isFound}
-use Rattle.table.specs.Table.{Rows, recordsOf, rowsFrom}
+use Rattle.table.specs.Table.{Rows}
 use Rattle.table.specs.Accounts.{accountsOf, findAccount, balanceAt, debited, opened}
 use Rattle.table.specs.Valid.{tableGood, Ready}
 use Rattle.table.proofs.TableLaws.{rows-kept}
+use Rattle.table.proofs.RangeLaws.{no-claim}
 use Rattle.gate.specs.declared.opening.Reply.{Reply}
 use Rattle.gate.specs.Deliver.{noRecord, answerOf, Delivered, respond, deliverRead, deliver}
 use Rattle.gate.specs.Opening.{replies, openTo, openCall, drawOn, drawFrom, drawCall}
-use Rattle.gate.proofs.OnceLaws.{Outcome, stays, appends, revokes, outcome}
+use Rattle.gate.proofs.OutcomeLaws.{Outcome, stays, appends, revokes, outcome}
 
 -- ---- a delivery by its tests
+-- a code, and everything as it was
 abbrev pub refusal : ℕ → Gate → Rows → List ℕ → Delivered
 refusal code g t out = record { code = code; gate = g; rows = t; out = out }
 
@@ -52,6 +54,21 @@ module _ (g : Gate) (t : Rows) (clock params out : List ℕ) where
   unfolding deliver
   refused-clock h l c = rw (h, le-leb _ _ l, c)
 
+  -- where one of these tests fails the gate, the rows and the buffer are as they were
+  pub refused-keeps : tableGood g t && (leb 512 (length out) && isWritten clock) ≡ false
+      → ((deliver g t clock params out) .gate ≡ g) × ((deliver g t clock params out) .rows ≡ t) × ((deliver g t clock params out) .out ≡ out)
+  unfolding deliver
+  refused-keeps = go (tableGood g t) (leb 512 (length out)) (isWritten clock) (deliverRead g t clock (requestRead params) out)
+    where
+      go : (a b c : Bool) (x : Delivered) → a && (b && c) ≡ false
+          → ((cond a (cond b (cond c x (refusal 51 g t out)) (refusal 50 g t out)) (refusal 68 g t out)) .gate ≡ g)
+          × ((cond a (cond b (cond c x (refusal 51 g t out)) (refusal 50 g t out)) (refusal 68 g t out)) .rows ≡ t)
+          × ((cond a (cond b (cond c x (refusal 51 g t out)) (refusal 50 g t out)) (refusal 68 g t out)) .out ≡ out)
+      go false b c x h = (refl, refl, refl)
+      go true false c x h = (refl, refl, refl)
+      go true true false x h = (refl, refl, refl)
+      go true true true x h = no-claim (sym h)
+
   -- what holds of every refusal and of every answer to a request read without fault holds of a delivery
   pub delivered-by : (P : Delivered → Type 0) → ((code : ℕ) (left : List ℕ) → P (refusal code g t left))
       → (tableGood g t ≡ true → isWritten clock ≡ true → (requestRead params) .fault ≡ 0 → P (respond g t clock ((requestRead params) .asked) out))
@@ -70,6 +87,7 @@ module _ (g : Gate) (t : Rows) (clock params out : List ℕ) where
       (λ _. keep 68 out)
 
 -- ---- a fault keeps the gate and the rows
+-- the gate and the rows are as they were
 pub record Kept (g : Gate) (t : Rows) (d : Delivered) : Type 0 where
   pub gate : d .gate ≡ g
   pub rows : d .rows ≡ t
@@ -82,7 +100,7 @@ module _ (g : Gate) (t : Rows) (ready : Ready g t) (clock : List ℕ) where
       go : (d : Delivered) → Outcome g t clock q d → (d .code ≡ 0 → ⊥) → Kept g t d
       go d (stays eg er) n = record { gate = eg; rows = er ∙ rows-kept t (g .used) (ready .whole) }
       go d (appends a ea en ef room day ec eg er) n = absurd (n ec)
-      go d (revokes i r f ea ei er ef es ec eg el) n = absurd (n ec)
+      go d (revokes i r f ea ei er ef es day fu ec eg el) n = absurd (n ec)
 
   -- a delivery with a code other than 0 keeps the gate and the rows
   pub fault-keeps : (params out : List ℕ) → ((deliver g t clock params out) .code ≡ 0 → ⊥) → Kept g t (deliver g t clock params out)
@@ -92,6 +110,7 @@ module _ (g : Gate) (t : Rows) (ready : Ready g t) (clock : List ℕ) where
       (λ _ _ _. respond-keeps ((requestRead params) .asked) out)
 
 -- ---- the same for opening an account and drawing from one
+-- a code other than 0 keeps the gate
 abbrev pub ReplyKeeps : Gate → Reply → Type 0
 ReplyKeeps g r = (r .code ≡ 0 → ⊥) → r .gate ≡ g
 

@@ -4,9 +4,10 @@ pub mod PlanLaws
 pub mod ChangeLaws
 pub mod DeliverLaws
 pub mod OpeningLaws
-pub mod OnceLaws
+pub mod OutcomeLaws
 pub mod KeepsLaws
 pub mod RecordsLaws
+pub mod OnceLaws
 pub mod GoodLaws
 pub mod RowsLaws
 pub mod CallLaws

@@ -1,230 +1,32 @@
--- What a delivery may change: only a payment adds a record, only a cancel revokes one, and what is recorded is never credited again.
-use Prim.Native.Nat.{ℕ, zero, suc, _+_, _-_, _<_, _≤_}
+-- A recorded receipt is never credited again.
+use Prim.Native.Nat.{ℕ, zero, suc, _+_, _-_}
 use native.Mathlib.Omega.{arith}
 use mathlib.Core.Path.{_≡_, refl, sym, ap, _∙_}
 use mathlib.Core.Bool.{Bool, true, false, cond}
-use mathlib.Core.List.{List, [], _∷_, _++_}
-use lib.Dec.{eqb, leb, ltb, le→leb}
+use mathlib.Core.List.{List, [], _∷_}
+use lib.Dec.{ltb, le→leb}
 use lib.IntN.{ℤ, pos, negsuc, subℕ, _-ℤ_}
 use lib.Signed.{_≤ℤ_, ≤ℤ-refl, leZ-yes}
-use lib.ListN.{length, getD, set}
-use borrow.Author.Tests.{leb-false, eqb-true, lt-ltb}
-use Rattle.message.specs.declared.action.Action.{Action}
-use Rattle.message.specs.declared.action.Action.the-variants.{Check, Payment, Status, Cancel}
+use lib.ListN.{getD, set}
+use borrow.Author.Tests.{lt-ltb}
+use Rattle.message.specs.declared.action.Action.the-variants.{Payment, Cancel}
 use Rattle.message.specs.declared.request.Asked.{Asked}
-use Rattle.table.specs.declared.Record.{Record}
+use Rattle.message.specs.Request.{requestRead}
+use Rattle.table.specs.declared.Account.{Account}
 use Rattle.table.specs.declared.Gate.{Gate}
+use Rattle.table.specs.declared.Record.{Record}
 use Rattle.table.specs.declared.Found.{Found}
 use Rattle.table.specs.declared.Found.the-variants.{At, Nothing}
-use Rattle.table.specs.Lists.{isFound}
 use Rattle.table.specs.Table.{Rows, recordsOf, findRecord, rowsFrom}
-use Rattle.table.specs.declared.Account.{Account}
-use Rattle.table.specs.Accounts.{accountsOf, findAccount, noAccount, balanceAt, withBalance, credited, debited, withUsed}
+use Rattle.table.specs.Accounts.{noAccount, balanceAt, withBalance, debited}
 use Rattle.table.proofs.TableLaws.{length-records, records-from}
-use Rattle.gate.specs.declared.decision.Standing.{Standing}
-use Rattle.gate.specs.declared.decision.Standing.the-variants.{Unrecorded, Done, Cancelled}
-use Rattle.gate.specs.declared.decision.View.{View}
-use Rattle.gate.specs.declared.decision.Change.{Change}
-use Rattle.gate.specs.declared.decision.Change.the-variants.{Keep, Append, Revoke}
-use Rattle.gate.specs.declared.decision.Decided.{Decided}
-use Rattle.gate.specs.declared.plan.Plan.{Plan}
-use Rattle.gate.specs.Decision.{keeps, paymentNew, cancelDone, decision}
-use Rattle.gate.specs.Deliver.{noRecord, recordFound, standingOf, dateClosed, isCancel, accountOf, dateOf, isFull, viewOf, planWith, planOf, makeRecord, revoked, creditedAt, debitedAt, changed, Changed, answered, respond, Delivered}
+use Rattle.gate.specs.declared.decision.Change.the-variants.{Append}
+use Rattle.gate.specs.Deliver.{noRecord, recordFound, standingOf, accountOf, viewOf, planWith, planOf, debitedAt, respond, deliver, Delivered}
+use Rattle.gate.proofs.OutcomeLaws.{Appends, append-of, missing-of, Outcome, stays, appends, revokes, outcome}
+use Rattle.gate.proofs.KeepsLaws.{delivered-by}
+use Rattle.gate.proofs.RecordsLaws.{debit-used}
 
--- ---- changes and standings are told apart
-not-append : {A : Type 0} → Keep ≡ Append → A
-not-append h = let z : _≡_ {A = ℕ} 0 1 = cc in absurd (omega arith)
-
-not-revoke : {A : Type 0} → Keep ≡ Revoke → A
-not-revoke h = let z : _≡_ {A = ℕ} 0 1 = cc in absurd (omega arith)
-
-append-revoke : {A : Type 0} → Append ≡ Revoke → A
-append-revoke h = let z : _≡_ {A = ℕ} 0 1 = cc in absurd (omega arith)
-
--- ---- nothing but a payment appends, and nothing but a cancel revokes
-pub record Appends (a : Action) (s : Standing) (v : View) : Type 0 where
-  pub action : a ≡ Payment
-  pub standing : s ≡ Unrecorded
-  pub code : (decision a s v) .code ≡ 0
-  pub unclosed : v .closed ≡ false
-  pub known : v .known ≡ true
-  pub room : v .full ≡ false
-
-pub record Revokes (a : Action) (s : Standing) (v : View) : Type 0 where
-  pub action : a ≡ Cancel
-  pub standing : s ≡ Done
-  pub code : (decision a s v) .code ≡ 0
-  pub unclosed : v .closed ≡ false
-  pub funds : v .short ≡ false
-
-payment-appends : (v : View) → (paymentNew v) .change ≡ Append → Appends Payment Unrecorded v
-unfolding decision paymentNew
-payment-appends v h =
-    let p = go (v .closed) (v .known) (v .full) h in
-    record { action = refl; standing = refl; code = p .0; unclosed = p .1; known = p .2; room = p .3 }
-  where
-    go : (c k f : Bool) → (cond c (keeps 5) (cond k (cond f (keeps 30) (record { code = 0; change = Append })) (keeps 2))) .change ≡ Append
-        → ((cond c (keeps 5) (cond k (cond f (keeps 30) (record { code = 0; change = Append })) (keeps 2))) .code ≡ 0) × (c ≡ false) × (k ≡ true) × (f ≡ false)
-    go true k f h = not-append h
-    go false true true h = not-append h
-    go false true false h = (refl, refl, refl, refl)
-    go false false f h = not-append h
-
-payment-keeps : (v : View) → (paymentNew v) .change ≡ Revoke → ⊥
-unfolding paymentNew
-payment-keeps v h = go (v .closed) (v .known) (v .full) h
-  where
-    go : (c k f : Bool) → (cond c (keeps 5) (cond k (cond f (keeps 30) (record { code = 0; change = Append })) (keeps 2))) .change ≡ Revoke → ⊥
-    go true k f h = not-revoke h
-    go false true true h = not-revoke h
-    go false true false h = append-revoke h
-    go false false f h = not-revoke h
-
-cancel-revokes : (v : View) → (cancelDone v) .change ≡ Revoke → Revokes Cancel Done v
-unfolding decision cancelDone
-cancel-revokes v h =
-    let p = go (v .closed) (v .short) h in
-    record { action = refl; standing = refl; code = p .0; unclosed = p .1; funds = p .2 }
-  where
-    go : (c s : Bool) → (cond c (keeps 9) (cond s (keeps 9) (record { code = 0; change = Revoke }))) .change ≡ Revoke
-        → ((cond c (keeps 9) (cond s (keeps 9) (record { code = 0; change = Revoke }))) .code ≡ 0) × (c ≡ false) × (s ≡ false)
-    go true s h = not-revoke h
-    go false true h = not-revoke h
-    go false false h = (refl, refl, refl)
-
-cancel-keeps : (v : View) → (cancelDone v) .change ≡ Append → ⊥
-unfolding cancelDone
-cancel-keeps v h = go (v .closed) (v .short) h
-  where
-    go : (c s : Bool) → (cond c (keeps 9) (cond s (keeps 9) (record { code = 0; change = Revoke }))) .change ≡ Append → ⊥
-    go true s h = not-append h
-    go false true h = not-append h
-    go false false h = append-revoke (sym h)
-
--- only a payment that has no record, is open, known and finds room appends
-pub append-of : (a : Action) (s : Standing) (v : View) → (decision a s v) .change ≡ Append → Appends a s v
-unfolding decision
-append-of Check s v h = not-append h
-append-of Payment Unrecorded v h = payment-appends v h
-append-of Payment Done v h = not-append h
-append-of Payment Cancelled v h = not-append h
-append-of Status Unrecorded v h = not-append h
-append-of Status Done v h = not-append h
-append-of Status Cancelled v h = not-append h
-append-of Cancel Unrecorded v h = not-append h
-append-of Cancel Done v h = absurd (cancel-keeps v h)
-append-of Cancel Cancelled v h = not-append h
-
--- only a cancel of a payment that is done, open and covered revokes
-pub revoke-of : (a : Action) (s : Standing) (v : View) → (decision a s v) .change ≡ Revoke → Revokes a s v
-unfolding decision
-revoke-of Check s v h = not-revoke h
-revoke-of Payment Unrecorded v h = absurd (payment-keeps v h)
-revoke-of Payment Done v h = not-revoke h
-revoke-of Payment Cancelled v h = not-revoke h
-revoke-of Status Unrecorded v h = not-revoke h
-revoke-of Status Done v h = not-revoke h
-revoke-of Status Cancelled v h = not-revoke h
-revoke-of Cancel Unrecorded v h = not-revoke h
-revoke-of Cancel Done v h = cancel-revokes v h
-revoke-of Cancel Cancelled v h = not-revoke h
-
--- a code other than 0 changes nothing
-pub kept-of : (a : Action) (s : Standing) (v : View) → ((decision a s v) .code ≡ 0 → ⊥) → (decision a s v) .change ≡ Keep
-kept-of a s v n = go ((decision a s v) .change) refl
-  where
-    go : (c : Change) → (decision a s v) .change ≡ c → c ≡ Keep
-    go Keep e = refl
-    go Append e = absurd (n (append-of a s v e .code))
-    go Revoke e = absurd (n (revoke-of a s v e .code))
-
--- ---- the outcomes of a request without a fault
-pub data Outcome (g : Gate) (t : Rows) (clock : List ℕ) (q : Asked) (d : Delivered) : Type 0 where
-  stays : d .gate ≡ g → d .rows ≡ rowsFrom t (recordsOf t (g .used)) → Outcome g t clock q d
-  appends : (a : ℕ) → q .action ≡ Payment → findRecord (q .receipt) (recordsOf t (g .used)) ≡ Nothing
-      → findAccount (q .number) (q .kind) (accountsOf g) ≡ At a → g .used < length (t .nums) → dateClosed g (q .date) ≡ false → d .code ≡ 0
-      → d .gate ≡ withUsed (credited g a (q .amount)) (g .used + 1) → d .rows ≡ rowsFrom t (recordsOf t (g .used) ++ (makeRecord g clock q ∷ []))
-      → Outcome g t clock q d
-  revokes : (i : ℕ) (r : Record) (f : Found) → q .action ≡ Cancel → findRecord (q .receipt) (recordsOf t (g .used)) ≡ At i
-      → r ≡ recordFound (recordsOf t (g .used)) (At i) → f ≡ findAccount (r .number) (r .kind) (accountsOf g) → r .state ≡ 1 → d .code ≡ 0
-      → d .gate ≡ debitedAt g f (r .amount) → d .rows ≡ rowsFrom t (set (recordsOf t (g .used)) i (revoked clock r))
-      → Outcome g t clock q d
-
-found-of : {A : Type 0} (f : Found) (r : Record) → ((i : ℕ) → f ≡ At i → r .state ≡ 1 → A) → standingOf f r ≡ Done → A
-found-of Nothing r k h = let z : _≡_ {A = ℕ} 0 1 = cc in absurd (omega arith)
-found-of (At i) r k h = k i refl (eqb-true (r .state) 1 (go (eqb (r .state) 1) h))
-  where
-    go : (b : Bool) → cond b Done Cancelled ≡ Done → b ≡ true
-    go true h = refl
-    go false h = let z : _≡_ {A = ℕ} 0 1 = cc in absurd (omega arith)
-
-missing-of : (f : Found) (r : Record) → standingOf f r ≡ Unrecorded → f ≡ Nothing
-missing-of Nothing r h = refl
-missing-of (At i) r h = go (eqb (r .state) 1) h
-  where
-    go : (b : Bool) → cond b Done Cancelled ≡ Unrecorded → At i ≡ Nothing
-    go true h = let z : _≡_ {A = ℕ} 0 1 = cc in absurd (omega arith)
-    go false h = let z : _≡_ {A = ℕ} 0 1 = cc in absurd (omega arith)
-
-place-of : {A : Type 0} (f : Found) → ((i : ℕ) → f ≡ At i → A) → isFound f ≡ true → A
-place-of (At i) k h = k i refl
-place-of Nothing k h = let z : _≡_ {A = ℕ} 0 1 = cc in absurd (omega arith)
-
-module _ (g : Gate) (q : Asked) (r : Record) where
-  own-account : q .action ≡ Payment → accountOf g q r ≡ findAccount (q .number) (q .kind) (accountsOf g)
-  unfolding accountOf isCancel
-  own-account e = rw e
-
-  own-date : q .action ≡ Payment → dateOf q r ≡ q .date
-  unfolding dateOf isCancel
-  own-date e = rw e
-
-  its-account : q .action ≡ Cancel → accountOf g q r ≡ findAccount (r .number) (r .kind) (accountsOf g)
-  unfolding accountOf isCancel
-  its-account e = rw e
-
-module _ (g : Gate) (t : Rows) (clock : List ℕ) (q : Asked) (out : List ℕ) (f : Found) (r : Record) where
-  outcome-at : (rs : List Record) → rs ≡ recordsOf t (g .used) → f ≡ findRecord (q .receipt) rs → r ≡ recordFound rs f → (c : Change) (p : Plan)
-      → p ≡ planWith g (length (t .nums)) q f r → p .decided .change ≡ c
-      → Outcome g t clock q (answered t out (q .action) (p .decided .code) clock (changed c g rs clock q p))
-  unfolding changed planWith viewOf isFull
-  outcome-at rs ers ef er Keep p ep ec = stays refl (rw ers)
-  outcome-at rs ers ef er Append p ep ec =
-      let v : View = viewOf g (length (t .nums)) q r (accountOf g q r) in
-      let b : Appends (q .action) (standingOf f r) v = append-of (q .action) (standingOf f r) v (sym (ap (λ (x : Plan). x .decided .change) ep) ∙ ec) in
-      place-of (accountOf g q r)
-      (λ a ea. appends a (b .action) (ap (findRecord (q .receipt)) (sym ers) ∙ sym ef ∙ missing-of f r (b .standing))
-      (sym (own-account g q r (b .action)) ∙ ea)
-      (leb-false (length (t .nums)) (g .used) (b .room))
-      (ap (dateClosed g) (sym (own-date g q r (b .action))) ∙ b .unclosed)
-      (ap (λ (x : Plan). x .decided .code) ep ∙ b .code)
-      (ap (λ (x : Found). withUsed (creditedAt g x (q .amount)) (g .used + 1)) (ap (λ (x : Plan). x .account) ep ∙ ea))
-      (rw ers))
-      (b .known)
-  outcome-at rs ers ef er Revoke p ep ec =
-      let v : View = viewOf g (length (t .nums)) q r (accountOf g q r) in
-      let b : Revokes (q .action) (standingOf f r) v = revoke-of (q .action) (standingOf f r) v (sym (ap (λ (x : Plan). x .decided .change) ep) ∙ ec) in
-      found-of f r
-      (λ i ei done. revokes i r (accountOf g q r) (b .action) (ap (findRecord (q .receipt)) (sym ers) ∙ sym ef ∙ ei)
-      (er ∙ rw (ei, ers))
-      (its-account g q r (b .action))
-      done
-      (ap (λ (x : Plan). x .decided .code) ep ∙ b .code)
-      (rw ep)
-      (rw (ep, ei, ers)))
-      (b .standing)
-
--- a request without a fault keeps all, credits and adds a record, or debits and cancels one
-pub outcome : (g : Gate) (t : Rows) (clock : List ℕ) (q : Asked) (out : List ℕ) → Outcome g t clock q (respond g t clock q out)
-unfolding respond planOf
-outcome g t clock q out =
-    let rs : List Record = recordsOf t (g .used) in
-    let f : Found = findRecord (q .receipt) rs in
-    let r : Record = recordFound rs f in
-    let p : Plan = planWith g (length (t .nums)) q f r in
-    outcome-at g t clock q out f r rs refl refl refl (p .decided .change) p refl refl
-
--- ---- a recorded receipt is never credited again
+-- ---- balances that a debit lowers
 sub-below : (a n : ℕ) → subℕ a n ≤ℤ pos a
 sub-below a n = pick (ltb a n)
   where
@@ -255,13 +57,21 @@ unfolding debited
 debit-below g Nothing n j = ≤ℤ-refl _
 debit-below g (At a) n j = balance-set (g .accounts) a j (withBalance (getD (g .accounts) a noAccount) (balanceAt g a -ℤ pos n)) (minus-below (balanceAt g a) n)
 
-pub debit-used : (g : Gate) (f : Found) (n : ℕ) → (debitedAt g f n) .used ≡ g .used
-unfolding debited
-debit-used g Nothing n = refl
-debit-used g (At a) n = refl
-
+-- rows written from their own records hold the same records
 pub same-records : (t : Rows) (n : ℕ) → recordsOf (rowsFrom t (recordsOf t n)) n ≡ recordsOf t n
 same-records t n = rw (length-records t n) at (records-from t (recordsOf t n) noRecord)
+
+-- ---- a request whose receipt is recorded
+-- its decision never appends: it keeps or revokes
+pub once-decided : (g : Gate) (rs : List Record) (lent : ℕ) (q : Asked) (i : ℕ) → findRecord (q .receipt) rs ≡ At i → (planOf g rs lent q) .decided .change ≡ Append → ⊥
+unfolding planOf planWith
+once-decided g rs lent q i known h =
+    let f : Found = findRecord (q .receipt) rs in
+    let r : Record = recordFound rs f in
+    let b : Appends (q .action) (standingOf f r) (viewOf g lent q r (accountOf g q r)) = append-of (q .action) (standingOf f r) (viewOf g lent q r (accountOf g q r)) h in
+    let y : At i ≡ Nothing = sym known ∙ missing-of f r (b .standing) in
+    let z : _≡_ {A = ℕ} 0 1 = cc in
+    omega arith
 
 module _ (g : Gate) (t : Rows) (clock : List ℕ) (q : Asked) (out : List ℕ) (i : ℕ) (known : findRecord (q .receipt) (recordsOf t (g .used)) ≡ At i) where
   absent : {A : Type 0} → findRecord (q .receipt) (recordsOf t (g .used)) ≡ Nothing → A
@@ -274,7 +84,7 @@ module _ (g : Gate) (t : Rows) (clock : List ℕ) (q : Asked) (out : List ℕ) (
       go : (d : Delivered) → Outcome g t clock q d → d .gate .used ≡ g .used
       go d (stays eg er) = ap (λ (x : Gate). x .used) eg
       go d (appends a ea en ef room day ec eg er) = absent en
-      go d (revokes k r f ea ek er ef es ec eg el) = ap (λ (x : Gate). x .used) eg ∙ debit-used g f (r .amount)
+      go d (revokes k r f ea ek er ef es day fu ec eg el) = ap (λ (x : Gate). x .used) eg ∙ debit-used g f (r .amount)
 
   -- no balance goes up
   pub once-balance : (j : ℕ) → balanceAt ((respond g t clock q out) .gate) j ≤ℤ balanceAt g j
@@ -283,7 +93,7 @@ module _ (g : Gate) (t : Rows) (clock : List ℕ) (q : Asked) (out : List ℕ) (
       go : (d : Delivered) → Outcome g t clock q d → balanceAt (d .gate) j ≤ℤ balanceAt g j
       go d (stays eg er) = rw eg (≤ℤ-refl (balanceAt g j))
       go d (appends a ea en ef room day ec eg er) = absent en
-      go d (revokes k r f ea ek er ef es ec eg el) = rw eg (debit-below g f (r .amount) j)
+      go d (revokes k r f ea ek er ef es day fu ec eg el) = rw eg (debit-below g f (r .amount) j)
 
   -- a payment sent again leaves the gate and the records exactly as they were
   pub once-payment : q .action ≡ Payment
@@ -293,4 +103,18 @@ module _ (g : Gate) (t : Rows) (clock : List ℕ) (q : Asked) (out : List ℕ) (
       go : (d : Delivered) → Outcome g t clock q d → (d .gate ≡ g) × (recordsOf (d .rows) (g .used) ≡ recordsOf t (g .used))
       go d (stays eg er) = (eg, ap (λ (x : Rows). recordsOf x (g .used)) er ∙ same-records t (g .used))
       go d (appends a ea en ef room day ec eg er) = absent en
-      go d (revokes k r f ea ek er ef es ec eg el) = let y : Payment ≡ Cancel = sym p ∙ ea in let z : _≡_ {A = ℕ} 0 1 = cc in absurd (omega arith)
+      go d (revokes k r f ea ek er ef es day fu ec eg el) = let y : Payment ≡ Cancel = sym p ∙ ea in let z : _≡_ {A = ℕ} 0 1 = cc in absurd (omega arith)
+
+-- ---- the same for a delivery
+module _ (g : Gate) (t : Rows) (clock params out : List ℕ) (i : ℕ) (known : findRecord ((requestRead params) .asked .receipt) (recordsOf t (g .used)) ≡ At i) where
+  -- a delivery of a recorded receipt adds no record
+  pub delivered-once : (deliver g t clock params out) .gate .used ≡ g .used
+  delivered-once =
+      delivered-by g t clock params out (λ (d : Delivered). d .gate .used ≡ g .used) (λ code left. refl)
+      (λ _ _ _. once-used g t clock ((requestRead params) .asked) out i known)
+
+  -- and raises no balance
+  pub delivered-balance : (j : ℕ) → balanceAt ((deliver g t clock params out) .gate) j ≤ℤ balanceAt g j
+  delivered-balance j =
+      delivered-by g t clock params out (λ (d : Delivered). balanceAt (d .gate) j ≤ℤ balanceAt g j) (λ code left. ≤ℤ-refl (balanceAt g j))
+      (λ _ _ _. once-balance g t clock ((requestRead params) .asked) out i known j)

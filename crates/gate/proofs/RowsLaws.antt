@@ -2,8 +2,8 @@
 use Prim.Native.Nat.{ℕ, zero, suc, _+_, _-_, _<_, _≤_}
 use native.Mathlib.Decide.{ℕ-discrete}
 use native.Mathlib.Omega.{arith}
-use mathlib.Core.Path.{_≡_, refl, sym, ap, subst, _∙_}
-use mathlib.Core.Bool.{Bool, true, false, cond, _&&_}
+use mathlib.Core.Path.{_≡_, refl, ap, _∙_}
+use mathlib.Core.Bool.{true, cond}
 use mathlib.Core.List.{List, [], _∷_, _++_}
 use lib.Dec.{eqb}
 use lib.IntN.{ℤ}
@@ -16,7 +16,6 @@ use Rattle.fields.specs.Amount.{isAmount}
 use Rattle.fields.specs.Codes.{isReceipt}
 use Rattle.fields.specs.Date.{isWritten}
 use Rattle.fields.proofs.Tests.{and-left, and-right}
-use Rattle.message.specs.declared.action.Action.{Action}
 use Rattle.message.specs.declared.action.Action.the-variants.{Payment}
 use Rattle.message.specs.declared.request.Asked.{Asked}
 use Rattle.message.specs.Names.{hasAccount, hasReceipt, hasDate}
@@ -28,13 +27,14 @@ use Rattle.table.specs.declared.Record.{Record}
 use Rattle.table.specs.declared.Found.{Found}
 use Rattle.table.specs.declared.Found.the-variants.{At, Nothing}
 use Rattle.table.specs.Lists.{firstFrom, isFound}
-use Rattle.table.specs.Table.{Rows, recordAt, recordsOf, rowsFrom, findRecord, Whole}
-use Rattle.table.specs.Accounts.{isAccount, accountsOf, findAccount, noAccount, withBalance, balanceAt, gateBalance, credited, debited, withUsed}
+use Rattle.table.specs.Table.{Rows, recordAt, recordsOf, rowsFrom, Whole}
+use Rattle.table.specs.Accounts.{isAccount, accountsOf, findAccount, noAccount, withBalance, gateBalance, credited, debited, withUsed}
 use Rattle.table.specs.Valid.{stateGood, rangesGood, accountKnown, authcodeGood, recordGood, tableGood, Ready}
-use Rattle.table.proofs.TableLaws.{length-records, getD-records, from-at, from-whole, whole-from, receipt-within}
+use Rattle.table.proofs.TableLaws.{length-records, getD-records, from-at, from-whole, whole-from}
 use Rattle.gate.specs.Deliver.{noRecord, nextAuthcode, makeRecord, revoked, debitedAt, respond, deliver, Delivered}
-use Rattle.gate.proofs.OnceLaws.{Outcome, stays, appends, revokes, outcome, debit-used}
+use Rattle.gate.proofs.OutcomeLaws.{Outcome, stays, appends, revokes, outcome}
 use Rattle.gate.proofs.KeepsLaws.{delivered-by}
+use Rattle.gate.proofs.RecordsLaws.{debit-used}
 use Rattle.gate.proofs.GoodLaws.{Good, Near, and-both, good-table, table-again, ready-again}
 
 -- ---- the accounts keep their names
@@ -72,6 +72,7 @@ module _ (z : ℤ) where
   find-moved n k (suc m) i (y ∷ l) zero = refl
   find-moved n k (suc m) i (y ∷ l) (suc a) = ap (λ (f : Found). cond (isAccount n k y) (At i) f) (find-moved n k m (i + 1) l a)
 
+  -- a gate with a balance moved has the same names
   pub names-moved : (g : Gate) (a : ℕ) → SameNames g (gateBalance g a z)
   unfolding findAccount
   names-moved g a =
@@ -84,7 +85,8 @@ module _ (z : ℤ) where
         finds = λ n k. find-moved n k (g .count) 0 (g .accounts) a;
       }
 
-names-same : (g g′ : Gate) → g′ ≡ g → SameNames g g′
+-- and so has the same gate
+pub names-same : (g g′ : Gate) → g′ ≡ g → SameNames g g′
 names-same g g′ e = rw e (record { count = refl; closed = refl; places = refl; number = λ j. refl; kind = λ j. refl; finds = λ n k. refl })
 
 names-used : (g g′ : Gate) (n : ℕ) → SameNames g g′ → SameNames g (withUsed g′ n)
@@ -94,6 +96,7 @@ names-credited : (g : Gate) (a n : ℕ) → SameNames g (credited g a n)
 unfolding credited
 names-credited g a n = names-moved _ g a
 
+-- and one that is debited
 pub names-debited : (g : Gate) (f : Found) (n : ℕ) → SameNames g (debitedAt g f n)
 unfolding debited
 names-debited g Nothing n = names-same g g refl
@@ -198,7 +201,7 @@ module _ (g : Gate) (t : Rows) (good : Good g t) (clock : List ℕ) (dated : isW
           pick (no n) =
               let l : i < length (recordsOf t (g .used)) = omega (arith, length-records t (g .used)) in
               ap (recordGood g i) (List·getD-append (recordsOf t (g .used)) (makeRecord g clock q ∷ []) noRecord i l) ∙ each-used i (omega arith)
-  again-outcome (revokes k r f ea ek ir ef es ec eg er) =
+  again-outcome (revokes k r f ea ek ir ef es day fu ec eg er) =
       let rs : List Record = recordsOf t (g .used) in
       let size : length rs ≡ g .used = length-records t (g .used) in
       let as-long : length (set rs k (revoked clock r)) ≡ length rs = length-set rs k (revoked clock r) in
@@ -220,6 +223,7 @@ module _ (g : Gate) (t : Rows) (good : Good g t) (clock : List ℕ) (dated : isW
 
 -- ---- a delivery keeps every clause of row 68 but the balance bound, and the accounts' names
 module _ (g : Gate) (t : Rows) (ready : Ready g t) (good : tableGood g t ≡ true) (clock params out : List ℕ) where
+  -- row 68 but the balance bound holds again, and the accounts' numbers and types and the closed day are as they were
   pub delivered-again : Again g ((deliver g t clock params out) .gate) ((deliver g t clock params out) .rows)
   delivered-again =
       let facts : Good g t = good-table g t (ready .sound .places) good in
@@ -232,5 +236,6 @@ module _ (g : Gate) (t : Rows) (ready : Ready g t) (good : tableGood g t ≡ tru
   pub delivered-good : Near ((deliver g t clock params out) .gate) → tableGood ((deliver g t clock params out) .gate) ((deliver g t clock params out) .rows) ≡ true
   delivered-good bound = table-again _ _ (delivered-again .names .places ∙ ready .sound .places) (delivered-again .good) bound
 
+  -- and its rows have their lengths
   pub delivered-ready : Near ((deliver g t clock params out) .gate) → Ready ((deliver g t clock params out) .gate) ((deliver g t clock params out) .rows)
   delivered-ready bound = ready-again _ _ (delivered-again .names .places ∙ ready .sound .places) (delivered-again .good) bound (delivered-again .whole)

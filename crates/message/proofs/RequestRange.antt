@@ -1,15 +1,14 @@
 -- What a request that was read without fault holds: each field that the action has is in its range, and arrays have their lengths.
 use Prim.Native.Nat.{ℕ, suc}
 use native.Mathlib.Omega.{arith}
-use mathlib.Core.Path.{_≡_, refl, sym, ap, _∙_}
+use mathlib.Core.Path.{_≡_, refl, _∙_}
 use mathlib.Core.Bool.{Bool, true, false, cond, not, _&&_, _||_}
-use mathlib.Core.List.{List, [], _∷_, _++_}
+use mathlib.Core.List.{List, _∷_}
 use lib.Dec.{eqb, leb}
 use lib.ListN.{length, drop, getD, replicate, length-append, length-drop}
 use borrow.Author.Tests.{eqb-true, eqb-false, leb-true}
 use Rattle.fields.specs.declared.digits.Digits.{Digits}
 use Rattle.fields.specs.declared.digits.Digits.the-variants.{Value, Malformed}
-use Rattle.fields.specs.declared.number.Number.{Number}
 use Rattle.fields.specs.declared.number.NumberRead.{NumberRead}
 use Rattle.fields.specs.declared.date.DateRead.{DateRead}
 use Rattle.fields.specs.Lists.{every}
@@ -32,7 +31,7 @@ use Rattle.message.specs.declared.request.Asked.{Asked}
 use Rattle.message.specs.declared.request.RequestRead.{RequestRead}
 use Rattle.message.specs.Names.{actionOf, hasAccount, hasReceipt, hasDate, hasReason}
 use Rattle.message.specs.Slots.{Slot, Absent, Holds, Gathered, Broken, Values, gathered}
-use Rattle.message.specs.Request.{held, fieldOf, unusedNumber, receiptField, numberField, kindField, amountField, dateField, reasonField, valueIn, refused, firstFault, fieldFault, askedOf, fieldsRead, actionRead, valuesRead, requestRead}
+use Rattle.message.specs.Request.{held, fieldOf, unusedNumber, valueIn, refused, firstFault, fieldFault, askedOf, fieldsRead, actionRead, valuesRead, requestRead}
 use Rattle.message.specs.RequestText.{isAsked}
 
 -- each field that the action has is in its range

@@ -29,6 +29,7 @@ pub fn written_date(s: &[u8]) {
     }
 }
 
+// The day that a text is.
 pub fn day(s: &[u8]) {
     show_day(calendar::read_day(s), b"no date");
 }

@@ -5,6 +5,7 @@ use fields::codes;
 use fields::digits;
 use fields::digits::Digits;
 
+// The value of up to twenty digits.
 pub fn digits20(s: &[u8]) {
     let d = digits::read_digits(s, 20);
     match d {
@@ -13,18 +14,22 @@ pub fn digits20(s: &[u8]) {
     }
 }
 
+// The kopecks of an amount.
 pub fn amount(s: &[u8]) {
     show::value_or_fault(read_amount(s), 3);
 }
 
+// The value of a receipt.
 pub fn receipt(s: &[u8]) {
     show::value_or_fault(codes::read_receipt(s), 4);
 }
 
+// The value of a type.
 pub fn kind(s: &[u8]) {
     show::value_or_fault(codes::read_kind(s), 2);
 }
 
+// The value of a reason.
 pub fn reason(s: &[u8]) {
     show::value_or_fault(codes::read_reason(s), 32);
 }

@@ -2,9 +2,6 @@
 use crate::given;
 use crate::show;
 use crate::split;
-use fields::calendar;
-use fields::calendar::Day;
-use fields::calendar::DayRead;
 use fields::digits;
 use fields::digits::Digits;
 use fields::out;
@@ -13,23 +10,10 @@ use registry::line::Line;
 use registry::report;
 use registry::text;
 
-// A day, or zeros where it is no date.
-fn day_of(s: &[u8]) -> Day {
-    let r = calendar::read_day(s);
-    match r {
-        DayRead::Good(d) => d,
-        DayRead::NoDate => Day {
-            year: 0,
-            month: 0,
-            day: 0,
-        },
-    }
-}
-
 // The fault of a registry of a day, and the lines of one without.
 pub fn check(s: &[u8]) {
     let rest = split::tail(s);
-    let fault = text::check_registry(day_of(split::head(s)), rest);
+    let fault = text::check_registry(given::day(split::head(s)), rest);
     show::fault(fault);
     if fault == 0 {
         show_lines(rest);
@@ -94,7 +78,7 @@ pub fn many_lines(s: &[u8]) {
     let mut space = io::large_buffer();
     let at = write_lines(n, &mut space);
     let e = add_rest(split::tail(s), &mut space, at);
-    let day = day_of(b"2005-09-20");
+    let day = given::day(b"2005-09-20");
     show::fault(text::check_registry(day, scan::first_bytes(&space, e)));
 }
 

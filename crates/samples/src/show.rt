@@ -4,14 +4,17 @@ use fields::digits::Digits;
 use fields::number::Number;
 use fields::scan;
 
+// Writes a text as it is.
 pub fn text(s: &[u8]) {
     io::write_all(1, s);
 }
 
+// Writes a number.
 pub fn number(n: u64) {
     io::print_decimal(1, n);
 }
 
+// Writes a fault and its number.
 pub fn fault(code: u64) {
     text(b"fault ");
     number(code);

@@ -4,15 +4,19 @@ use crate::asked_vectors;
 use crate::coding_vectors;
 use crate::day_vectors;
 use crate::digit_vectors;
+use crate::gate_vectors;
 use crate::number_vectors;
 use crate::registry_vectors;
 use crate::request_vectors;
 use crate::show;
+use crate::spoil;
+use crate::world;
+use crate::world::World;
 use crate::write_vectors;
 use fields::scan;
 
-// Runs the word on its text.
-pub fn answer(word: &[u8], text: &[u8]) {
+// Runs a word that keeps no state.
+fn answer_alone(word: &[u8], text: &[u8]) {
     if digit_words(word, text) {
         return;
     }
@@ -38,6 +42,58 @@ pub fn answer(word: &[u8], text: &[u8]) {
         return;
     }
     show::text(b"unknown word");
+}
+
+// Runs the word on its text, and hands back the world.
+pub fn answer(
+    word: &[u8],
+    text: &[u8],
+    nums: &mut [[u64; 6]],
+    numbers: &mut [[u8; 30]],
+    dates: &mut [[[u8; 19]; 3]],
+    w: World,
+) -> World {
+    if scan::same_bytes(word, b"gate") {
+        show::text(b"ok");
+        return world::start(text);
+    }
+    if scan::same_bytes(word, b"deliver") {
+        return gate_vectors::deliver(text, nums, numbers, dates, w);
+    }
+    if scan::same_bytes(word, b"deliver-small") {
+        return gate_vectors::deliver_small(text, nums, numbers, dates, w);
+    }
+    if scan::same_bytes(word, b"spoil") {
+        show::text(b"ok");
+        return spoil::spoil(text, nums, numbers, dates, w);
+    }
+    if scan::same_bytes(word, b"record") {
+        gate_vectors::record(text, nums, numbers, dates, w);
+        return w;
+    }
+    account_words(word, text, nums, numbers, dates, w)
+}
+
+// Openings and draws, or a word that keeps no state.
+fn account_words(
+    word: &[u8],
+    text: &[u8],
+    nums: &[[u64; 6]],
+    numbers: &[[u8; 30]],
+    dates: &[[[u8; 19]; 3]],
+    w: World,
+) -> World {
+    if scan::same_bytes(word, b"open") {
+        return gate_vectors::open(text, nums, numbers, dates, w);
+    }
+    if scan::same_bytes(word, b"draw") {
+        return gate_vectors::draw(text, nums, numbers, dates, w);
+    }
+    if scan::same_bytes(word, b"open-many") {
+        return gate_vectors::open_many(text, nums, numbers, dates, w);
+    }
+    answer_alone(word, text);
+    w
 }
 
 // Digit fields. Each of these functions says whether the word is one of its own.

@@ -1,6 +1,6 @@
 -- The invariant: a line starts at most one byte past the end.
 use borrow.Author.Needs.{needs}
-use Rattle.samples.proofs.LineLaws.{found-size, line-fits, next-fits, next-falls, next-inside}
+use Rattle.samples.proofs.LineLaws.{next-fits, next-falls, next-inside}
 use Prim.Native.Nat.{_≤_, _-_, _+_}
 use mathlib.Core.Path.{_≡_}
 use lib.ListN.{length}
@@ -8,12 +8,12 @@ use Rattle.samples.proofs.lines.Statement.{statement}
 use Rattle.samples.proofs.lines.Tie as tie
 
 abbrev Inv-loop : tie.InvT-loop
-Inv-loop s space₀ at₀ space at = (at ≤ length s + 1) × (length space ≡ length space₀)
+Inv-loop s space₀ nums₀ numbers₀ dates₀ w₀ at₀ space nums numbers dates w at = (at ≤ length s + 1) × (length space ≡ length space₀) × (length nums ≡ length nums₀) × (length numbers ≡ length numbers₀) × (length dates ≡ length dates₀)
 
 abbrev μ-loop : tie.MeasureT-loop
-μ-loop s space₀ at₀ space at = (length s + 1) - at
+μ-loop s space₀ nums₀ numbers₀ dates₀ w₀ at₀ space nums numbers dates w at = (length s + 1) - at
 
-ruleset laws = (found-size, line-fits, next-fits, next-falls, next-inside, needs)
+ruleset laws = (next-fits, next-falls, next-inside, needs)
 
 pub lines-spec : {M : Type 1} → statement M
 lines-spec =
@@ -22,12 +22,15 @@ lines-spec =
     Inv-loop
     μ-loop
     (λ c. search laws)
+    (λ c κs. search laws)
+    (λ c. search laws)
+    (λ c κs. search laws)
     (λ c. search laws)
     (λ c. search laws)
     (λ c. search laws)
     (λ c κs. search laws)
     (λ c. search laws)
-    (λ c κs. search laws)
+    (λ c. search laws)
     (λ c. search laws)
     (λ c. search laws)
     (λ c. search laws)

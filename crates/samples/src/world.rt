@@ -1,0 +1,103 @@
+// What the vectors of the gate keep from line to line: the gate, and how many records are lent.
+use crate::given;
+use crate::show;
+use crate::split;
+use table::Account;
+use table::Gate;
+ghost use Prim.Native.Nat.{_≤_};
+
+// The dates may be lent at a length of their own.
+pub struct World {
+    pub gate: Gate,
+    pub lent: usize,
+    pub lent_dates: usize,
+}
+
+// The lesser of two numbers.
+pub fn least(a: usize, b: usize) -> usize
+    ensures { λ r. ⌜ r ≤ b ⌝ }
+{
+    if a < b { a } else { b }
+}
+
+// A new world from a closed day and the number of records lent.
+pub fn start(s: &[u8]) -> World {
+    let closed = given::day(split::head(s));
+    let lent = given::value(split::tail(s)) as usize;
+    let number = given::number(b"");
+    let a = Account {
+        number,
+        kind: 0,
+        balance: 0,
+    };
+    let accounts = [a; 256];
+    let gate = Gate {
+        accounts,
+        count: 0,
+        closed,
+        used: 0,
+    };
+    World {
+        gate,
+        lent,
+        lent_dates: lent,
+    }
+}
+
+// The world with another gate.
+pub fn with_gate(w: World, gate: Gate) -> World {
+    World {
+        gate,
+        lent: w.lent,
+        lent_dates: w.lent_dates,
+    }
+}
+
+// A balance, or 0 where it is below.
+fn positive(b: i64) -> u64 {
+    if b < 0 {
+        return 0;
+    }
+    b as u64
+}
+
+// How far a balance is below 0.
+fn owed(b: i64) -> u64 {
+    if b < 0 {
+        return std::num::wrapping_add_u64((-1 - b) as u64, 1);
+    }
+    0
+}
+
+fn show_difference(a: u64, b: u64) {
+    if a < b {
+        show::text(b"-");
+        show::number(b - a);
+    } else {
+        show::number(a - b);
+    }
+}
+
+// The sum of the balances in use.
+fn show_total(g: Gate) {
+    let count = least(g.count, 256);
+    let mut over: u64 = 0;
+    let mut under: u64 = 0;
+    let mut i: usize = 0;
+    while i < count {
+        let a = g.accounts[i];
+        let b = a.balance;
+        over = std::num::wrapping_add_u64(over, positive(b));
+        under = std::num::wrapping_add_u64(under, owed(b));
+        i += 1;
+    }
+    show_difference(over, under);
+}
+
+// Code, records used and sum of balances.
+pub fn show_state(code: u64, g: Gate) {
+    show::number(code);
+    show::named(b" ", g.used as u64);
+    show::text(b" ");
+    show_total(g);
+}
