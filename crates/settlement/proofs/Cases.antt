@@ -1,0 +1,139 @@
+-- Document 01, "Sample cases": K1 to K12 as one theorem over the definitions of the exported calls. K3 to K6 stand over the fields' definitions
+-- and as what the gate gives to K1's payment with that amount, receipt or date.
+use mathlib.Core.Path.{_≡_, refl}
+use mathlib.Core.Bool.{true}
+use mathlib.Core.List.{_∷_, _++_}
+use lib.IntN.{pos, negsuc}
+use lib.ListN.{replicate}
+use Rattle.fields.specs.declared.digits.Digits.the-variants.{Value}
+use Rattle.fields.specs.Amount.{amountRead, amountFault}
+use Rattle.fields.specs.Codes.{receiptRead, receiptFault}
+use Rattle.fields.specs.Date.{dateRead, dateFault}
+use Rattle.fields.proofs.Samples as F
+use Rattle.table.specs.declared.Found.the-variants.{At}
+use Rattle.table.specs.Accounts.{accountsOf, findAccount, balanceAt}
+use Rattle.gate.specs.Deliver.{deliver}
+use Rattle.gate.specs.Opening.{openCall, drawCall}
+use Rattle.gate.specs.Deliver as D
+use Rattle.gate.specs.Decision as E
+use Rattle.gate.specs.Opening as O
+use Rattle.table.specs.Table as T
+use Rattle.table.specs.Lists as TL
+use Rattle.table.specs.Accounts as A
+use Rattle.table.specs.Valid as VA
+use Rattle.fields.specs.Lists as L
+use Rattle.fields.specs.Digits as G
+use Rattle.fields.specs.Amount as M
+use Rattle.fields.specs.Number as N
+use Rattle.fields.specs.Calendar as C
+use Rattle.fields.specs.Date as W
+use Rattle.coding.specs.Url as U
+use Rattle.coding.specs.Params as P
+use Rattle.message.specs.Names as MN
+use Rattle.message.specs.Slots as MS
+use Rattle.message.specs.Request as MR
+use Rattle.answers.specs.Answer as AN
+use Rattle.registry.specs.Line as RL
+use Rattle.registry.specs.Registry as RR
+use Rattle.settlement.specs.Settle.{settle}
+use Rattle.settlement.specs.Settle as S
+use Rattle.settlement.specs.Cases.{answer1, amountMost, amountOver, oneKopeck, noKopecks, pointAlone, threeDecimals, oneDecimal, receiptMost, receiptLong, receiptZero, leapDate, noLeapDate, day19, account12, opens, atStart, pays, paysAgain, draws, cancelsDrawn, cancels, paysCancelled, settlesNone, settlesLine, paysLate, settlesLater}
+
+pub record K : Type 0 where
+  -- the start is the opening call's own: closed 2005-09-19, account12 type 1 open at 0
+  pub opening : opens .code ≡ 0
+  pub start-closed : opens .gate .closed ≡ day19
+  pub start-account : findAccount account12 1 (accountsOf (opens .gate)) ≡ At 0
+  pub start-balance : balanceAt (opens .gate) 0 ≡ pos 0
+  -- K1: the bytes of the answer with the rest of the buffer as it was, and the balance
+  pub k1 : pays .code ≡ 0
+  pub k1-bytes : pays .out ≡ answer1 ++ replicate 378 0
+  pub k1-balance : balanceAt (pays .gate) 0 ≡ pos 1012
+  -- K2: the same bytes and balance
+  pub k2 : paysAgain .code ≡ 0
+  pub k2-bytes : paysAgain .out ≡ answer1 ++ replicate 378 0
+  pub k2-balance : balanceAt (paysAgain .gate) 0 ≡ pos 1012
+  -- K3: 9999999.99 is 999999999; 10000000 gives 3
+  pub k3 : (amountRead F.amountMost ≡ Value 999999999) × (amountFault F.amountOver ≡ 3)
+  pub k3-most : balanceAt ((atStart amountMost) .gate) 0 ≡ pos 999999999
+  pub k3-over : (atStart amountOver) .code ≡ 3
+  -- K4: 0.01 is 1; 0.00, `10.` and 10.125 give 3; 7.5 is 750
+  pub k4 : (amountRead F.oneKopeck ≡ Value 1) × (amountFault F.noKopecks ≡ 3) × (amountFault F.pointAlone ≡ 3)
+      × (amountFault F.threeDecimals ≡ 3) × (amountRead F.oneDecimal ≡ Value 750)
+  pub k4-one : balanceAt ((atStart oneKopeck) .gate) 0 ≡ pos 1
+  pub k4-none : (atStart noKopecks) .code ≡ 3
+  pub k4-point : (atStart pointAlone) .code ≡ 3
+  pub k4-three : (atStart threeDecimals) .code ≡ 3
+  pub k4-tens : balanceAt ((atStart oneDecimal) .gate) 0 ≡ pos 750
+  -- K5: a receipt of 15 nines reads; 16 digits or 0 give 4
+  pub k5 : (receiptRead F.receiptMost ≡ Value 999999999999999) × (receiptFault F.receiptLong ≡ 4) × (receiptFault F.receiptZero ≡ 4)
+  pub k5-most : (atStart receiptMost) .code ≡ 0
+  pub k5-long : (atStart receiptLong) .code ≡ 4
+  pub k5-zero : (atStart receiptZero) .code ≡ 4
+  -- K6: 2024-02-29 reads; 2023-02-29 gives 5
+  pub k6 : (dateFault F.leapDate ≡ 0) × (dateRead F.leapDate ≡ record { ok = true; date = F.leapDate }) × (dateFault F.noLeapDate ≡ 5)
+  pub k6-leap : (atStart leapDate) .code ≡ 0
+  pub k6-none : (atStart noLeapDate) .code ≡ 5
+  -- K7: K1, draw 1, cancel: 9
+  pub drawing : draws .code ≡ 0
+  pub k7 : cancelsDrawn .code ≡ 9
+  -- K8: K1, cancel: 0; payment again: 7, balance 0
+  pub k8-cancel : cancels .code ≡ 0
+  pub k8-again : paysCancelled .code ≡ 7
+  pub k8-balance : balanceAt (paysCancelled .gate) 0 ≡ pos 0
+  -- K9: K1, draw 1, empty registry: balance -1
+  pub k9 : settlesNone .code ≡ 0
+  pub k9-balance : balanceAt (settlesNone .gate) 0 ≡ negsuc 0
+  -- K10: K8, registry with K1's line: `1`, balance 1012
+  pub k10 : settlesLine .code ≡ 0
+  pub k10-report : settlesLine .report ≡ 49 ∷ replicate 511 0
+  pub k10-balance : balanceAt (settlesLine .gate) 0 ≡ pos 1012
+  -- K11: after K9 a new receipt of that day: 5
+  pub k11 : paysLate .code ≡ 5
+  -- K12: after K9 day 2005-09-22: 55
+  pub k12 : settlesLater .code ≡ 55
+
+-- every definition on the way is computed
+pub cases : K
+unfolding opens atStart pays paysAgain draws cancelsDrawn cancels paysCancelled settlesNone settlesLine paysLate settlesLater T.recordsOf TL.tab TL.firstFrom TL.allFrom A.isAccount A.findAccount VA.tableGood VA.lentGood VA.gateGood VA.accountGood VA.near VA.recordGood VA.rangesGood VA.stateGood VA.accountKnown VA.authcodeGood L.every L.eqList N.numberByte N.isNumber N.sameNumber C.leapYear C.daysIn C.isDate C.dayOf C.twoDigits C.dayPart W.clockTime W.dateDay L.find G.digitsRead G.rangeRead M.kopecksAfter M.amountRead N.isNumberText N.numberRead W.dateRead T.rowsFrom T.findRecord A.credited A.debited L.written C.dayBefore D.isFull D.nextAuthcode D.revoked deliver D.deliverRead D.respond D.planOf D.planWith D.viewOf D.dateOf D.accountOf D.isCancel D.dateClosed D.changed D.makeRecord D.answerOf D.answersAuthcode D.answersDate D.answerDate E.decision E.paymentNew E.checkCode E.cancelDone G.fixed G.decimal U.isHex U.hexValue U.wellCoded U.decoded P.splitAt MN.laterIndex MN.nameIndex MN.actionWord MN.actionOf MS.addPiece MS.gatherFrom MS.gathered MR.held MR.fieldOf MR.refused MR.firstFault MR.fieldFault MR.askedOf MR.fieldsRead MR.requestRead AN.element AN.messageOf AN.answerBytes openCall O.openTo A.opened drawCall O.drawFrom O.drawOn settle S.settleText S.settleDay S.matches S.verdictOf S.restored S.postedRecord S.applied S.settleLine S.settleLines S.anyMatches S.isStray S.sweptRecord S.sweptGate S.sweepGates S.swept S.anyDone S.reportOf RR.splitLines RR.countOf RR.lineCount RR.goodLine RR.goodLines RR.heldLines RR.registryLines RR.rising RR.registryFault RL.lineRead C.sameDay C.nextDay
+cases =
+    record {
+      opening = refl;
+      start-closed = refl;
+      start-account = refl;
+      start-balance = refl;
+      k1 = refl;
+      k1-bytes = refl;
+      k1-balance = refl;
+      k2 = refl;
+      k2-bytes = refl;
+      k2-balance = refl;
+      k3 = F.k3;
+      k3-most = refl;
+      k3-over = refl;
+      k4 = F.k4;
+      k4-one = refl;
+      k4-none = refl;
+      k4-point = refl;
+      k4-three = refl;
+      k4-tens = refl;
+      k5 = F.k5;
+      k5-most = refl;
+      k5-long = refl;
+      k5-zero = refl;
+      k6 = F.k6;
+      k6-leap = refl;
+      k6-none = refl;
+      drawing = refl;
+      k7 = refl;
+      k8-cancel = refl;
+      k8-again = refl;
+      k8-balance = refl;
+      k9 = refl;
+      k9-balance = refl;
+      k10 = refl;
+      k10-report = refl;
+      k10-balance = refl;
+      k11 = refl;
+      k12 = refl;
+    }

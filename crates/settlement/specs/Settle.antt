@@ -1,0 +1,181 @@
+-- Document 01, "Registry": settlement of the table by a day's registry.
+use Prim.Native.Nat.{ℕ, _+_}
+use mathlib.Core.List.{List, [], _∷_, _++_, map}
+use mathlib.Core.Bool.{Bool, true, false, cond, not, _&&_, _||_}
+use lib.Dec.{eqb, leb, ltb}
+use lib.ListN.{length, getD, set}
+use Rattle.fields.specs.declared.calendar.Day.{Day}
+use Rattle.fields.specs.declared.calendar.DayRead.{DayRead}
+use Rattle.fields.specs.declared.calendar.DayRead.the-variants.{Good, NoDate}
+use Rattle.fields.specs.Lists.{eqList, written}
+use Rattle.fields.specs.Calendar.{isDay, dayBefore, sameDay, nextDay}
+use Rattle.fields.specs.Date.{dateDay, isWritten, emptyDate}
+use Rattle.fields.specs.Number.{sameNumber}
+use Rattle.registry.specs.declared.line.Line.{Line}
+use Rattle.registry.specs.Registry.{onDay, registryLines, registryFault}
+use Rattle.table.specs.declared.Record.{Record}
+use Rattle.table.specs.declared.Gate.{Gate}
+use Rattle.table.specs.declared.Found.{Found}
+use Rattle.table.specs.declared.Found.the-variants.{At, Nothing}
+use Rattle.table.specs.Lists.{firstFrom, isFound}
+use Rattle.table.specs.Table.{Rows, recordsOf, rowsFrom, findRecord}
+use Rattle.table.specs.Accounts.{accountsOf, findAccount, withUsed, withClosed}
+use Rattle.table.specs.Valid.{tableGood}
+use Rattle.gate.specs.Deliver.{noRecord, nextAuthcode, revoked, creditedAt, debitedAt, isFull}
+
+-- a line matches a record if receipt, account, amount and date agree
+unfoldable pub matches : Line → Record → Bool
+matches x r =
+    eqb (r .receipt) (x .receipt)
+    && (sameNumber (r .number) (x .number)
+    && (eqb (r .kind) (x .kind) && (eqb (r .amount) (x .amount) && eqList (r .date) (x .date))))
+
+abbrev pub isDone : Record → Bool
+isDone r = eqb (r .state) 1
+
+-- ---- the verdict on one line
+pub data Verdict : Type 0 where
+  Keeps : Verdict
+  Restores : ℕ → Verdict
+  Posts : ℕ → Verdict
+  Unposted : Verdict
+
+-- receipt unrecorded, account known, table not full: posted
+abbrev pub postVerdict : Found → Found → Bool → Verdict
+postVerdict (At i) account full = Unposted
+postVerdict Nothing Nothing full = Unposted
+postVerdict Nothing (At a) full = cond full Unposted (Posts a)
+
+abbrev pub matchVerdict : List Record → Found → Verdict → Verdict
+matchVerdict rs Nothing other = other
+matchVerdict rs (At i) other = cond (isDone (getD rs i noRecord)) Keeps (Restores i)
+
+unfoldable pub verdictOf : Gate → List Record → ℕ → Line → Verdict
+verdictOf g rs lent x =
+    matchVerdict rs (firstFrom (matches x) 0 rs)
+    (postVerdict (findRecord (x .receipt) rs) (findAccount (x .number) (x .kind) (accountsOf g)) (isFull g lent))
+
+-- ---- its application
+-- done again: the credit date is kept, the cancel date emptied
+unfoldable pub restored : Record → Record
+restored r =
+    record {
+      receipt = r .receipt;
+      number = r .number;
+      kind = r .kind;
+      amount = r .amount;
+      date = r .date;
+      state = 1;
+      authcode = r .authcode;
+      credit = r .credit;
+      cancel = emptyDate;
+    }
+
+unfoldable pub postedRecord : Gate → List ℕ → Line → Record
+postedRecord g clock x =
+    record {
+      receipt = x .receipt;
+      number = x .number;
+      kind = x .kind;
+      amount = x .amount;
+      date = x .date;
+      state = 1;
+      authcode = nextAuthcode g;
+      credit = clock;
+      cancel = emptyDate;
+    }
+
+-- the gate and the records of its table
+pub record Ledger : Type 0 where
+  pub gate : Gate
+  pub records : List Record
+
+unfoldable pub applied : List ℕ → Line → Verdict → Ledger → Ledger
+applied clock x Keeps l = l
+applied clock x (Restores i) l =
+    record {
+      gate = creditedAt (l .gate) (findAccount (x .number) (x .kind) (accountsOf (l .gate))) (x .amount);
+      records = set (l .records) i (restored (getD (l .records) i noRecord));
+    }
+applied clock x (Posts a) l =
+    record {
+      gate = withUsed (creditedAt (l .gate) (At a) (x .amount)) (l .gate .used + 1);
+      records = l .records ++ (postedRecord (l .gate) clock x ∷ []);
+    }
+applied clock x Unposted l = l
+
+unfoldable pub settleLine : List ℕ → ℕ → Line → Ledger → Ledger
+settleLine clock lent x l = applied clock x (verdictOf (l .gate) (l .records) lent x) l
+
+-- the lines in their order
+unfoldable pub settleLines : List ℕ → ℕ → List Line → Ledger → Ledger
+settleLines clock lent [] l = l
+settleLines clock lent (x ∷ xs) l = settleLines clock lent xs (settleLine clock lent x l)
+
+-- ---- the sweep: every done record of the day that no line matches is cancelled, even below zero
+unfoldable pub anyMatches : List Line → Record → Bool
+anyMatches [] r = false
+anyMatches (x ∷ xs) r = matches x r || anyMatches xs r
+
+unfoldable pub isStray : Day → List Line → Record → Bool
+isStray day xs r = isDone r && (onDay day (dateDay (r .date)) && not (anyMatches xs r))
+
+unfoldable pub sweptRecord : List ℕ → Day → List Line → Record → Record
+sweptRecord clock day xs r = cond (isStray day xs r) (revoked clock r) r
+
+unfoldable pub sweptGate : Day → List Line → Record → Gate → Gate
+sweptGate day xs r g = cond (isStray day xs r) (debitedAt g (findAccount (r .number) (r .kind) (accountsOf g)) (r .amount)) g
+
+unfoldable pub sweepGates : Day → List Line → List Record → Gate → Gate
+sweepGates day xs [] g = g
+sweepGates day xs (r ∷ rs) g = sweepGates day xs rs (sweptGate day xs r g)
+
+unfoldable pub swept : List ℕ → Day → List Line → Ledger → Ledger
+swept clock day xs l =
+    record { gate = sweepGates day xs (l .records) (l .gate); records = map (sweptRecord clock day xs) (l .records) }
+
+-- ---- the report: one byte a line, 1 if a done record matches
+unfoldable pub anyDone : Line → List Record → Bool
+anyDone x [] = false
+anyDone x (r ∷ rs) = (isDone r && matches x r) || anyDone x rs
+
+unfoldable pub reportOf : List Line → List Record → List ℕ
+reportOf [] rs = []
+reportOf (x ∷ xs) rs = cond (anyDone x rs) 49 48 ∷ reportOf xs rs
+
+-- ---- the call
+pub record Settled : Type 0 where
+  pub code : ℕ
+  pub gate : Gate
+  pub rows : Rows
+  pub report : List ℕ
+
+-- the day after the closed one is settled and closed
+unfoldable pub settleDay : Gate → Rows → List ℕ → Day → List Line → List ℕ → Settled
+settleDay g t clock day xs out =
+    let l = swept clock day xs (settleLines clock (length (t .nums)) xs (record { gate = g; records = recordsOf t (g .used) })) in
+    record { code = 0; gate = withClosed (l .gate) day; rows = rowsFrom t (l .records); report = written out 0 (reportOf xs (l .records)) }
+
+abbrev pub isNext : DayRead → Day → Bool
+isNext NoDate day = false
+isNext (Good d) day = sameDay d day
+
+-- a day on or before the closed one is only reported; a later one, or no date, is 55
+unfoldable pub settleText : Gate → Rows → List ℕ → Day → List ℕ → List ℕ → Settled
+settleText g t clock day text out =
+    cond (isNext (nextDay (g .closed)) day)
+    (settleDay g t clock day (registryLines text) out)
+    (cond (isDay day && not (dayBefore (g .closed) day))
+    (record { code = 0; gate = g; rows = t; report = written out 0 (reportOf (registryLines text) (recordsOf t (g .used))) })
+    (record { code = 55; gate = g; rows = t; report = out }))
+
+-- 68, 50, 51, then 53, 52, 54 of the text, then 55
+unfoldable pub settle : Gate → Rows → List ℕ → Day → List ℕ → List ℕ → Settled
+settle g t clock day text out =
+    cond (tableGood g t)
+    (cond (leb 512 (length out))
+    (cond (isWritten clock)
+    (cond (eqb (registryFault day text) 0) (settleText g t clock day text out) (record { code = registryFault day text; gate = g; rows = t; report = out }))
+    (record { code = 51; gate = g; rows = t; report = out }))
+    (record { code = 50; gate = g; rows = t; report = out }))
+    (record { code = 68; gate = g; rows = t; report = out })

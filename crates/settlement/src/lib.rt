@@ -1,0 +1,1 @@
+// Settlement of the table by a day's registry.
