@@ -13,7 +13,7 @@ use borrow.Author.Tests.{le-leb, lt-leb, lt-ltb, le-ltb, eq-eqb, ne-eqb, leb-tru
 use Rattle.fields.specs.declared.calendar.Day.{Day}
 use Rattle.fields.specs.declared.calendar.DayRead.{DayRead}
 use Rattle.fields.specs.declared.calendar.DayRead.the-variants.{Good, NoDate}
-use Rattle.fields.specs.Calendar.{leapYear, daysIn, isDate, isDay, dayOf, nextDay, dayKey, dayBefore, sameDay, twoDigits, dayPart, dayRead}
+use Rattle.fields.specs.Calendar.{leapYear, daysIn, isDate, isDay, dayOf, nextDay, dayKey, dayBefore, sameDay, onDay, upTo, twoDigits, dayPart, dayRead}
 use Rattle.fields.proofs.Tests.{and-left, and-right}
 
 module _ (y : ℕ) where
@@ -187,3 +187,24 @@ module _ (s : List ℕ) where
   pub alone : (r : DayRead) → length s ≡ 10 → r ≡ dayPart s → r ≡ dayRead s
   unfolding dayRead
   alone r l e = e ∙ simp (eq-eqb _ _ l)
+
+-- ---- what was read, and a day
+module _ (day : Day) (x : DayRead) where
+  pub this-none : x ≡ NoDate → false ≡ onDay day x
+  this-none e = rw e
+
+  pub this-day : (y : Day) → x ≡ Good y → (b : Bool) → b ≡ sameDay y day → b ≡ onDay day x
+  this-day y e b eb = rw (e, eb)
+
+  pub until-none : x ≡ NoDate → true ≡ upTo day x
+  until-none e = rw e
+
+  pub until-day : (y : Day) → x ≡ Good y → (b : Bool) → b ≡ dayBefore day y → not b ≡ upTo day x
+  until-day y e b eb = rw (e, eb)
+
+module _ (day : Day) (x d : DayRead) (ex : x ≡ d) (b : Bool) where
+  pub this-of : b ≡ onDay day x → b ≡ onDay day d
+  this-of e = e ∙ rw ex
+
+  pub until-of : b ≡ upTo day x → b ≡ upTo day d
+  until-of e = e ∙ rw ex

@@ -43,6 +43,15 @@ dayBefore x y = ltb (dayKey x) (dayKey y)
 unfoldable pub sameDay : Day → Day → Bool
 sameDay x y = eqb (x .year) (y .year) && (eqb (x .month) (y .month) && eqb (x .day) (y .day))
 
+-- whether what was read is this day, or one up to it; what is no date is on no day and before all
+abbrev pub onDay : Day → DayRead → Bool
+onDay day NoDate = false
+onDay day (Good x) = sameDay x day
+
+abbrev pub upTo : Day → DayRead → Bool
+upTo last NoDate = true
+upTo last (Good x) = not (dayBefore last x)
+
 -- the days of the first m months of a year, and of the first k years from 2000 on
 unfoldable pub monthsDays : ℕ → ℕ → ℕ
 monthsDays y zero = 0

@@ -1,6 +1,6 @@
 // Days of the Gregorian calendar from 2000 to 2099.
 ghost use mathlib.Core.Path.{_≡_};
-ghost use Rattle.fields.specs.Calendar.{twoDigits, leapYear, daysIn, isDate, isDay, dayOf, nextDay, dayBefore, sameDay, dayPart, dayRead};
+ghost use Rattle.fields.specs.Calendar.{twoDigits, leapYear, daysIn, isDate, isDay, dayOf, nextDay, dayBefore, sameDay, onDay, upTo, dayPart, dayRead};
 
 pub struct Day {
     pub year: u16,
@@ -115,6 +115,33 @@ impl Day {
             return false;
         }
         self.day == other.day
+    }
+
+    // Whether this day comes right after another.
+    pub fn follows(self, last: Day) -> bool
+        ensures { λ r. ⌜ r ≡ onDay self (nextDay last) ⌝ }
+    {
+        is_this(self, last.next())
+    }
+}
+
+// Whether what was read is this day.
+pub fn is_this(day: Day, x: DayRead) -> bool
+    ensures { λ r. ⌜ r ≡ onDay day x ⌝ }
+{
+    match x {
+        DayRead::NoDate => false,
+        DayRead::Good(own) => own.same(day),
+    }
+}
+
+// Whether what was read is this day or before it.
+pub fn is_until(last: Day, x: DayRead) -> bool
+    ensures { λ r. ⌜ r ≡ upTo last x ⌝ }
+{
+    match x {
+        DayRead::NoDate => true,
+        DayRead::Good(own) => !last.before(own),
     }
 }
 

@@ -1,9 +1,11 @@
 // Written dates: nineteen bytes, YYYY-MM-DDThh:mm:ss.
 use crate::calendar;
+use crate::calendar::Day;
 use crate::calendar::DayRead;
 use crate::out;
 use crate::scan;
 ghost use mathlib.Core.Path.{_≡_};
+ghost use Rattle.fields.specs.Calendar.{onDay, upTo};
 ghost use Rattle.fields.specs.Date.{clockTime, dateDay, isWritten, noDate, dateRead};
 ghost use Rattle.fields.specs.Lists.{eqList, written, cursorAfter};
 
@@ -56,6 +58,20 @@ pub fn is_written(d: [u8; 19]) -> bool
         DayRead::Good(_) => true,
         DayRead::NoDate => false,
     }
+}
+
+// Whether a written date is on the day.
+pub fn is_on(day: Day, d: [u8; 19]) -> bool
+    ensures { λ r. ⌜ r ≡ onDay day (dateDay d) ⌝ }
+{
+    calendar::is_this(day, day_of_date(d))
+}
+
+// Whether a written date is on or before the last of some days.
+pub fn is_up_to(last: Day, d: [u8; 19]) -> bool
+    ensures { λ r. ⌜ r ≡ upTo last (dateDay d) ⌝ }
+{
+    calendar::is_until(last, day_of_date(d))
 }
 
 // What a field that is no written date reads as.

@@ -15,8 +15,8 @@ use Rattle.message.specs.declared.action.Action.the-variants.{Check, Payment, S
 use Rattle.message.specs.declared.request.Asked.{Asked}
 use Rattle.table.specs.declared.Record.{Record}
 use Rattle.table.specs.declared.Gate.{Gate}
-use Rattle.table.specs.declared.Found.{Found}
-use Rattle.table.specs.declared.Found.the-variants.{At, Nothing}
+use Rattle.lists.specs.declared.Found.{Found}
+use Rattle.lists.specs.declared.Found.the-variants.{At, Nothing}
 use Rattle.table.specs.Table.{Rows, recordsOf, findRecord, rowsFrom, rowsWith, Whole, SameLengths}
 use Rattle.table.specs.Accounts.{balanceAt, credited, debited, withUsed}
 use Rattle.table.specs.Valid.{Sound, Ready, tableGood}
@@ -38,8 +38,8 @@ module _ (g : Gate) (f : Found) (a : ℕ) (is : f ≡ At a) where
   pub at-place : Sound g → Within f (g .count) → a < 256
   at-place s w = let h : a < g .count = w .at a is in omega (arith, s .count)
 
-  pub at-balance : Sound g → Within f (g .count) → mag (balanceAt g a) ≤ 10000000000000
-  at-balance s w = s .balances a (w .at a is)
+  pub at-balance : Sound g → Within f (g .count) → mag (balanceAt g a) ≤ 10000000000000000
+  at-balance s w = omega (arith, s .balances a (w .at a is))
 
   pub credit-there : (n : ℕ) (r : Gate) → r ≡ credited g a n → r ≡ creditedAt g f n
   credit-there n r e = e ∙ rw is

@@ -14,11 +14,11 @@ use Rattle.fields.specs.Codes.{isKind}
 use Rattle.fields.specs.Number.{isNumber}
 use Rattle.fields.proofs.Tests.{and-left, and-right}
 use Rattle.table.specs.declared.Gate.{Gate}
-use Rattle.table.specs.Lists.{allFrom}
+use Rattle.lists.specs.Lists.{allFrom}
 use Rattle.table.specs.Table.{Rows, recordAt, recordsOf, Whole}
 use Rattle.table.specs.Accounts.{accountsOf, noAccount, balanceAt}
 use Rattle.table.specs.Valid.{near, accountGood, gateGood, recordGood, lentGood, tableGood, Ready}
-use Rattle.table.proofs.ListLaws.{all-at}
+use Rattle.lists.proofs.ListLaws.{all-at}
 use Rattle.table.proofs.TableLaws.{length-records, getD-records}
 use Rattle.table.proofs.AccountLaws.{in-use}
 use Rattle.table.proofs.RangeLaws.{near-mag}

@@ -20,9 +20,9 @@ use Rattle.message.specs.declared.request.RequestRead.{RequestRead}
 use Rattle.message.specs.Request.{requestRead}
 use Rattle.answers.specs.Answer.{answerBytes}
 use Rattle.table.specs.declared.Gate.{Gate}
-use Rattle.table.specs.declared.Found.{Found}
-use Rattle.table.specs.declared.Found.the-variants.{At, Nothing}
-use Rattle.table.specs.Lists.{isFound}
+use Rattle.lists.specs.declared.Found.{Found}
+use Rattle.lists.specs.declared.Found.the-variants.{At, Nothing}
+use Rattle.lists.specs.Lists.{isFound}
 use Rattle.table.specs.Table.{Rows}
 use Rattle.table.specs.Accounts.{accountsOf, findAccount, balanceAt, debited, opened}
 use Rattle.table.specs.Valid.{tableGood, Ready}

@@ -17,12 +17,12 @@ use Rattle.fields.specs.Number.{isNumber}
 use Rattle.fields.proofs.DigitLaws.{within-high}
 use Rattle.table.specs.declared.Account.{Account}
 use Rattle.table.specs.declared.Gate.{Gate}
-use Rattle.table.specs.declared.Found.{Found}
-use Rattle.table.specs.declared.Found.the-variants.{At, Nothing}
+use Rattle.lists.specs.declared.Found.{Found}
+use Rattle.lists.specs.declared.Found.the-variants.{At, Nothing}
 use Rattle.table.specs.Table.{Rows}
 use Rattle.table.specs.Accounts.{isAccount, accountsOf, findAccount, balanceAt, debited, opened}
 use Rattle.table.specs.Valid.{Sound, Ready, tableGood}
-use Rattle.table.proofs.ListLaws.{search-within}
+use Rattle.lists.proofs.ListLaws.{search-within}
 use Rattle.gate.specs.declared.opening.Reply.{Reply}
 use Rattle.gate.specs.Deliver.{Within}
 use Rattle.gate.specs.Opening.{replies, openTo, openCall, drawOn, drawFrom, drawCall}

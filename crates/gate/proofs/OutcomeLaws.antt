@@ -12,9 +12,9 @@ use Rattle.message.specs.declared.action.Action.the-variants.{Check, Payment, S
 use Rattle.message.specs.declared.request.Asked.{Asked}
 use Rattle.table.specs.declared.Record.{Record}
 use Rattle.table.specs.declared.Gate.{Gate}
-use Rattle.table.specs.declared.Found.{Found}
-use Rattle.table.specs.declared.Found.the-variants.{At, Nothing}
-use Rattle.table.specs.Lists.{isFound}
+use Rattle.lists.specs.declared.Found.{Found}
+use Rattle.lists.specs.declared.Found.the-variants.{At, Nothing}
+use Rattle.lists.specs.Lists.{isFound}
 use Rattle.table.specs.Table.{Rows, recordsOf, findRecord, rowsFrom}
 use Rattle.table.specs.Accounts.{accountsOf, findAccount, credited, withUsed}
 use Rattle.gate.specs.declared.decision.Standing.{Standing}

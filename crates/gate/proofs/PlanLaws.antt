@@ -14,14 +14,14 @@ use borrow.Author.Tests.{eq-eqb, ne-eqb}
 use Rattle.fields.specs.declared.calendar.Day.{Day}
 use Rattle.fields.specs.declared.calendar.DayRead.{DayRead}
 use Rattle.fields.specs.declared.calendar.DayRead.the-variants.{Good, NoDate}
-use Rattle.fields.specs.Calendar.{dayBefore}
+use Rattle.fields.specs.Calendar.{upTo}
 use Rattle.fields.specs.Date.{dateDay}
 use Rattle.message.specs.declared.request.Asked.{Asked}
 use Rattle.table.specs.declared.Record.{Record}
 use Rattle.table.specs.declared.Gate.{Gate}
-use Rattle.table.specs.declared.Found.{Found}
-use Rattle.table.specs.declared.Found.the-variants.{At, Nothing}
-use Rattle.table.specs.Lists.{isFound, firstFrom, allFrom}
+use Rattle.lists.specs.declared.Found.{Found}
+use Rattle.lists.specs.declared.Found.the-variants.{At, Nothing}
+use Rattle.lists.specs.Lists.{isFound, firstFrom, allFrom}
 use Rattle.table.specs.Table.{Rows, recordAt, recordsOf, hasReceipt, findRecord}
 use Rattle.table.specs.Accounts.{isAccount, accountsOf, findAccount, balanceAt}
 use Rattle.fields.specs.declared.number.Number.{Number}
@@ -31,14 +31,14 @@ use Rattle.fields.proofs.Tests.{and-left, and-right}
 use Rattle.fields.proofs.DigitLaws.{within-high}
 use Rattle.table.specs.Valid.{Sound, rangesGood, authcodeGood, recordGood, gateGood, lentGood, tableGood}
 use Rattle.table.proofs.TableLaws.{length-records, getD-records}
-use Rattle.table.proofs.ListLaws.{search-within, all-at}
+use Rattle.lists.proofs.ListLaws.{search-within, all-at}
 use Rattle.gate.specs.declared.decision.Standing.{Standing}
 use Rattle.gate.specs.declared.decision.Standing.the-variants.{Unrecorded, Done, Cancelled}
 use Rattle.gate.specs.declared.decision.View.{View}
 use Rattle.gate.specs.declared.decision.Decided.{Decided}
 use Rattle.gate.specs.declared.plan.Plan.{Plan}
 use Rattle.gate.specs.Decision.{decision}
-use Rattle.gate.specs.Deliver.{planWith, planOf, Within, noRecord, recordFound, standingOf, dayClosed, dateClosed, isCancel, accountOf, dateOf, isShort, isFull, viewOf}
+use Rattle.gate.specs.Deliver.{planWith, planOf, Within, noRecord, recordFound, standingOf, dateClosed, isCancel, accountOf, dateOf, isShort, isFull, viewOf}
 
 -- ---- a place that was found
 pub place-below : (used n i : ℕ) (f : Found) → f ≡ At i → Within f used → used ≤ n → i < n
@@ -53,14 +53,9 @@ module _ (f : Found) (r : Record) (i : ℕ) (is : f ≡ At i) where
   stands-cancelled n s q = q ∙ rw (is, ne-eqb _ _ n)
 
 -- ---- dates and accounts that a request concerns
-module _ (g : Gate) (d : List ℕ) (x : DayRead) (ex : x ≡ dateDay d) where
-  pub closed-none : x ≡ NoDate → true ≡ dateClosed g d
-  unfolding dateClosed
-  closed-none e = rw (← ex, e)
-
-  pub closed-day : (y : Day) → x ≡ Good y → (b : Bool) → b ≡ dayBefore (g .closed) y → not b ≡ dateClosed g d
-  unfolding dateClosed
-  closed-day y e b eb = rw (← ex, e, eb)
+pub closed-day : (g : Gate) (d : List ℕ) (b : Bool) → b ≡ upTo (g .closed) (dateDay d) → b ≡ dateClosed g d
+unfolding dateClosed
+closed-day g d b e = e
 
 module _ (g : Gate) (q : Asked) (r : Record) (t : Bool) (et : t ≡ isCancel (q .action)) where
   pub account-record : t ≡ true → (f : Found) → f ≡ findAccount (r .number) (r .kind) (accountsOf g) → f ≡ accountOf g q r

@@ -11,13 +11,13 @@ use Rattle.message.specs.declared.request.Asked.{Asked}
 use Rattle.message.specs.Request.{requestRead}
 use Rattle.table.specs.declared.Record.{Record}
 use Rattle.table.specs.declared.Gate.{Gate}
-use Rattle.table.specs.declared.Found.{Found}
-use Rattle.table.specs.declared.Found.the-variants.{At, Nothing}
+use Rattle.lists.specs.declared.Found.{Found}
+use Rattle.lists.specs.declared.Found.the-variants.{At, Nothing}
 use Rattle.table.specs.Table.{Rows, recordAt, recordsOf, rowsFrom}
 use Rattle.table.specs.Accounts.{debited}
 use borrow.Author.Tests.{eqb-false}
 use Rattle.table.specs.Table.{findRecord, hasReceipt}
-use Rattle.table.proofs.ListLaws.{found-none}
+use Rattle.lists.proofs.ListLaws.{found-none}
 use Rattle.table.proofs.RangeLaws.{no-claim}
 use Rattle.table.proofs.TableLaws.{length-records, getD-records, from-at}
 use Rattle.gate.specs.Deliver.{noRecord, dateClosed, makeRecord, revoked, debitedAt, respond, deliver, Delivered}

@@ -24,9 +24,9 @@ use Rattle.message.proofs.RequestRange.{AskedGood, read-good}
 use Rattle.table.specs.declared.Account.{Account}
 use Rattle.table.specs.declared.Gate.{Gate}
 use Rattle.table.specs.declared.Record.{Record}
-use Rattle.table.specs.declared.Found.{Found}
-use Rattle.table.specs.declared.Found.the-variants.{At, Nothing}
-use Rattle.table.specs.Lists.{firstFrom, isFound}
+use Rattle.lists.specs.declared.Found.{Found}
+use Rattle.lists.specs.declared.Found.the-variants.{At, Nothing}
+use Rattle.lists.specs.Lists.{firstFrom, isFound}
 use Rattle.table.specs.Table.{Rows, recordAt, recordsOf, rowsFrom, Whole}
 use Rattle.table.specs.Accounts.{isAccount, accountsOf, findAccount, noAccount, withBalance, gateBalance, credited, debited, withUsed}
 use Rattle.table.specs.Valid.{stateGood, rangesGood, accountKnown, authcodeGood, recordGood, tableGood, Ready}

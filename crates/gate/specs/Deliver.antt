@@ -7,12 +7,9 @@ use lib.Dec.{eqb, leb, ltb}
 use lib.IntN.{ℤ, pos}
 use lib.Signed.{ltZ}
 use lib.ListN.{length, getD, set}
-use Rattle.fields.specs.declared.calendar.Day.{Day}
-use Rattle.fields.specs.declared.calendar.DayRead.{DayRead}
-use Rattle.fields.specs.declared.calendar.DayRead.the-variants.{Good, NoDate}
 use Rattle.fields.specs.declared.number.Number.{Number}
 use Rattle.fields.specs.Lists.{written}
-use Rattle.fields.specs.Calendar.{dayBefore}
+use Rattle.fields.specs.Calendar.{upTo}
 use Rattle.fields.specs.Date.{dateDay, isWritten, emptyDate}
 use Rattle.message.specs.declared.action.Action.{Action}
 use Rattle.message.specs.declared.action.Action.the-variants.{Check, Payment, Status, Cancel}
@@ -23,9 +20,9 @@ use Rattle.message.specs.Request.{requestRead, unusedNumber}
 use Rattle.answers.specs.Answer.{answerBytes}
 use Rattle.table.specs.declared.Record.{Record}
 use Rattle.table.specs.declared.Gate.{Gate}
-use Rattle.table.specs.declared.Found.{Found}
-use Rattle.table.specs.declared.Found.the-variants.{At, Nothing}
-use Rattle.table.specs.Lists.{isFound}
+use Rattle.lists.specs.declared.Found.{Found}
+use Rattle.lists.specs.declared.Found.the-variants.{At, Nothing}
+use Rattle.lists.specs.Lists.{isFound}
 use Rattle.table.specs.Table.{Rows, recordsOf, rowsFrom, findRecord}
 use Rattle.table.specs.Accounts.{accountsOf, findAccount, balanceAt, credited, debited, withUsed}
 use Rattle.table.specs.Valid.{tableGood}
@@ -67,12 +64,8 @@ standingOf Nothing r = Unrecorded
 standingOf (At i) r = cond (eqb (r .state) 1) Done Cancelled
 
 -- whether a date is on or before the closed day
-abbrev pub dayClosed : Day → DayRead → Bool
-dayClosed closed NoDate = true
-dayClosed closed (Good d) = not (dayBefore closed d)
-
 unfoldable pub dateClosed : Gate → List ℕ → Bool
-dateClosed g date = dayClosed (g .closed) (dateDay date)
+dateClosed g date = upTo (g .closed) (dateDay date)
 
 -- a cancel concerns its record's account and date, every other action its own
 unfoldable pub isCancel : Action → Bool

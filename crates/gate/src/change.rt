@@ -1,8 +1,8 @@
 // The three changes that a decision may make: none, a record more, its record cancelled.
 use crate::decision::Change;
 use crate::plan::Plan;
+use lists::Found;
 use message::request::Asked;
-use table::Found;
 use table::Gate;
 use table::Record;
 use table::accounts;
@@ -24,7 +24,7 @@ pub struct Outcome {
 }
 
 // The record of a payment that is credited now.
-fn make_record(g: Gate, clock: [u8; 19], q: Asked) -> Record
+pub fn make_record(g: Gate, clock: [u8; 19], q: Asked) -> Record
     requires { ⌜ g .used < 4096 ⌝ }
     ensures { λ r. ⌜ r ≡ makeRecord g clock q ⌝ }
 {

@@ -2,7 +2,7 @@
 use fields::amount;
 use fields::codes;
 use fields::number::Number;
-use table::Found;
+use lists::Found;
 use table::Gate;
 use table::accounts;
 use table::valid;

@@ -4,11 +4,10 @@ use crate::decision::Decided;
 use crate::decision::Standing;
 use crate::decision::View;
 use crate::reply;
-use fields::calendar::DayRead;
 use fields::date;
 use fields::number::Number;
+use lists::Found;
 use message::request::Asked;
-use table::Found;
 use table::Gate;
 use table::Record;
 use table::accounts;
@@ -16,7 +15,6 @@ use table::rows;
 ghost use mathlib.Core.Path.{_≡_};
 ghost use Prim.Native.Nat.{_≤_, _<_};
 ghost use lib.ListN.{length};
-ghost use Rattle.table.specs.Lists.{isFound};
 ghost use Rattle.table.specs.Table.{Rows, recordsOf, findRecord};
 ghost use mathlib.Core.Bool.{true};
 ghost use Rattle.table.specs.Valid.{Sound, Ready, tableGood};
@@ -71,11 +69,7 @@ pub(crate) fn date_closed(g: Gate, d: [u8; 19]) -> bool
     ensures { λ t. ⌜ t ≡ dateClosed g d ⌝ }
 {
     let closed = g.closed;
-    let x = date::day_of_date(d);
-    match x {
-        DayRead::NoDate => true,
-        DayRead::Good(day) => !closed.before(day),
-    }
+    date::is_up_to(closed, d)
 }
 
 // The account that a request concerns: a cancel's is its record's.
@@ -102,16 +96,6 @@ pub(crate) fn date_of(q: Asked, r: Record) -> [u8; 19]
     if reply::is_cancel(a) { recorded } else { own }
 }
 
-// Whether an account was found.
-pub(crate) fn is_found(f: Found) -> bool
-    ensures { λ t. ⌜ t ≡ isFound f ⌝ }
-{
-    match f {
-        Found::At(_) => true,
-        Found::Nothing => false,
-    }
-}
-
 // Whether a balance is below an amount.
 pub(crate) fn is_short(g: Gate, f: Found, n: u64) -> bool
     requires { ⌜ Sound g × Within f (g .count) × (n < 1000000000) ⌝ }
@@ -129,7 +113,7 @@ pub(crate) fn view_of(g: Gate, lent: usize, q: Asked, r: Record, account: Found)
     ensures { λ v. ⌜ v ≡ viewOf g lent q r account ⌝ }
 {
     View {
-        known: is_found(account),
+        known: lists::is_found(account),
         full: lent <= g.used,
         closed: date_closed(g, date_of(q, r)),
         short: is_short(g, account, r.amount),

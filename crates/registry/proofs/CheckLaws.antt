@@ -9,13 +9,11 @@ use lib.ListN.{length, take, drop, length-drop, drop-of-length-le}
 use lib.Seq.{drop-drop}
 use borrow.Author.Tests.{le-leb, lt-leb, not-true, not-false}
 use Rattle.fields.specs.declared.calendar.Day.{Day}
-use Rattle.fields.specs.declared.calendar.DayRead.{DayRead}
-use Rattle.fields.specs.declared.calendar.DayRead.the-variants.{Good, NoDate}
-use Rattle.fields.specs.Calendar.{sameDay}
+use Rattle.fields.specs.Calendar.{onDay}
 use Rattle.fields.specs.Date.{dateDay}
 use Rattle.registry.specs.declared.line.LineRead.{LineRead}
 use Rattle.registry.specs.Line.{lineRead}
-use Rattle.registry.specs.Registry.{lineEnd, splitLines, countOf, lineCount, onDay, goodLine, goodLines, heldLines, registryLines, rising, registryFault}
+use Rattle.registry.specs.Registry.{lineEnd, splitLines, countOf, lineCount, goodLine, goodLines, heldLines, registryLines, rising, registryFault}
 use Rattle.registry.proofs.SplitLaws.{end-room, count-line, count-rest, good-line, good-rest, held-line}
 
 -- ---- one line
@@ -32,12 +30,8 @@ module _ (day : Day) (x : LineRead) where
   pub unread : not (x .ok) ≡ true → false ≡ (x .ok) && onDay day (dateDay (x .line .date))
   unread h = rw (not-true (x .ok) h)
 
-  module _ (good : not (x .ok) ≡ false) (r : DayRead) (read : r ≡ dateDay (x .line .date)) where
-    pub no-day : r ≡ NoDate → false ≡ (x .ok) && onDay day (dateDay (x .line .date))
-    no-day e = rw (← read, e) (simp and-false)
-
-    pub on-day : (y : Day) → r ≡ Good y → (t : Bool) → t ≡ sameDay y day → t ≡ (x .ok) && onDay day (dateDay (x .line .date))
-    on-day y e t q = q ∙ rw (← read, e, not-false (x .ok) good)
+  pub on-day : not (x .ok) ≡ false → (t : Bool) → t ≡ onDay day (dateDay (x .line .date)) → t ≡ (x .ok) && onDay day (dateDay (x .line .date))
+  on-day good t q = q ∙ rw (not-false (x .ok) good)
 
 pub rise-on : (rose : Bool) (last next : ℕ) → rose ≡ true → ltb last next ≡ rose && ltb last next
 rise-on rose last next e = rw e

@@ -11,11 +11,12 @@ use lib.Seq.{take-append-seam, drop-append-add}
 use borrow.Author.Tests.{le-leb, eqb-true, eq-eqb, not-true}
 use Rattle.fields.specs.declared.calendar.Day.{Day}
 use Rattle.fields.specs.Lists.{every}
+use Rattle.fields.specs.Calendar.{onDay}
 use Rattle.fields.specs.Date.{dateDay}
 use Rattle.fields.proofs.Tests.{both}
 use Rattle.registry.specs.declared.line.Line.{Line}
 use Rattle.registry.specs.Line.{isLine, lineRead, lineBody, lineBytes, lineAgain}
-use Rattle.registry.specs.Registry.{lineEnd, splitLines, countOf, lineCount, onDay, goodLine, goodLines, heldLines, registryLines, rising, registryFault, registryBytes}
+use Rattle.registry.specs.Registry.{lineEnd, splitLines, countOf, lineCount, goodLine, goodLines, heldLines, registryLines, rising, registryFault, registryBytes}
 use Rattle.registry.specs.RegistryText.{lineOn, everyLine}
 use Rattle.registry.proofs.LineParts.{line-length}
 use Rattle.registry.proofs.LineAgain.{other, body-other, line-again}

@@ -4,9 +4,7 @@ use mathlib.Core.List.{List, [], _∷_, _++_}
 use mathlib.Core.Bool.{Bool, true, false, cond, _&&_}
 use lib.Dec.{leb, ltb, eqb}
 use Rattle.fields.specs.declared.calendar.Day.{Day}
-use Rattle.fields.specs.declared.calendar.DayRead.{DayRead}
-use Rattle.fields.specs.declared.calendar.DayRead.the-variants.{Good, NoDate}
-use Rattle.fields.specs.Calendar.{sameDay}
+use Rattle.fields.specs.Calendar.{onDay}
 use Rattle.fields.specs.Date.{dateDay}
 use Rattle.registry.specs.declared.line.Line.{Line}
 use Rattle.registry.specs.Line.{lineRead, lineBytes}
@@ -39,10 +37,6 @@ unfoldable pub lineCount : List ℕ → ℕ
 lineCount s = countOf (splitLines s)
 
 -- a line is well formed and its date is on the day
-abbrev pub onDay : Day → DayRead → Bool
-onDay day NoDate = false
-onDay day (Good x) = sameDay x day
-
 unfoldable pub goodLine : Day → List ℕ → Bool
 goodLine day l = (lineRead l) .ok && onDay day (dateDay ((lineRead l) .line .date))
 

@@ -11,11 +11,11 @@ use Rattle.fields.specs.Digits.{decimal}
 use Rattle.fields.specs.Number.{numberText}
 use Rattle.fields.specs.Amount.{amountRead}
 use Rattle.fields.specs.Codes.{receiptRead}
+use Rattle.fields.specs.Calendar.{onDay}
 use Rattle.fields.specs.Date.{dateDay, dateRead}
 use Rattle.registry.specs.declared.line.Line.{Line}
 use Rattle.registry.specs.declared.line.LineRead.{LineRead}
 use Rattle.registry.specs.Line.{field, afterField, lineOf, isLine}
-use Rattle.registry.specs.Registry.{onDay}
 
 -- the line of a number and a type that were read, and of the text of date, amount and receipt
 unfoldable pub lineWith : NumberRead → Digits → List ℕ → LineRead

@@ -2,7 +2,6 @@
 use crate::line;
 use crate::line::LineRead;
 use fields::calendar::Day;
-use fields::calendar::DayRead;
 use fields::date;
 use fields::scan;
 ghost use Prim.Native.Nat.{_+_};
@@ -10,9 +9,10 @@ ghost use mathlib.Core.Path.{_≡_};
 ghost use mathlib.Core.Bool.{_&&_, cond};
 ghost use lib.Dec.{ltb, eqb};
 ghost use lib.ListN.{take, drop};
+ghost use Rattle.fields.specs.Calendar.{onDay};
 ghost use Rattle.fields.specs.Date.{dateDay};
 ghost use Rattle.registry.specs.Line.{lineRead};
-ghost use Rattle.registry.specs.Registry.{lineEnd, lineCount, onDay, registryFault};
+ghost use Rattle.registry.specs.Registry.{lineEnd, lineCount, registryFault};
 
 // Whether two bytes are 0D 0A.
 pub(crate) fn is_end(b: u8, c: u8) -> bool
@@ -72,11 +72,8 @@ pub(crate) fn is_good(day: Day, read: LineRead) -> bool
         return false;
     }
     let line = read.line;
-    let date = line.date;
-    let DayRead::Good(x) = date::day_of_date(date) else {
-        return false;
-    };
-    x.same(day)
+    let d = line.date;
+    date::is_on(day, d)
 }
 
 // Whether receipts that rose so far still do.

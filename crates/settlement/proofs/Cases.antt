@@ -10,7 +10,7 @@ use Rattle.fields.specs.Amount.{amountRead, amountFault}
 use Rattle.fields.specs.Codes.{receiptRead, receiptFault}
 use Rattle.fields.specs.Date.{dateRead, dateFault}
 use Rattle.fields.proofs.Samples as F
-use Rattle.table.specs.declared.Found.the-variants.{At}
+use Rattle.lists.specs.declared.Found.the-variants.{At}
 use Rattle.table.specs.Accounts.{accountsOf, findAccount, balanceAt}
 use Rattle.gate.specs.Deliver.{deliver}
 use Rattle.gate.specs.Opening.{openCall, drawCall}
@@ -18,7 +18,7 @@ use Rattle.gate.specs.Deliver as D
 use Rattle.gate.specs.Decision as E
 use Rattle.gate.specs.Opening as O
 use Rattle.table.specs.Table as T
-use Rattle.table.specs.Lists as TL
+use Rattle.lists.specs.Lists as TL
 use Rattle.table.specs.Accounts as A
 use Rattle.table.specs.Valid as VA
 use Rattle.fields.specs.Lists as L

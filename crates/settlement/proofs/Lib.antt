@@ -1,2 +1,10 @@
 pub mod Cases
+pub mod DayLaws
+pub mod HeldLaws
+pub mod LinesLaws
+pub mod MatchLaws
+pub mod PostLaws
+pub mod ReportLaws
 pub mod SettleLaws
+pub mod SweepLaws
+pub mod TextLaws

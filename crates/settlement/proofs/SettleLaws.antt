@@ -11,7 +11,7 @@ use lib.Seq.{getD-set-same, getD-set-other}
 use Rattle.fields.specs.declared.calendar.Day.{Day}
 use Rattle.fields.specs.Lists.{written}
 use Rattle.fields.specs.Date.{dateDay, isWritten}
-use Rattle.fields.specs.Calendar.{isDay, dayBefore, nextDay}
+use Rattle.fields.specs.Calendar.{isDay, dayBefore, nextDay, onDay}
 use Rattle.fields.proofs.Tests.{cond-elim, and-left, and-right}
 use Rattle.fields.specs.Number.{sameNumber}
 use Rattle.fields.proofs.OutLaws.{written-over, bytes-past}
@@ -20,21 +20,21 @@ use Rattle.registry.specs.declared.line.Line.{Line}
 use Rattle.registry.specs.Line.{isLine}
 use Rattle.registry.specs.RegistryText.{lineOn, everyLine}
 use Rattle.registry.proofs.LinesGood.{lines-good}
-use Rattle.registry.specs.Registry.{onDay, registryLines, registryFault}
+use Rattle.registry.specs.Registry.{registryLines, registryFault}
 use Rattle.table.specs.declared.Record.{Record}
 use Rattle.table.specs.declared.Gate.{Gate}
-use Rattle.table.specs.declared.Found.{Found}
-use Rattle.table.specs.declared.Found.the-variants.{At, Nothing}
-use Rattle.table.specs.Lists.{firstFrom}
+use Rattle.lists.specs.declared.Found.{Found}
+use Rattle.lists.specs.declared.Found.the-variants.{At, Nothing}
+use Rattle.lists.specs.Lists.{firstFrom}
 use Rattle.table.specs.Table.{Rows, recordAt, recordsOf, rowsFrom, findRecord}
-use Rattle.table.proofs.ListLaws.{found-fits}
+use Rattle.lists.proofs.ListLaws.{found-fits}
 use Rattle.table.specs.Accounts.{accountsOf, findAccount, credited}
 use Rattle.table.specs.Valid.{tableGood}
 use Rattle.table.proofs.TableLaws.{length-records, getD-records, from-at, records-from}
 use borrow.Author.Tests.{leb-true, eqb-true, eqb-false}
 use Rattle.gate.specs.Deliver.{noRecord, revoked, creditedAt, debitedAt, isFull}
 use Rattle.gate.proofs.RecordsLaws.{debit-used}
-use Rattle.settlement.specs.Settle.{matches, isDone, Verdict, Keeps, Restores, Posts, Unposted, postVerdict, matchVerdict, verdictOf, restored, postedRecord, Ledger, applied, settleLine, settleLines, anyMatches, isStray, sweptRecord, sweptGate, sweepGates, swept, anyDone, reportOf, Settled, settleDay, isNext, settleText, settle}
+use Rattle.settlement.specs.Settle.{matches, isDone, Verdict, Keeps, Restores, Posts, Unposted, postVerdict, matchVerdict, verdictOf, restored, postedRecord, Ledger, applied, settleLine, settleLines, anyMatches, isStray, sweptRecord, sweptGate, sweepGates, swept, anyDone, reportOf, Settled, settleDay, settleText, settle}
 
 true-not-false : true ≡ false → ⊥
 true-not-false e = let z : _≡_ {A = ℕ} 0 1 = cc in absurd (omega arith)
@@ -239,7 +239,7 @@ module _ (g : Gate) (t : Rows) (clock : List ℕ) (day : Day) (text out : List �
   reported = record { code = 0; gate = g; rows = t; report = written out 0 (reportOf (registryLines text) (recordsOf t (g .used))) }
 
   pub settled-by : (P : Settled → Type 0) → ((code : ℕ) → (code ≡ 0 → ⊥) → P (refusal code)) → (Passed g t day text out → P reported)
-      → (Passed g t day text out → isNext (nextDay (g .closed)) day ≡ true → P (settleDay g t clock day (registryLines text) out))
+      → (Passed g t day text out → onDay day (nextDay (g .closed)) ≡ true → P (settleDay g t clock day (registryLines text) out))
       → P (settle g t clock day text out)
   unfolding settle settleText
   settled-by P keep report settles =
@@ -249,7 +249,7 @@ module _ (g : Gate) (t : Rows) (clock : List ℕ) (day : Day) (text out : List �
       (λ _. cond-elim P (eqb (registryFault day text) 0) _ _
       (λ none.
       let p : Passed g t day text out = record { good = good; room = leb-true 512 (length out) room; faultless = eqb-true (registryFault day text) 0 none } in
-      cond-elim P (isNext (nextDay (g .closed)) day) _ _
+      cond-elim P (onDay day (nextDay (g .closed))) _ _
       (λ next. settles p next)
       (λ _. cond-elim P (isDay day && not (dayBefore (g .closed) day)) _ _ (λ _. report p) (λ _. keep 55 (λ e. absurd (omega arith)))))
       (λ n. keep (registryFault day text) (eqb-false (registryFault day text) 0 n)))

@@ -1,2 +1,3 @@
-pub mod Settle
 pub mod Cases
+pub mod Settle
+pub mod Steps

@@ -5,23 +5,23 @@ use mathlib.Core.Bool.{Bool, true, false, cond, not, _&&_, _||_}
 use lib.Dec.{eqb, leb, ltb}
 use lib.ListN.{length, getD, set}
 use Rattle.fields.specs.declared.calendar.Day.{Day}
-use Rattle.fields.specs.declared.calendar.DayRead.{DayRead}
-use Rattle.fields.specs.declared.calendar.DayRead.the-variants.{Good, NoDate}
 use Rattle.fields.specs.Lists.{eqList, written}
-use Rattle.fields.specs.Calendar.{isDay, dayBefore, sameDay, nextDay}
+use Rattle.fields.specs.Calendar.{isDay, dayBefore, nextDay, onDay}
 use Rattle.fields.specs.Date.{dateDay, isWritten, emptyDate}
 use Rattle.fields.specs.Number.{sameNumber}
+use Rattle.message.specs.declared.action.Action.the-variants.{Payment}
+use Rattle.message.specs.declared.request.Asked.{Asked}
 use Rattle.registry.specs.declared.line.Line.{Line}
-use Rattle.registry.specs.Registry.{onDay, registryLines, registryFault}
+use Rattle.registry.specs.Registry.{registryLines, registryFault}
 use Rattle.table.specs.declared.Record.{Record}
 use Rattle.table.specs.declared.Gate.{Gate}
-use Rattle.table.specs.declared.Found.{Found}
-use Rattle.table.specs.declared.Found.the-variants.{At, Nothing}
-use Rattle.table.specs.Lists.{firstFrom, isFound}
+use Rattle.lists.specs.declared.Found.{Found}
+use Rattle.lists.specs.declared.Found.the-variants.{At, Nothing}
+use Rattle.lists.specs.Lists.{firstFrom, isFound}
 use Rattle.table.specs.Table.{Rows, recordsOf, rowsFrom, findRecord}
 use Rattle.table.specs.Accounts.{accountsOf, findAccount, withUsed, withClosed}
 use Rattle.table.specs.Valid.{tableGood}
-use Rattle.gate.specs.Deliver.{noRecord, nextAuthcode, revoked, creditedAt, debitedAt, isFull}
+use Rattle.gate.specs.Deliver.{noRecord, makeRecord, revoked, creditedAt, debitedAt, isFull}
 
 -- a line matches a record if receipt, account, amount and date agree
 unfoldable pub matches : Line → Record → Bool
@@ -71,19 +71,13 @@ restored r =
       cancel = emptyDate;
     }
 
+-- a posted line is recorded as the payment that it tells of
+abbrev pub paymentOf : Line → Asked
+paymentOf x =
+    record { action = Payment; number = x .number; kind = x .kind; amount = x .amount; receipt = x .receipt; date = x .date; reason = 0 }
+
 unfoldable pub postedRecord : Gate → List ℕ → Line → Record
-postedRecord g clock x =
-    record {
-      receipt = x .receipt;
-      number = x .number;
-      kind = x .kind;
-      amount = x .amount;
-      date = x .date;
-      state = 1;
-      authcode = nextAuthcode g;
-      credit = clock;
-      cancel = emptyDate;
-    }
+postedRecord g clock x = makeRecord g clock (paymentOf x)
 
 -- the gate and the records of its table
 pub record Ledger : Type 0 where
@@ -156,14 +150,10 @@ settleDay g t clock day xs out =
     let l = swept clock day xs (settleLines clock (length (t .nums)) xs (record { gate = g; records = recordsOf t (g .used) })) in
     record { code = 0; gate = withClosed (l .gate) day; rows = rowsFrom t (l .records); report = written out 0 (reportOf xs (l .records)) }
 
-abbrev pub isNext : DayRead → Day → Bool
-isNext NoDate day = false
-isNext (Good d) day = sameDay d day
-
 -- a day on or before the closed one is only reported; a later one, or no date, is 55
 unfoldable pub settleText : Gate → Rows → List ℕ → Day → List ℕ → List ℕ → Settled
 settleText g t clock day text out =
-    cond (isNext (nextDay (g .closed)) day)
+    cond (onDay day (nextDay (g .closed)))
     (settleDay g t clock day (registryLines text) out)
     (cond (isDay day && not (dayBefore (g .closed) day))
     (record { code = 0; gate = g; rows = t; report = written out 0 (reportOf (registryLines text) (recordsOf t (g .used))) })

@@ -15,12 +15,12 @@ use Rattle.fields.specs.declared.number.Number.{Number}
 use Rattle.fields.specs.Number.{sameNumber}
 use Rattle.table.specs.declared.Account.{Account}
 use Rattle.table.specs.declared.Gate.{Gate}
-use Rattle.table.specs.declared.Found.{Found}
-use Rattle.table.specs.declared.Found.the-variants.{At, Nothing}
-use Rattle.table.specs.Lists.{firstFrom}
+use Rattle.lists.specs.declared.Found.{Found}
+use Rattle.lists.specs.declared.Found.the-variants.{At, Nothing}
+use Rattle.lists.specs.Lists.{firstFrom}
 use Rattle.table.specs.Accounts.{isAccount, accountsOf, findAccount, noAccount, balanceAt, gateBalance, credited, debited}
 use Rattle.table.specs.Valid.{Sound}
-use Rattle.table.proofs.ListLaws.{search-hit, search-miss, search-end, search-within, found-fits}
+use Rattle.lists.proofs.ListLaws.{search-hit, search-miss, search-end, search-within, found-fits}
 use Rattle.table.proofs.SignedLaws.{back}
 
 -- ---- one account
@@ -63,7 +63,7 @@ unfolding findAccount
 account-start n k l = refl
 
 -- ---- a balance moved
-module _ (g : Gate) (i n : ℕ) (z : ℤ) (small : mag (balanceAt g i) ≤ 10000000000000) (fits : mag z < 2 ^ 63)
+module _ (g : Gate) (i n : ℕ) (z : ℤ) (small : mag (balanceAt g i) ≤ 10000000000000000) (fits : mag z < 2 ^ 63)
     (r : Gate) (moved : r ≡ gateBalance g i (toZ w64 (ofZ w64 z))) where
   pub credit-is : z ≡ toZ w64 (ofZ w64 (balanceAt g i)) +ℤ pos n → r ≡ credited g i n
   unfolding credited
@@ -91,5 +91,5 @@ module _ (g : Gate) (n : Number) (k i : ℕ) (f : Found) (e : f ≡ findAccount 
   pub holder-place : Sound g → i < 256
   holder-place s = omega (arith, holder-within, s .count)
 
-  pub holder-near : Sound g → mag (balanceAt g i) ≤ 10000000000000
-  holder-near s = s .balances i holder-within
+  pub holder-near : Sound g → mag (balanceAt g i) ≤ 10000000000000000
+  holder-near s = omega (arith, s .balances i holder-within)

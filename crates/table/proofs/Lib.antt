@@ -1,4 +1,3 @@
-pub mod ListLaws
 pub mod TableLaws
 pub mod SignedLaws
 pub mod AccountLaws

@@ -21,10 +21,10 @@ use Rattle.fields.proofs.Tests.{and-right}
 use Rattle.table.specs.declared.Account.{Account}
 use Rattle.table.specs.declared.Gate.{Gate}
 use Rattle.table.specs.declared.Record.{Record}
-use Rattle.table.specs.Lists.{allFrom}
+use Rattle.lists.specs.Lists.{allFrom}
 use Rattle.table.specs.Accounts.{accountsOf, noAccount, balanceAt}
 use Rattle.table.specs.Valid.{near, accountGood, gateGood, stateGood, rangesGood, authcodeGood, Sound}
-use Rattle.table.proofs.ListLaws.{all-more, all-not, all-end, all-at}
+use Rattle.lists.proofs.ListLaws.{all-more, all-not, all-end, all-at}
 use Rattle.table.proofs.SignedLaws.{back}
 use Rattle.table.proofs.AccountLaws.{in-use}
 

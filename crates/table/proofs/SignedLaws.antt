@@ -38,7 +38,7 @@ mag-down (pos a) (suc n) = omega (arith, mag-sub a (suc n))
 mag-down (negsuc a) (suc n) = omega arith
 
 -- ---- a balance and an amount
-module _ (z : ℤ) (n : ℕ) (near : mag z ≤ 10000000000000) (few : n < 1000000000) where
+module _ (z : ℤ) (n : ℕ) (near : mag z ≤ 10000000000000000) (few : n < 1000000000) where
   pub plus-small : mag (z +ℤ pos n) < 2 ^ 63
   plus-small = omega (arith, mag-up z n)
 

@@ -3,18 +3,18 @@ use mathlib.Core.Path.{_≡_, refl, sym, ap, _∙_}
 use mathlib.Core.Logic.{_≢_}
 use mathlib.Core.List.{List, [], _∷_, _++_, map, map-append}
 use Prim.Native.Nat.{ℕ, suc, _+_, _-_, _<_, _≤_}
-use native.Mathlib.Numerals.{add-one}
 use native.Mathlib.Omega.{arith}
 use borrow.Author.Count.{below-none, below-more}
 use borrow.Author.Tests.{eq-eqb, ne-eqb, eqb-true}
-use lib.ListN.{length, take, drop, getD, set, length-set, length-append, take-append-drop, length-map, length-drop, List·getD-append, List·getD-map}
-use lib.Seq.{getD-set-same, getD-set-other, length-take-le, set-append-left, set-split, append-snoc, set-at, drop-cons, ext-getD}
+use lib.ListN.{length, take, drop, getD, set, length-set, length-append, take-append-drop}
+use lib.Seq.{getD-set-same, getD-set-other, ext-getD}
 use Rattle.table.specs.declared.Record.{Record}
-use Rattle.table.specs.declared.Found.{Found}
-use Rattle.table.specs.declared.Found.the-variants.{At, Nothing}
-use Rattle.table.specs.Lists.{tab, firstFrom}
+use Rattle.lists.specs.declared.Found.{Found}
+use Rattle.lists.specs.declared.Found.the-variants.{At, Nothing}
+use Rattle.lists.specs.Lists.{tab, firstFrom}
 use Rattle.table.specs.Table.{Rows, recordAt, recordsOf, numsOf, datesOf, rowsWith, rowsFrom, Whole, hasReceipt, findRecord}
-use Rattle.table.proofs.ListLaws.{length-tab, getD-tab, map-tab, tab-same, tab-set, tab-take, map-set, getD-other, list-six, list-three, search-hit, search-miss, search-end, search-within, found-fits}
+use Rattle.lists.proofs.ListLaws.{length-tab, getD-tab, map-tab, tab-same, tab-take, list-six, list-three, search-hit, search-miss, search-end, search-within, found-fits}
+use Rattle.lists.proofs.ColumnLaws.{tab-put, tab-add, column-back, column-more, column-set, column-next, column-at, column-size}
 
 -- the rows are long enough for record i
 pub record Room (t : Rows) (i : ℕ) : Type 0 where
@@ -42,17 +42,12 @@ module _ (t : Rows) (i : ℕ) (r : Record) where
   -- store is set
   pub records-set : (n : ℕ) → Room t i → i < n → recordsOf (rowsWith t i r) n ≡ set (recordsOf t n) i r
   unfolding recordsOf
-  records-set n h l =
-      tab-set n (recordAt t) (recordAt (rowsWith t i r)) i l record-other
-      ∙ ap (set (tab n (recordAt t)) i) (record-same h)
+  records-set n h l = tab-put (recordAt t) (recordAt (rowsWith t i r)) i r record-other (record-same h) n l
 
   -- store behind the last record is one more record
   pub records-more : Room t i → recordsOf (rowsWith t i r) (i + 1) ≡ recordsOf t i ++ (r ∷ [])
-  unfolding recordsOf tab
-  records-more h =
-      ap (λ (k : ℕ). tab k (recordAt (rowsWith t i r))) (add-one i)
-      ∙ ap (λ (l : List Record). l ++ (recordAt (rowsWith t i r) i ∷ [])) (tab-same i (recordAt (rowsWith t i r)) (recordAt t) (λ j l. record-other j (omega arith)))
-      ∙ ap (λ (q : Record). tab i (recordAt t) ++ (q ∷ [])) (record-same h)
+  unfolding recordsOf
+  records-more h = tab-add (recordAt t) (recordAt (rowsWith t i r)) i r record-other (record-same h)
 
 pub length-records : (t : Rows) (n : ℕ) → length (recordsOf t n) ≡ n
 unfolding recordsOf
@@ -123,16 +118,10 @@ module _ (t : Rows) (n : ℕ) (w : Whole t n) where
   rows-set i r h =
       rw (length-set (recordsOf t n) i r, size)
       (rw (
-        one numsOf (t .nums) nums-back (w .nums),
-        one (λ (q : Record). q .number .bytes) (t .numbers) numbers-back (w .numbers),
-        one datesOf (t .dates) dates-back (w .dates),
+        column-back numsOf (t .nums) (recordsOf t n) n i r nums-back h (w .nums),
+        column-back (λ (q : Record). q .number .bytes) (t .numbers) (recordsOf t n) n i r numbers-back h (w .numbers),
+        column-back datesOf (t .dates) (recordsOf t n) n i r dates-back h (w .dates),
       ))
-    where
-      one : {A : Type 0} (f : Record → A) (l : List A) → map f (recordsOf t n) ≡ take n l → n ≤ length l → map f (set (recordsOf t n) i r) ++ drop n l ≡ set l i (f r)
-      one f l e k =
-          ap (λ (m : List _). m ++ drop n l) (map-set f (recordsOf t n) i r ∙ ap (λ (m : List _). set m i (f r)) e)
-          ∙ sym (set-append-left (take n l) (drop n l) i (f r) (omega (arith, length-take-le n l k)))
-          ∙ ap (λ (m : List _). set m i (f r)) (take-append-drop n l)
 
   -- a record is added
   pub rows-more : (r : Record) → n < length (t .nums) → n < length (t .numbers) → n < length (t .dates) → rowsFrom t (recordsOf t n ++ (r ∷ [])) ≡ rowsWith t n r
@@ -140,17 +129,10 @@ module _ (t : Rows) (n : ℕ) (w : Whole t n) where
   rows-more r hn hb hd =
       rw (length-append (recordsOf t n) (r ∷ []), size)
       (rw (
-        one numsOf (t .nums) nums-back hn,
-        one (λ (q : Record). q .number .bytes) (t .numbers) numbers-back hb,
-        one datesOf (t .dates) dates-back hd,
+        column-more numsOf (t .nums) (recordsOf t n) n r nums-back hn,
+        column-more (λ (q : Record). q .number .bytes) (t .numbers) (recordsOf t n) n r numbers-back hb,
+        column-more datesOf (t .dates) (recordsOf t n) n r dates-back hd,
       ))
-    where
-      one : {A : Type 0} (f : Record → A) (l : List A) → map f (recordsOf t n) ≡ take n l → n < length l → map f (recordsOf t n ++ (r ∷ [])) ++ drop (n + 1) l ≡ set l n (f r)
-      one f l e k =
-          ap (λ (m : List _). m ++ drop (n + 1) l) (map-append f (recordsOf t n) (r ∷ []) ∙ ap (λ (m : List _). m ++ (f r ∷ [])) e)
-          ∙ ap (λ (q : ℕ). take n l ++ (f r ∷ []) ++ drop q l) (add-one n)
-          ∙ append-snoc (take n l) (f r) (drop (suc n) l)
-          ∙ sym (set-split l n (f r) k)
 
   -- nothing is changed
   pub rows-kept : rowsFrom t (recordsOf t n) ≡ t
@@ -164,33 +146,18 @@ pub from-set : (t : Rows) (rs : List Record) (i : ℕ) (r : Record) → i < leng
 unfolding rowsFrom
 from-set t rs i r h =
     rw (length-set rs i r)
-    (rw (one numsOf (t .nums), one (λ (q : Record). q .number .bytes) (t .numbers), one datesOf (t .dates)))
-  where
-    one : {A : Type 0} (f : Record → A) (l : List A) → set (map f rs ++ drop (length rs) l) i (f r) ≡ map f (set rs i r) ++ drop (length rs) l
-    one f l =
-        set-append-left (map f rs) (drop (length rs) l) i (f r) (omega (arith, h, length-map rs f))
-        ∙ ap (λ (m : List _). m ++ drop (length rs) l) (sym (map-set f rs i r))
-
-module _ {A : Type 0} (f : Record → A) (l : List A) (rs : List Record) where
-  row-at : (i : ℕ) (d : A) (z : Record) → i < length rs → getD (map f rs ++ drop (length rs) l) i d ≡ f (getD rs i z)
-  row-at i d z h =
-      List·getD-append (map f rs) (drop (length rs) l) d i (omega (arith, h, length-map rs f))
-      ∙ getD-other (map f rs) i d (f z) (omega (arith, h, length-map rs f))
-      ∙ List·getD-map f rs i z
-
-  row-size : length (map f rs ++ drop (length rs) l) ≡ length rs + (length l - length rs)
-  row-size = length-append (map f rs) (drop (length rs) l) ∙ omega (arith, length-map rs f, length-drop (length rs) l)
+    (rw (column-set numsOf (t .nums) rs i r h, column-set (λ (q : Record). q .number .bytes) (t .numbers) rs i r h, column-set datesOf (t .dates) rs i r h))
 
 pub from-at : (t : Rows) (rs : List Record) (i : ℕ) (z : Record) → i < length rs → recordAt (rowsFrom t rs) i ≡ getD rs i z
 unfolding rowsFrom
 from-at t rs i z h =
-    rw (row-at numsOf (t .nums) rs i [] z h, row-at (λ (q : Record). q .number .bytes) (t .numbers) rs i [] z h, row-at datesOf (t .dates) rs i [] z h)
+    rw (column-at numsOf (t .nums) rs i [] z h, column-at (λ (q : Record). q .number .bytes) (t .numbers) rs i [] z h, column-at datesOf (t .dates) rs i [] z h)
 
 pub from-whole : (t : Rows) (rs : List Record) → (length (rowsFrom t rs .nums) ≡ length rs + (length (t .nums) - length rs))
     × (length (rowsFrom t rs .numbers) ≡ length rs + (length (t .numbers) - length rs))
     × (length (rowsFrom t rs .dates) ≡ length rs + (length (t .dates) - length rs))
 unfolding rowsFrom
-from-whole t rs = (row-size numsOf (t .nums) rs, row-size (λ (q : Record). q .number .bytes) (t .numbers) rs, row-size datesOf (t .dates) rs)
+from-whole t rs = (column-size numsOf (t .nums) rs, column-size (λ (q : Record). q .number .bytes) (t .numbers) rs, column-size datesOf (t .dates) rs)
 
 -- a record is added behind those of the list
 pub from-more : (t : Rows) (rs : List Record) (r : Record) → length rs < length (t .nums) → length rs < length (t .numbers) → length rs < length (t .dates)
@@ -198,16 +165,11 @@ pub from-more : (t : Rows) (rs : List Record) (r : Record) → length rs < lengt
 unfolding rowsFrom
 from-more t rs r hn hb hd =
     rw (length-append rs (r ∷ []))
-    (rw (one numsOf (t .nums) [] hn, one (λ (q : Record). q .number .bytes) (t .numbers) [] hb, one datesOf (t .dates) [] hd))
-  where
-    one : {A : Type 0} (f : Record → A) (l : List A) (z : A) → length rs < length l
-        → set (map f rs ++ drop (length rs) l) (length rs) (f r) ≡ map f (rs ++ (r ∷ [])) ++ drop (length rs + 1) l
-    one f l z h =
-        ap (λ (m : List _). set (map f rs ++ m) (length rs) (f r)) (drop-cons l (length rs) z h)
-        ∙ set-at (map f rs) (getD l (length rs) z) (drop (suc (length rs)) l) (f r) (length rs) (length-map rs f)
-        ∙ sym (append-snoc (map f rs) (f r) (drop (suc (length rs)) l))
-        ∙ ap (λ (m : List _). m ++ drop (suc (length rs)) l) (sym (map-append f rs (r ∷ [])))
-        ∙ ap (λ (k : ℕ). map f (rs ++ (r ∷ [])) ++ drop k l) (sym (add-one (length rs)))
+    (rw (
+      column-next numsOf (t .nums) rs r [] hn,
+      column-next (λ (q : Record). q .number .bytes) (t .numbers) rs r [] hb,
+      column-next datesOf (t .dates) rs r [] hd,
+    ))
 
 -- the records of rows from a list are the list, and such rows are whole
 pub records-from : (t : Rows) (rs : List Record) (z : Record) → recordsOf (rowsFrom t rs) (length rs) ≡ rs
@@ -225,8 +187,8 @@ whole-from t rs =
       nums = omega (arith, from-whole t rs .0);
       numbers = omega (arith, from-whole t rs .1);
       dates = omega (arith, from-whole t rs .2);
-      six = λ i h. ap length (row-at numsOf (t .nums) rs i [] (recordAt t 0) h);
-      three = λ i h. ap length (row-at datesOf (t .dates) rs i [] (recordAt t 0) h);
+      six = λ i h. ap length (column-at numsOf (t .nums) rs i [] (recordAt t 0) h);
+      three = λ i h. ap length (column-at datesOf (t .dates) rs i [] (recordAt t 0) h);
     }
 
 -- ---- whole rows: a loop that has read i records

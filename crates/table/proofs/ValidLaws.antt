@@ -12,13 +12,13 @@ use Rattle.fields.proofs.Tests.{and-left, and-right}
 use Rattle.table.specs.declared.Account.{Account}
 use Rattle.table.specs.declared.Gate.{Gate}
 use Rattle.table.specs.declared.Record.{Record}
-use Rattle.table.specs.declared.Found.{Found}
-use Rattle.table.specs.declared.Found.the-variants.{At, Nothing}
-use Rattle.table.specs.Lists.{allFrom}
+use Rattle.lists.specs.declared.Found.{Found}
+use Rattle.lists.specs.declared.Found.the-variants.{At, Nothing}
+use Rattle.lists.specs.Lists.{allFrom}
 use Rattle.table.specs.Table.{Rows, recordAt, recordsOf, Whole}
 use Rattle.table.specs.Accounts.{isAccount, accountsOf, findAccount, noAccount}
 use Rattle.table.specs.Valid.{rangesGood, authcodeGood, accountKnown, recordGood, lentGood, gateGood, tableGood, Sound, Ready}
-use Rattle.table.proofs.ListLaws.{all-more, all-not, all-end, found-some}
+use Rattle.lists.proofs.ListLaws.{all-more, all-not, all-end, found-some}
 use Rattle.table.proofs.TableLaws.{length-records, getD-records}
 use Rattle.table.proofs.AccountLaws.{in-use}
 

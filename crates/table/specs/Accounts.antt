@@ -10,8 +10,8 @@ use Rattle.fields.specs.declared.number.Number.{Number}
 use Rattle.fields.specs.Number.{sameNumber}
 use Rattle.table.specs.declared.Account.{Account}
 use Rattle.table.specs.declared.Gate.{Gate}
-use Rattle.table.specs.declared.Found.{Found}
-use Rattle.table.specs.Lists.{firstFrom}
+use Rattle.lists.specs.declared.Found.{Found}
+use Rattle.lists.specs.Lists.{firstFrom}
 
 -- number with type names an account
 unfoldable pub isAccount : Number → ℕ → Account → Bool

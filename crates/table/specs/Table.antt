@@ -6,8 +6,8 @@ use Prim.Native.Nat.{ℕ, _<_, _≤_}
 use lib.Dec.{eqb}
 use lib.ListN.{length, drop, getD, set}
 use Rattle.table.specs.declared.Record.{Record}
-use Rattle.table.specs.declared.Found.{Found}
-use Rattle.table.specs.Lists.{tab, firstFrom}
+use Rattle.lists.specs.declared.Found.{Found}
+use Rattle.lists.specs.Lists.{tab, firstFrom}
 
 -- the lists that the three rows hold
 pub record Rows : Type 0 where

@@ -15,7 +15,7 @@ use Rattle.fields.specs.Number.{isNumber}
 use Rattle.table.specs.declared.Account.{Account}
 use Rattle.table.specs.declared.Gate.{Gate}
 use Rattle.table.specs.declared.Record.{Record}
-use Rattle.table.specs.Lists.{isFound, allFrom}
+use Rattle.lists.specs.Lists.{isFound, allFrom}
 use Rattle.table.specs.Table.{Rows, recordsOf, Whole, SameLengths}
 use Rattle.table.specs.Accounts.{accountsOf, findAccount, balanceAt}
 

@@ -1,8 +1,8 @@
 // The gate's accounts: found, opened, credited and debited.
 use crate::Account;
-use crate::Found;
 use crate::Gate;
 use fields::number::Number;
+use lists::Found;
 ghost use mathlib.Core.Path.{_≡_};
 ghost use Prim.Native.Nat.{_^_, _<_, _≤_};
 ghost use lib.IntN.{ℤ, pos, _+ℤ_, _-ℤ_};
@@ -56,7 +56,7 @@ pub fn open_account(g: Gate, n: Number, kind: u64) -> Gate
 
 // b + n
 fn plus(b: i64, n: u64) -> i64
-    requires { ⌜ (mag b ≤ 10000000000000) × (n < 1000000000) ⌝ }
+    requires { ⌜ (mag b ≤ 10000000000000000) × (n < 1000000000) ⌝ }
     ensures { λ r. ⌜ (r ≡ b +ℤ pos n) × (mag r < 2 ^ 63) ⌝ }
 {
     b + n as i64
@@ -64,7 +64,7 @@ fn plus(b: i64, n: u64) -> i64
 
 // b - n
 fn minus(b: i64, n: u64) -> i64
-    requires { ⌜ (mag b ≤ 10000000000000) × (n < 1000000000) ⌝ }
+    requires { ⌜ (mag b ≤ 10000000000000000) × (n < 1000000000) ⌝ }
     ensures { λ r. ⌜ (r ≡ b -ℤ pos n) × (mag r < 2 ^ 63) ⌝ }
 {
     b - n as i64
@@ -92,7 +92,7 @@ fn with_balance(g: Gate, i: usize, z: i64) -> Gate
 
 // The gate with amount added to the balance of account i.
 pub fn credit(g: Gate, i: usize, amount: u64) -> Gate
-    requires { ⌜ (i < 256) × (amount < 1000000000) × (mag (balanceAt g i) ≤ 10000000000000) ⌝ }
+    requires { ⌜ (i < 256) × (amount < 1000000000) × (mag (balanceAt g i) ≤ 10000000000000000) ⌝ }
     ensures { λ r. ⌜ r ≡ credited g i amount ⌝ }
 {
     let a = g.accounts[i];
@@ -103,7 +103,7 @@ pub fn credit(g: Gate, i: usize, amount: u64) -> Gate
 
 // The gate with amount taken from the balance of account i.
 pub fn debit(g: Gate, i: usize, amount: u64) -> Gate
-    requires { ⌜ (i < 256) × (amount < 1000000000) × (mag (balanceAt g i) ≤ 10000000000000) ⌝ }
+    requires { ⌜ (i < 256) × (amount < 1000000000) × (mag (balanceAt g i) ≤ 10000000000000000) ⌝ }
     ensures { λ r. ⌜ r ≡ debited g i amount ⌝ }
 {
     let a = g.accounts[i];

@@ -33,8 +33,3 @@ pub struct Gate {
     pub closed: Day,
     pub used: usize,
 }
-
-pub enum Found {
-    At(usize),
-    Nothing,
-}

@@ -9,7 +9,7 @@ ghost use mathlib.Core.Bool.{true, _&&_};
 ghost use mathlib.Core.Path.{_≡_};
 ghost use Prim.Native.Nat.{_<_, _≤_};
 ghost use lib.ListN.{length};
-ghost use Rattle.table.specs.Lists.{allFrom};
+ghost use Rattle.lists.specs.Lists.{allFrom};
 ghost use Rattle.table.specs.Accounts.{accountsOf};
 ghost use Rattle.table.specs.Valid.{near, accountGood, gateGood, stateGood, rangesGood, authcodeGood, Sound};
 

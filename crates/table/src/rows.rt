@@ -1,7 +1,7 @@
 // The payment table: three lent rows, read and written a record at a time.
-use crate::Found;
 use crate::Record;
 use fields::number::Number;
+use lists::Found;
 ghost use mathlib.Core.Path.{_≡_};
 ghost use mathlib.Core.List.{[]};
 ghost use Prim.Native.Nat.{_<_, _≤_};

@@ -1,18 +1,18 @@
 // Row 68: whether a lent gate and table are in their ranges. One pass over the records in use.
 use crate::Account;
-use crate::Found;
 use crate::Gate;
 use crate::Record;
 use crate::accounts;
 use crate::ranges;
 use crate::rows;
 use fields::number::Number;
+use lists::Found;
 ghost use mathlib.Core.Bool.{true, _&&_};
 ghost use mathlib.Core.Path.{_≡_};
 ghost use Prim.Native.Nat.{_<_, _≤_};
 ghost use lib.Dec.{ltb};
 ghost use lib.ListN.{length};
-ghost use Rattle.table.specs.Lists.{allFrom};
+ghost use Rattle.lists.specs.Lists.{allFrom};
 ghost use Rattle.table.specs.Table.{Rows, recordsOf, Whole};
 ghost use Rattle.table.specs.Accounts.{isAccount};
 ghost use Rattle.table.specs.Valid.{accountKnown, recordGood, tableGood, Ready};

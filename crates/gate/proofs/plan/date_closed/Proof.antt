@@ -1,17 +1,13 @@
 use borrow.Author.Needs.{needs}
-use Rattle.gate.proofs.PlanLaws.{closed-none, closed-day}
+use Rattle.gate.proofs.PlanLaws.{closed-day}
 use Rattle.gate.proofs.plan.date_closed.Statement.{statement}
 use Rattle.gate.proofs.plan.date_closed.Tie as tie
 
-ruleset laws = (closed-none, closed-day, needs)
+ruleset laws = (closed-day, needs)
 
 pub date-closed-spec : {M : Type 1} → statement M
 date-closed-spec =
     tie.close
     (tie.spec
     (λ c κs. search laws)
-    (λ c. search laws)
-    (λ c. search laws)
-    (λ c κs. search laws)
-    (λ c. search laws)
     (λ c. search laws))

@@ -3,7 +3,7 @@ use Rattle.table.proofs.AccountLaws.{accounts-size, account-start, acco
 use Prim.Native.Nat.{_≤_, _-_}
 use mathlib.Core.Path.{_≡_}
 use lib.ListN.{take, drop}
-use Rattle.table.specs.Lists.{firstFrom}
+use Rattle.lists.specs.Lists.{firstFrom}
 use Rattle.table.specs.Accounts.{isAccount, findAccount}
 use Rattle.table.proofs.accounts.find_account.Statement.{statement}
 use Rattle.table.proofs.accounts.find_account.Tie as tie

@@ -4,7 +4,7 @@ use Rattle.table.proofs.RangeLaws.{accounts-step, accounts-fail, accoun
 use Prim.Native.Nat.{_≤_, _-_}
 use mathlib.Core.Path.{_≡_}
 use lib.ListN.{take, drop}
-use Rattle.table.specs.Lists.{allFrom}
+use Rattle.lists.specs.Lists.{allFrom}
 use Rattle.table.specs.Valid.{accountGood}
 use Rattle.table.proofs.ranges.accounts_good.Statement.{statement}
 use Rattle.table.proofs.ranges.accounts_good.Tie as tie

@@ -3,7 +3,7 @@ use Rattle.table.proofs.TableLaws.{receipt-start, receipt-here, receipt
 use Prim.Native.Nat.{_≤_, _-_}
 use mathlib.Core.Path.{_≡_}
 use lib.ListN.{drop}
-use Rattle.table.specs.Lists.{firstFrom}
+use Rattle.lists.specs.Lists.{firstFrom}
 use Rattle.table.specs.Table.{Rows, hasReceipt, recordsOf, findRecord}
 use Rattle.table.proofs.rows.find_record.Statement.{statement}
 use Rattle.table.proofs.rows.find_record.Tie as tie

@@ -6,7 +6,7 @@ use Rattle.table.proofs.ValidLaws.{record-own, record-guessed, record-s
 use Prim.Native.Nat.{_≤_, _-_}
 use mathlib.Core.Path.{_≡_}
 use lib.ListN.{drop}
-use Rattle.table.specs.Lists.{allFrom}
+use Rattle.lists.specs.Lists.{allFrom}
 use Rattle.table.specs.Table.{Rows, recordsOf, Whole}
 use Rattle.table.specs.Valid.{recordGood}
 use Rattle.table.proofs.valid.records_good.Statement.{statement}

@@ -10,9 +10,9 @@ use native.Mathlib.Decide.{decLt, ℕ-discrete}
 use native.Mathlib.Omega.{arith}
 use lib.ListN.{length, take, drop, getD, set, length-append, length-set, drop-of-length-le, List·getD-append, length-map, length-drop}
 use lib.Seq.{append-snoc, set-at, length-take-le, take-all, take-suc, drop-cons, getD-at, ext-getD, getD-set-same, getD-set-other}
-use Rattle.table.specs.declared.Found.{Found}
-use Rattle.table.specs.declared.Found.the-variants.{At, Nothing}
-use Rattle.table.specs.Lists.{tab, firstFrom, isFound, allFrom}
+use Rattle.lists.specs.declared.Found.{Found}
+use Rattle.lists.specs.declared.Found.the-variants.{At, Nothing}
+use Rattle.lists.specs.Lists.{tab, firstFrom, isFound, allFrom}
 use Rattle.fields.proofs.Tests.{and-left, and-right}
 
 -- ---- tables of a function's values

@@ -1,0 +1,45 @@
+-- Laws of a day that is settled.
+use Prim.Native.Nat.{ℕ, _+_, _≤_}
+use native.Mathlib.Omega.{arith}
+use mathlib.Core.Path.{_≡_, sym, ap, _∙_}
+use mathlib.Core.List.{List}
+use lib.ListN.{length, length-map}
+use Rattle.fields.specs.declared.calendar.Day.{Day}
+use Rattle.fields.specs.Lists.{over, written}
+use Rattle.fields.proofs.OutLaws.{written-over}
+use Rattle.registry.specs.declared.line.Line.{Line}
+use Rattle.table.specs.declared.Gate.{Gate}
+use Rattle.table.specs.declared.Record.{Record}
+use Rattle.table.specs.Table.{Rows, recordsOf, rowsFrom}
+use Rattle.table.specs.Accounts.{withClosed}
+use Rattle.settlement.specs.Settle.{Ledger, settleLines, sweptRecord, swept, reportOf, Settled, settleDay}
+use Rattle.settlement.specs.Steps.{Left, ledgerOf}
+use Rattle.settlement.proofs.HeldLaws.{from-from}
+use Rattle.settlement.proofs.SettleLaws.{report-length}
+
+pub report-written : (xs : List Line) (rs : List Record) (out : List ℕ) → length xs ≤ 512 → 512 ≤ length out → over out 0 (reportOf xs rs) ≡ written out 0 (reportOf xs rs)
+report-written xs rs out a b = written-over out 0 (reportOf xs rs) (omega (arith, report-length xs rs))
+
+module _ (g : Gate) (t : Rows) (clock : List ℕ) (day : Day) (xs : List Line) (out : List ℕ) (few : length xs ≤ 512) (room : 512 ≤ length out)
+    (a : Gate) (t₁ : Rows) (left₁ : Left t (settleLines clock (length (t .nums)) xs (ledgerOf g t)) a t₁)
+    (is₁ : settleLines clock (length (t .nums)) xs (ledgerOf g t) ≡ ledgerOf a t₁)
+    (b : Gate) (t₂ : Rows) (left₂ : Left t₁ (swept clock day xs (ledgerOf a t₁)) b t₂) (is₂ : swept clock day xs (ledgerOf a t₁) ≡ ledgerOf b t₂) where
+  as-many : length (recordsOf t₂ (b .used)) ≡ length (recordsOf t₁ (a .used))
+  unfolding swept
+  as-many = ap (λ (l : Ledger). length (l .records)) (sym is₂) ∙ length-map (recordsOf t₁ (a .used)) (sweptRecord clock day xs)
+
+  rows-are : t₂ ≡ rowsFrom t (recordsOf t₂ (b .used))
+  rows-are =
+      let one : t₁ ≡ rowsFrom t (recordsOf t₁ (a .used)) = left₁ .left ∙ ap (λ (l : Ledger). rowsFrom t (l .records)) is₁ in
+      left₂ .left ∙ ap (λ (l : Ledger). rowsFrom t₁ (l .records)) is₂
+      ∙ ap (λ (y : Rows). rowsFrom y (recordsOf t₂ (b .used))) one
+      ∙ from-from t (recordsOf t₁ (a .used)) (recordsOf t₂ (b .used)) (omega (arith, as-many))
+
+  pub day-settled : (out′ : List ℕ) → out′ ≡ over out 0 (reportOf xs (recordsOf t₂ (b .used)))
+      → _≡_ {A = Settled} (record { code = 0; gate = withClosed b day; rows = t₂; report = out′ }) (settleDay g t clock day xs out)
+  unfolding settleDay
+  day-settled out′ e =
+      rw (is₁, is₂)
+      (ap (λ (y : Rows). record { code = 0; gate = withClosed b day; rows = y; report = out′ }) rows-are
+      ∙ ap (λ (y : List ℕ). record { code = 0; gate = withClosed b day; rows = rowsFrom t (recordsOf t₂ (b .used)); report = y })
+      (e ∙ report-written xs (recordsOf t₂ (b .used)) out few room))

@@ -1,0 +1,38 @@
+// A day that is settled and closed.
+use crate::lines;
+use crate::report;
+use crate::sweeping;
+use fields::calendar::Day;
+use table::Gate;
+ghost use mathlib.Core.Path.{_≡_};
+ghost use Prim.Native.Nat.{_≤_};
+ghost use lib.ListN.{length};
+ghost use Rattle.registry.specs.Registry.{lineCount, registryLines};
+ghost use Rattle.table.specs.Table.{Rows};
+ghost use Rattle.settlement.specs.Settle.{Settled, settleDay};
+ghost use Rattle.settlement.specs.Steps.{Held};
+
+// Settles the day after the closed one, closes it and writes its report.
+pub(crate) fn settle_day(
+    nums: &mut [[u64; 6]],
+    numbers: &mut [[u8; 30]],
+    dates: &mut [[[u8; 19]; 3]],
+    g: Gate,
+    clock: [u8; 19],
+    day: Day,
+    s: &[u8],
+    out: &mut [u8],
+) -> Gate
+    requires { ⌜ Held g (record { nums = now nums; numbers = now numbers; dates = now dates }) 10000000000000 ⌝ }
+    requires { ⌜ (lineCount (now s) ≤ 512) × (length (registryLines (now s)) ≤ 512) × (512 ≤ length (now out)) ⌝ }
+    ensures { λ r. ⌜ _≡_ {A = Settled}
+        (record { code = 0; gate = r; rows = record { nums = now (nums .exit); numbers = now (numbers .exit); dates = now (dates .exit) }; report = now (out .exit) })
+        (settleDay g (record { nums = now (nums .entry); numbers = now (numbers .entry); dates = now (dates .entry) }) clock day (registryLines (now (s .entry))) (now (out .entry))) ⌝ }
+{
+    let a = lines::settle_lines(nums, numbers, dates, g, clock, s);
+    let b = sweeping::sweep(nums, numbers, dates, a, clock, day, s);
+    report::write_report(nums, numbers, dates, b.used, s, out);
+    let mut next = b;
+    next.closed = day;
+    next
+}

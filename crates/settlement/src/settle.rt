@@ -1,0 +1,86 @@
+// A registry delivered to the gate.
+use crate::closing;
+use crate::report;
+use fields::calendar::Day;
+use fields::date;
+use gate::opening::Reply;
+use registry::text;
+use table::Gate;
+use table::valid;
+ghost use mathlib.Core.Path.{_≡_};
+ghost use Prim.Native.Nat.{_≤_};
+ghost use lib.ListN.{length};
+ghost use Rattle.registry.specs.Registry.{lineCount, registryLines};
+ghost use Rattle.table.specs.Table.{Rows};
+ghost use Rattle.settlement.specs.Settle.{Settled, settleText, settle};
+ghost use Rattle.settlement.specs.Steps.{Held};
+
+// A text without a fault: the day after the closed one is settled, one up to it only reported.
+pub(crate) fn settle_text(
+    nums: &mut [[u64; 6]],
+    numbers: &mut [[u8; 30]],
+    dates: &mut [[[u8; 19]; 3]],
+    g: Gate,
+    clock: [u8; 19],
+    day: Day,
+    s: &[u8],
+    out: &mut [u8],
+) -> Reply
+    requires { ⌜ Held g (record { nums = now nums; numbers = now numbers; dates = now dates }) 10000000000000 ⌝ }
+    requires { ⌜ (lineCount (now s) ≤ 512) × (length (registryLines (now s)) ≤ 512) × (512 ≤ length (now out)) ⌝ }
+    ensures { λ r. ⌜ _≡_ {A = Settled}
+        (record { code = r .code; gate = r .gate; rows = record { nums = now (nums .exit); numbers = now (numbers .exit); dates = now (dates .exit) }; report = now (out .exit) })
+        (settleText g (record { nums = now (nums .entry); numbers = now (numbers .entry); dates = now (dates .entry) }) clock day (now (s .entry)) (now (out .entry))) ⌝ }
+{
+    let closed = g.closed;
+    if day.follows(closed) {
+        let next = closing::settle_day(nums, numbers, dates, g, clock, day, s, out);
+        return Reply {
+            code: 0,
+            gate: next,
+        };
+    }
+    if !day.is_valid() {
+        return Reply { code: 55, gate: g };
+    }
+    if closed.before(day) {
+        return Reply { code: 55, gate: g };
+    }
+    let used = g.used;
+    report::write_report(nums, numbers, dates, used, s, out);
+    Reply { code: 0, gate: g }
+}
+
+// Settles a day by its registry, or only reports it; a fault keeps all.
+pub fn settle(
+    nums: &mut [[u64; 6]],
+    numbers: &mut [[u8; 30]],
+    dates: &mut [[[u8; 19]; 3]],
+    g: Gate,
+    clock: [u8; 19],
+    day: Day,
+    s: &[u8],
+    out: &mut [u8],
+) -> Reply
+    ensures { λ r. ⌜ _≡_ {A = Settled}
+        (record { code = r .code; gate = r .gate; rows = record { nums = now (nums .exit); numbers = now (numbers .exit); dates = now (dates .exit) }; report = now (out .exit) })
+        (settle g (record { nums = now (nums .entry); numbers = now (numbers .entry); dates = now (dates .entry) }) clock day (now (s .entry)) (now (out .entry))) ⌝ }
+{
+    if !valid::table_good(nums, numbers, dates, g) {
+        return Reply { code: 68, gate: g };
+    }
+    if out.len() < 512 {
+        return Reply { code: 50, gate: g };
+    }
+    if !date::is_written(clock) {
+        return Reply { code: 51, gate: g };
+    }
+    let fault = text::check_registry(day, s);
+    if fault != 0 {
+        return Reply {
+            code: fault,
+            gate: g,
+        };
+    }
+    settle_text(nums, numbers, dates, g, clock, day, s, out)
+}

@@ -1,0 +1,108 @@
+// The sweep: every done record of the day that no line matches is cancelled.
+use crate::lines;
+use fields::calendar::Day;
+use fields::date;
+use lists::Found;
+use table::Gate;
+use table::Record;
+use table::accounts;
+use table::rows;
+ghost use mathlib.Core.Path.{_≡_};
+ghost use Prim.Native.Nat.{_<_, _≤_};
+ghost use lib.ListN.{length};
+ghost use Rattle.registry.specs.Registry.{registryLines};
+ghost use Rattle.table.specs.Table.{Rows};
+ghost use Rattle.table.specs.Accounts.{accountsOf, findAccount};
+ghost use Rattle.gate.specs.Deliver.{revoked, debitedAt};
+ghost use Rattle.settlement.specs.Settle.{Ledger, isStray, swept};
+ghost use Rattle.settlement.specs.Steps.{Funds, Held, Left, ledgerOf, sweptAt};
+
+// Whether a record is done, of the day, and matched by no line.
+pub(crate) fn is_stray(r: Record, day: Day, s: &[u8]) -> bool
+    ensures { λ b. ⌜ b ≡ isStray day (registryLines (now (s .entry))) r ⌝ }
+{
+    if r.state != 1 {
+        return false;
+    }
+    let d = r.date;
+    if !date::is_on(day, d) {
+        return false;
+    }
+    !lines::any_matches(s, r)
+}
+
+// A record that is cancelled now.
+pub(crate) fn revoke_record(clock: [u8; 19], r: Record) -> Record
+    ensures { λ x. ⌜ x ≡ revoked clock r ⌝ }
+{
+    let mut next = r;
+    next.state = 2;
+    next.cancel = clock;
+    next
+}
+
+// The record's amount off its account, where it is known.
+pub(crate) fn debit_record(g: Gate, r: Record) -> Gate
+    requires { ⌜ Funds g 10000000000000000 × (r .amount < 1000000000) ⌝ }
+    ensures { λ x. ⌜ x ≡ debitedAt g (findAccount (r .number) (r .kind) (accountsOf g)) (r .amount) ⌝ }
+{
+    let n = r.number;
+    let f = accounts::find_account(g, n, r.kind);
+    match f {
+        Found::At(a) => accounts::debit(g, a, r.amount),
+        Found::Nothing => g,
+    }
+}
+
+// Sweeps the record at i.
+pub(crate) fn sweep_at(
+    nums: &mut [[u64; 6]],
+    numbers: &mut [[u8; 30]],
+    dates: &mut [[[u8; 19]; 3]],
+    g: Gate,
+    clock: [u8; 19],
+    day: Day,
+    s: &[u8],
+    i: usize,
+) -> Gate
+    requires { ⌜ Held g (record { nums = now nums; numbers = now numbers; dates = now dates }) 10000000000000000 × (i < g .used) ⌝ }
+    ensures { λ r. ⌜ Left (record { nums = now (nums .entry); numbers = now (numbers .entry); dates = now (dates .entry) })
+        (sweptAt clock day (registryLines (now (s .entry))) i (ledgerOf g (record { nums = now (nums .entry); numbers = now (numbers .entry); dates = now (dates .entry) })))
+        r (record { nums = now (nums .exit); numbers = now (numbers .exit); dates = now (dates .exit) }) ⌝ }
+{
+    let r = rows::load(nums, numbers, dates, i);
+    if !is_stray(r, day, s) {
+        return g;
+    }
+    let next = debit_record(g, r);
+    rows::store(nums, numbers, dates, i, revoke_record(clock, r));
+    next
+}
+
+// Sweeps every used record.
+pub(crate) fn sweep(
+    nums: &mut [[u64; 6]],
+    numbers: &mut [[u8; 30]],
+    dates: &mut [[[u8; 19]; 3]],
+    g: Gate,
+    clock: [u8; 19],
+    day: Day,
+    s: &[u8],
+) -> Gate
+    requires { ⌜ Held g (record { nums = now nums; numbers = now numbers; dates = now dates }) 11000000000000 ⌝ }
+    ensures { λ r. ⌜ Left (record { nums = now (nums .entry); numbers = now (numbers .entry); dates = now (dates .entry) })
+        (swept clock day (registryLines (now (s .entry))) (ledgerOf g (record { nums = now (nums .entry); numbers = now (numbers .entry); dates = now (dates .entry) })))
+        r (record { nums = now (nums .exit); numbers = now (numbers .exit); dates = now (dates .exit) }) ⌝ }
+    ensures { λ r. ⌜ Held r (record { nums = now (nums .exit); numbers = now (numbers .exit); dates = now (dates .exit) }) 16000000000000 ⌝ }
+    ensures { λ r. ⌜ _≡_ {A = Ledger} (swept clock day (registryLines (now (s .entry))) (ledgerOf g (record { nums = now (nums .entry); numbers = now (numbers .entry); dates = now (dates .entry) })))
+        (ledgerOf r (record { nums = now (nums .exit); numbers = now (numbers .exit); dates = now (dates .exit) })) ⌝ }
+{
+    let used = g.used;
+    let mut gate = g;
+    let mut i: usize = 0;
+    while i < used {
+        gate = sweep_at(nums, numbers, dates, gate, clock, day, s, i);
+        i += 1;
+    }
+    gate
+}
