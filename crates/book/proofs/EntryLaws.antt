@@ -135,3 +135,7 @@ book-none t = record { nums = omega arith; numbers = omega arith; dates = omega 
 pub book-next : (t : BookRows) (i n : ℕ) → WholeBook t i → i < n → n ≤ length (t .nums) → n ≤ length (t .numbers) → n ≤ length (t .dates)
     → length (getD (t .nums) i []) ≡ 6 → WholeBook t (i + 1)
 book-next t i n w h a b c s = record { nums = omega arith; numbers = omega arith; dates = omega arith; six = below-more _ i (w .six) s }
+
+pub book-end : (t : BookRows) (i n : ℕ) → WholeBook t i → i ≤ n → n ≤ i → WholeBook t n
+book-end t i n w h k =
+    record { nums = omega (arith, w .nums); numbers = omega (arith, w .numbers); dates = omega (arith, w .dates); six = λ j l. w .six j (omega arith) }

@@ -1,1 +1,4 @@
 pub mod EntryLaws
+pub mod CountLaws
+pub mod ValidLaws
+pub mod BookLaws

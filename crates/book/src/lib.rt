@@ -1,5 +1,8 @@
 // The agent's book: its head by value, and its entries in three lent rows.
+pub mod days;
+pub mod find;
 pub mod rows;
+pub mod valid;
 
 use fields::calendar::Day;
 use fields::number::Number;

@@ -69,10 +69,10 @@ module _ (d : List ℕ) (at : ℕ) (xs : List ℕ) (fit : at + length xs ≤ len
   head-size : length (take at d ++ xs) ≡ at + length xs
   head-size = rw (length-append, length-take-le at d (omega arith))
 
-  over-length : length (over d at xs) ≡ length d
+  pub over-length : length (over d at xs) ≡ length d
   over-length = simp (length-append, length-take-le at d (omega arith), length-drop) (omega arith)
 
-  over-over : (ys : List ℕ) → over (over d at xs) (at + length xs) ys ≡ over d at (xs ++ ys)
+  pub over-over : (ys : List ℕ) → over (over d at xs) (at + length xs) ys ≡ over d at (xs ++ ys)
   over-over ys =
       rw (← append-assoc (take at d) xs (drop (at + length xs) d))
       (rw (take-at (take at d ++ xs) (drop (at + length xs) d) (at + length xs) head-size, ← head-size)

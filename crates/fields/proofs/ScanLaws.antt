@@ -1,11 +1,14 @@
 -- Laws of the search for a byte.
-use Prim.Native.Nat.{ℕ, suc, _+_, _≤_, _<_}
+use Prim.Native.Nat.{ℕ, suc, _+_, _-_, _*_, _^_, _≤_, _<_}
 use native.Mathlib.Nat.{le-refl}
+use native.Mathlib.Numerals.{add-one}
 use native.Mathlib.Omega.{arith}
 use mathlib.Core.Path.{_≡_, refl, sym, ap, _∙_}
 use mathlib.Core.List.{List, [], _∷_, _++_}
 use mathlib.Core.Bool.{Bool, true, false}
-use lib.ListN.{length, getD, take, drop, drop-of-length-le}
+use mir.Syntax.{w64}
+use mir.Val.{Fits}
+use lib.ListN.{length, getD, take, drop, length-drop, drop-of-length-le}
 use lib.Seq.{take-all, length-take-le}
 use lib.Dec.{eqb}
 use borrow.Author.Tests.{eq-eqb, ne-eqb, eqb-true}
@@ -79,3 +82,21 @@ module _ (s : List ℕ) (n : ℕ) where
 
   pub first-size : n < length s → n ≡ length (take n s)
   first-size h = sym (length-take-le n s (omega arith))
+
+-- ---- parts of a text
+module _ (s : List ℕ) (at : ℕ) where
+  pub from-none : length s ≤ at → [] ≡ drop at s
+  from-none h = rw (drop-of-length-le s h)
+
+  pub from-some : take (length s - at) (drop at s) ≡ drop at s
+  from-some = take-all (length s - at) (drop at s) (rw length-drop (le-refl _))
+
+module _ (b : ℕ) (s : List ℕ) (p : ℕ) (at : p ≡ find b s) where
+  pub part-before : (f : List ℕ) → f ≡ take p s → f ≡ take (find b s) s
+  part-before f e = e ∙ rw at
+
+  pub after-fits : length s * 1 < 2 ^ 63 → Fits w64 (p + 1)
+  after-fits h = omega (arith, find-le b s)
+
+  pub part-after : (f : List ℕ) → f ≡ drop (p + 1) s → f ≡ drop (suc (find b s)) s
+  part-after f e = e ∙ rw (add-one, at)

@@ -1,6 +1,7 @@
 // Searching and comparing bytes.
 ghost use mathlib.Core.Path.{_≡_};
-ghost use lib.ListN.{take};
+ghost use Prim.Native.Nat.{suc};
+ghost use lib.ListN.{take, drop};
 ghost use Rattle.fields.specs.Lists.{find, eqList};
 
 // The index of the first b in s, or its length where there is none.
@@ -39,4 +40,25 @@ pub fn first_bytes(s: &[u8], n: usize) -> &[u8]
     ensures { λ r. ⌜ now r ≡ take n (now (s .entry)) ⌝ }
 {
     if s.len() <= n { s } else { &s[..n] }
+}
+
+// The bytes from a place on; none past the end.
+pub fn bytes_from(s: &[u8], at: usize) -> &[u8]
+    ensures { λ r. ⌜ now r ≡ drop at (now (s .entry)) ⌝ }
+{
+    if s.len() <= at { &s[..0] } else { &s[at..] }
+}
+
+// What stands before the first b, or all.
+pub fn before_byte(s: &[u8], b: u8) -> &[u8]
+    ensures { λ r. ⌜ now r ≡ take (find b (now (s .entry))) (now (s .entry)) ⌝ }
+{
+    first_bytes(s, find_byte(s, b))
+}
+
+// What stands behind the first b, or nothing.
+pub fn after_byte(s: &[u8], b: u8) -> &[u8]
+    ensures { λ r. ⌜ now r ≡ drop (suc (find b (now (s .entry)))) (now (s .entry)) ⌝ }
+{
+    bytes_from(s, find_byte(s, b) + 1)
 }

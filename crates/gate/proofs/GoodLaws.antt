@@ -18,7 +18,7 @@ use Rattle.lists.specs.Lists.{allFrom}
 use Rattle.table.specs.Table.{Rows, recordAt, recordsOf, Whole}
 use Rattle.table.specs.Accounts.{accountsOf, noAccount, balanceAt}
 use Rattle.table.specs.Valid.{near, accountGood, gateGood, recordGood, lentGood, tableGood, Ready}
-use Rattle.lists.proofs.ListLaws.{all-at}
+use Rattle.lists.proofs.ListLaws.{all-at, all-of}
 use Rattle.table.proofs.TableLaws.{length-records, getD-records}
 use Rattle.table.proofs.AccountLaws.{in-use}
 use Rattle.table.proofs.RangeLaws.{near-mag}
@@ -45,19 +45,6 @@ pub record Near (g : Gate) : Type 0 where
 -- two tests that hold
 pub and-both : (t u : Bool) → t ≡ true → u ≡ true → t && u ≡ true
 and-both t u p q = rw (p, q)
-
-all-of-from : {A : Type 0} (p : ℕ → A → Bool) (i : ℕ) (l : List A) (z : A) → ((j : ℕ) → j < length l → p (i + j) (getD l j z) ≡ true) → allFrom p i l ≡ true
-unfolding allFrom
-all-of-from p i [] z f = refl
-all-of-from p i (y ∷ ys) z f =
-    let a : p i y ≡ true = rw add-zero at (f 0 (omega arith)) in
-    and-both (p i y) (allFrom p (i + 1) ys) a (all-of-from p (i + 1) ys z (λ j h. next j (f (suc j) (omega arith))))
-  where
-    next : (j : ℕ) → p (i + suc j) (getD ys j z) ≡ true → p (i + 1 + j) (getD ys j z) ≡ true
-    next j e = let s : i + 1 + j ≡ i + suc j = omega arith in rw s e
-
-all-of : {A : Type 0} (p : ℕ → A → Bool) (l : List A) (z : A) → ((i : ℕ) → i < length l → p i (getD l i z) ≡ true) → allFrom p 0 l ≡ true
-all-of p l z f = all-of-from p 0 l z (λ j h. ap (λ (k : ℕ). p k (getD l j z)) (zero-add j) ∙ f j h)
 
 -- ---- from the test to the facts
 module _ (g : Gate) (t : Rows) (places : length (g .accounts) ≡ 256) (good : tableGood g t ≡ true) where

@@ -89,10 +89,10 @@ module _ (z : ℤ) where
 pub names-same : (g g′ : Gate) → g′ ≡ g → SameNames g g′
 names-same g g′ e = rw e (record { count = refl; closed = refl; places = refl; number = λ j. refl; kind = λ j. refl; finds = λ n k. refl })
 
-names-used : (g g′ : Gate) (n : ℕ) → SameNames g g′ → SameNames g (withUsed g′ n)
+pub names-used : (g g′ : Gate) (n : ℕ) → SameNames g g′ → SameNames g (withUsed g′ n)
 names-used g g′ n s = record { count = s .count; closed = s .closed; places = s .places; number = s .number; kind = s .kind; finds = s .finds }
 
-names-credited : (g : Gate) (a n : ℕ) → SameNames g (credited g a n)
+pub names-credited : (g : Gate) (a n : ℕ) → SameNames g (credited g a n)
 unfolding credited
 names-credited g a n = names-moved _ g a
 

@@ -210,6 +210,20 @@ all-from p i (y ∷ ys) z e (suc j) h =
 pub all-at : {A : Type 0} (p : ℕ → A → Bool) (l : List A) (z : A) (i : ℕ) → allFrom p 0 l ≡ true → i < length l → p i (getD l i z) ≡ true
 all-at p l z i e h = ap (λ (k : ℕ). p k (getD l i z)) (sym (zero-add i)) ∙ all-from p 0 l z e i h
 
+-- and back: a test that holds at each place holds of all
+all-of-from : {A : Type 0} (p : ℕ → A → Bool) (i : ℕ) (l : List A) (z : A) → ((j : ℕ) → j < length l → p (i + j) (getD l j z) ≡ true) → allFrom p i l ≡ true
+unfolding allFrom
+all-of-from p i [] z f = refl
+all-of-from p i (y ∷ ys) z f =
+    rw (ap (λ (n : ℕ). p n y) (sym (add-zero i)) ∙ f 0 (omega arith))
+    (all-of-from p (i + 1) ys z (λ j h. ap (λ (n : ℕ). p n (getD ys j z)) (next j) ∙ f (suc j) (omega arith)))
+  where
+    next : (j : ℕ) → i + 1 + j ≡ i + suc j
+    next j = omega arith
+
+pub all-of : {A : Type 0} (p : ℕ → A → Bool) (l : List A) (z : A) → ((i : ℕ) → i < length l → p i (getD l i z) ≡ true) → allFrom p 0 l ≡ true
+all-of p l z f = all-of-from p 0 l z (λ j h. ap (λ (k : ℕ). p k (getD l j z)) (zero-add j) ∙ f j h)
+
 -- ---- a turn of a loop that maps a list in place: the first i elements are mapped
 
 module _ {A : Type 0} (f : A → A) (l : List A) (i : ℕ) (z : A) (h : i < length l) where

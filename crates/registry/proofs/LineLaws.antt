@@ -1,47 +1,23 @@
 -- Laws of a line's fields, at each way out of its reader and of the test of a line.
 use Prim.Native.Nat.{ℕ, _+_, _-_, _≤_, _<_, _*_, _^_}
-use native.Mathlib.Numerals.{add-one}
-use native.Mathlib.Nat.{le-refl}
 use native.Mathlib.Omega.{arith}
 use mathlib.Core.Path.{_≡_, _∙_}
 use mathlib.Core.List.{List, []}
 use mathlib.Core.Bool.{Bool, true, false, not, and-false}
-use mir.Syntax.{w64}
-use mir.Val.{Fits}
 use lib.ListN.{length, take, drop, length-drop, drop-of-length-le}
-use lib.Seq.{take-all}
 use borrow.Author.Tests.{not-true, not-false}
 use Rattle.fields.specs.declared.digits.Digits.{Digits}
 use Rattle.fields.specs.declared.digits.Digits.the-variants.{Value, Malformed}
 use Rattle.fields.specs.declared.number.NumberRead.{NumberRead}
 use Rattle.fields.specs.declared.date.DateRead.{DateRead}
-use Rattle.fields.specs.Lists.{find}
 use Rattle.fields.specs.Amount.{isAmount, amountRead}
 use Rattle.fields.specs.Codes.{isReceipt, receiptRead, isKind, kindRead}
 use Rattle.fields.specs.Number.{isNumber, numberRead}
 use Rattle.fields.specs.Date.{isWritten, dateRead}
-use Rattle.fields.proofs.ScanLaws.{find-le}
 use Rattle.registry.specs.declared.line.Line.{Line}
 use Rattle.registry.specs.declared.line.LineRead.{LineRead}
 use Rattle.registry.specs.Line.{field, afterField, noLine, lineOf, lineRead, isLine}
 use Rattle.registry.specs.RegistryText.{lineWith}
-
-module _ (s : List ℕ) (at : ℕ) where
-  pub from-none : length s ≤ at → [] ≡ drop at s
-  from-none h = rw (drop-of-length-le s h)
-
-  pub from-some : take (length s - at) (drop at s) ≡ drop at s
-  from-some = take-all (length s - at) (drop at s) (rw length-drop (le-refl _))
-
-module _ (s : List ℕ) (p : ℕ) (at : p ≡ find 9 s) where
-  pub field-is : (f : List ℕ) → f ≡ take p s → f ≡ field s
-  field-is f e = e ∙ rw at
-
-  pub after-fits : length s * 1 < 2 ^ 63 → Fits w64 (p + 1)
-  after-fits h = omega (arith, find-le 9 s)
-
-  pub after-is : (f : List ℕ) → f ≡ drop (p + 1) s → f ≡ afterField s
-  after-is f e = e ∙ rw (add-one, at)
 
 -- ---- five fields that were read
 module _ (n : NumberRead) (k : Digits) (d : DateRead) (a r : Digits) where

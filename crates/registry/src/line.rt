@@ -12,10 +12,9 @@ use fields::out;
 use fields::scan;
 ghost use mathlib.Core.Path.{_≡_};
 ghost use mathlib.Core.Bool.{true};
-ghost use lib.ListN.{drop};
 ghost use Rattle.fields.specs.Lists.{written, cursorAfter};
 ghost use Rattle.registry.specs.RegistryText.{lineWith, rowOf9, accountPart};
-ghost use Rattle.registry.specs.Line.{field, afterField, lineRead, lineOf, noLine, isLine, lineBytes, lineText};
+ghost use Rattle.registry.specs.Line.{lineRead, lineOf, noLine, isLine, lineBytes, lineText};
 
 pub struct Line {
     pub number: Number,
@@ -48,27 +47,6 @@ pub fn no_line() -> LineRead
             receipt: 0,
         },
     }
-}
-
-// The bytes from a place on; none past the end.
-pub(crate) fn bytes_from(s: &[u8], at: usize) -> &[u8]
-    ensures { λ r. ⌜ now r ≡ drop at (now (s .entry)) ⌝ }
-{
-    if s.len() <= at { &s[..0] } else { &s[at..] }
-}
-
-// The first field.
-pub(crate) fn first_field(s: &[u8]) -> &[u8]
-    ensures { λ r. ⌜ now r ≡ field (now (s .entry)) ⌝ }
-{
-    scan::first_bytes(s, scan::find_byte(s, 9))
-}
-
-// What stands behind the first field and its 09.
-pub(crate) fn after_field(s: &[u8]) -> &[u8]
-    ensures { λ r. ⌜ now r ≡ afterField (now (s .entry)) ⌝ }
-{
-    bytes_from(s, scan::find_byte(s, 9) + 1)
 }
 
 // The line of five fields that were read.
@@ -110,20 +88,20 @@ pub(crate) fn line_of(n: NumberRead, k: Digits, d: DateRead, a: Digits, r: Digit
 pub(crate) fn line_with(n: NumberRead, k: Digits, s: &[u8]) -> LineRead
     ensures { λ x. ⌜ x ≡ lineWith n k (now (s .entry)) ⌝ }
 {
-    let d = date::read_date(first_field(s));
-    let s1 = after_field(s);
-    let a = amount::read_amount(first_field(s1));
-    line_of(n, k, d, a, codes::read_receipt(after_field(s1)))
+    let d = date::read_date(scan::before_byte(s, 9));
+    let s1 = scan::after_byte(s, 9);
+    let a = amount::read_amount(scan::before_byte(s1, 9));
+    line_of(n, k, d, a, codes::read_receipt(scan::after_byte(s1, 9)))
 }
 
 // A line, without its end.
 pub fn read_line(s: &[u8]) -> LineRead
     ensures { λ r. ⌜ r ≡ lineRead (now (s .entry)) ⌝ }
 {
-    let n = number::read_number(first_field(s));
-    let s1 = after_field(s);
-    let k = codes::read_kind(first_field(s1));
-    line_with(n, k, after_field(s1))
+    let n = number::read_number(scan::before_byte(s, 9));
+    let s1 = scan::after_byte(s, 9);
+    let k = codes::read_kind(scan::before_byte(s1, 9));
+    line_with(n, k, scan::after_byte(s1, 9))
 }
 
 impl Line {

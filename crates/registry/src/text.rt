@@ -44,7 +44,7 @@ pub fn line_at(s: &[u8], at: usize) -> LineRead
     ensures { λ r. ⌜ r ≡ lineRead (take (lineEnd (drop at (now (s .entry)))) (drop at (now (s .entry)))) ⌝ }
 {
     let n = end_of_line(s, at) - at;
-    line::read_line(scan::first_bytes(line::bytes_from(s, at), n))
+    line::read_line(scan::first_bytes(scan::bytes_from(s, at), n))
 }
 
 // How many lines a text has; an unended rest counts as one.

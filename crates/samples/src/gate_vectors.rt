@@ -14,7 +14,7 @@ use table::Record;
 use table::rows;
 
 // Shows what a call answered, and hands back the world that it left.
-fn answered(w: World, r: Reply) -> World {
+pub fn answered(w: World, r: Reply) -> World {
     let g = r.gate;
     world::show_state(r.code, g);
     world::with_gate(w, g)
@@ -172,7 +172,7 @@ pub fn deliver_small(
 }
 
 // What was written over zeros.
-fn show_written(out: &[u8]) {
+pub fn show_written(out: &[u8]) {
     let n = scan::find_byte(out, 0);
     if 0 < n {
         show::text(b" ");

@@ -10,6 +10,7 @@ mod given;
 mod number_vectors;
 mod registry_vectors;
 mod request_vectors;
+mod settle_vectors;
 mod show;
 mod split;
 mod spoil;

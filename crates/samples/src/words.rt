@@ -8,6 +8,7 @@ use crate::gate_vectors;
 use crate::number_vectors;
 use crate::registry_vectors;
 use crate::request_vectors;
+use crate::settle_vectors;
 use crate::show;
 use crate::spoil;
 use crate::world;
@@ -62,6 +63,12 @@ pub fn answer(
     }
     if scan::same_bytes(word, b"deliver-small") {
         return gate_vectors::deliver_small(text, nums, numbers, dates, w);
+    }
+    if scan::same_bytes(word, b"settle") {
+        return settle_vectors::settle(text, nums, numbers, dates, w);
+    }
+    if scan::same_bytes(word, b"settle-small") {
+        return settle_vectors::settle_small(text, nums, numbers, dates, w);
     }
     if scan::same_bytes(word, b"spoil") {
         show::text(b"ok");

@@ -84,13 +84,13 @@ from-from t rs qs h = rw (one numsOf (t .nums), one (λ (r : Record). r .number 
 other : {A : Type 0} {v : Verdict} {a : ℕ} → v ≡ Posts a → v ≡ Unposted → A
 other e u = let z : _≡_ {A = ℕ} 0 1 = cc in absurd (omega arith)
 
-post-room : (f k : Found) (full : Bool) (a : ℕ) → postVerdict f k full ≡ Posts a → (full ≡ false) × (k ≡ At a)
+pub post-room : (f k : Found) (full : Bool) (a : ℕ) → postVerdict f k full ≡ Posts a → (full ≡ false) × (k ≡ At a)
 post-room (At i) k full a e = other e refl
 post-room Nothing Nothing full a e = other e refl
 post-room Nothing (At c) true a e = other e refl
 post-room Nothing (At c) false a e = let q : c ≡ a = cc in (refl, ap At q)
 
-verdict-post : (rs : List Record) (f : Found) (v : Verdict) (a : ℕ) → matchVerdict rs f v ≡ Posts a → v ≡ Posts a
+pub verdict-post : (rs : List Record) (f : Found) (v : Verdict) (a : ℕ) → matchVerdict rs f v ≡ Posts a → v ≡ Posts a
 verdict-post rs Nothing v a e = e
 verdict-post rs (At i) v a e = go (isDone (getD rs i noRecord)) e
   where

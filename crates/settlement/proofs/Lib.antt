@@ -1,3 +1,4 @@
+pub mod BalanceLaws
 pub mod Cases
 pub mod DayLaws
 pub mod HeldLaws

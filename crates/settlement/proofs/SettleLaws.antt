@@ -238,7 +238,7 @@ module _ (g : Gate) (t : Rows) (clock : List ℕ) (day : Day) (text out : List �
   abbrev reported : Settled
   reported = record { code = 0; gate = g; rows = t; report = written out 0 (reportOf (registryLines text) (recordsOf t (g .used))) }
 
-  pub settled-by : (P : Settled → Type 0) → ((code : ℕ) → (code ≡ 0 → ⊥) → P (refusal code)) → (Passed g t day text out → P reported)
+  pub settled-by : (P : Settled → Type 0) → ((code : ℕ) → (code ≡ 0 → ⊥) → P (refusal code)) → (Passed g t day text out → onDay day (nextDay (g .closed)) ≡ false → P reported)
       → (Passed g t day text out → onDay day (nextDay (g .closed)) ≡ true → P (settleDay g t clock day (registryLines text) out))
       → P (settle g t clock day text out)
   unfolding settle settleText
@@ -251,7 +251,7 @@ module _ (g : Gate) (t : Rows) (clock : List ℕ) (day : Day) (text out : List �
       let p : Passed g t day text out = record { good = good; room = leb-true 512 (length out) room; faultless = eqb-true (registryFault day text) 0 none } in
       cond-elim P (onDay day (nextDay (g .closed))) _ _
       (λ next. settles p next)
-      (λ _. cond-elim P (isDay day && not (dayBefore (g .closed) day)) _ _ (λ _. report p) (λ _. keep 55 (λ e. absurd (omega arith)))))
+      (λ off. cond-elim P (isDay day && not (dayBefore (g .closed) day)) _ _ (λ _. report p off) (λ _. keep 55 (λ e. absurd (omega arith)))))
       (λ n. keep (registryFault day text) (eqb-false (registryFault day text) 0 n)))
       (λ _. keep 51 (λ e. absurd (omega arith))))
       (λ _. keep 50 (λ e. absurd (omega arith))))
@@ -268,7 +268,7 @@ module _ (g : Gate) (t : Rows) (clock : List ℕ) (day : Day) (text out : List �
   fault-keeps =
       settled-by (λ (d : Settled). (d .code ≡ 0 → ⊥) → Kept d)
       (λ code _ _. record { gates = refl; tables = refl; buffer = refl })
-      (λ _ n. absurd (n refl))
+      (λ _ _ n. absurd (n refl))
       (λ _ _ n. absurd (n refl))
 
   -- the ledger that the day's settlement makes
@@ -302,7 +302,7 @@ module _ (g : Gate) (t : Rows) (clock : List ℕ) (day : Day) (text out : List �
   report-now =
       settled-by (λ (d : Settled). d .code ≡ 0 → d .report ≡ written out 0 (reportOf (registryLines text) (left d)))
       (λ code n e. absurd (n e))
-      (λ _ _. refl)
+      (λ _ _ _. refl)
       (λ _ _ _. today-report)
 
 -- no used record is lost, and each keeps its key
@@ -327,7 +327,7 @@ module _ (g : Gate) (t : Rows) (clock : List ℕ) (day : Day) (text out : List �
   settle-lasts =
       settled-by g t clock day text out (Lasting g t)
       (λ code n. record { used = omega arith; keys = λ i h. key-equal _ _ refl })
-      (λ _. record { used = omega arith; keys = λ i h. key-equal _ _ refl })
+      (λ _ _. record { used = omega arith; keys = λ i h. key-equal _ _ refl })
       (λ _ _. today-lasts)
 
 -- ---- the bytes of the report, as the call leaves its buffer
@@ -345,7 +345,7 @@ module _ (g : Gate) (t : Rows) (clock : List ℕ) (day : Day) (text out : List �
   report-room =
       settled-by g t clock day text out (λ (d : Settled). d .code ≡ 0 → length (registryLines text) ≤ length out)
       (λ code n e. absurd (n e))
-      (λ p _. room p)
+      (λ p _ _. room p)
       (λ p _ _. room p)
       done
     where
@@ -464,4 +464,4 @@ module _ (g : Gate) (t : Rows) (clock : List ℕ) (day : Day) (text out : List �
       ∙ at
 
   pub other-day : recordAt ((settle g t clock day text out) .rows) i ≡ recordAt t i
-  other-day = settled-by g t clock day text out (λ (d : Settled). recordAt (d .rows) i ≡ recordAt t i) (λ _ _. refl) (λ _. refl) (λ p _. today-other p)
+  other-day = settled-by g t clock day text out (λ (d : Settled). recordAt (d .rows) i ≡ recordAt t i) (λ _ _. refl) (λ _ _. refl) (λ p _. today-other p)

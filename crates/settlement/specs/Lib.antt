@@ -1,3 +1,4 @@
+pub mod Balances
 pub mod Cases
 pub mod Settle
 pub mod Steps

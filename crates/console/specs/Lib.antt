@@ -1,0 +1,6 @@
+pub mod Order
+pub mod Sums
+pub mod Feed
+pub mod Gather
+pub mod Session
+pub mod Parts

@@ -1,0 +1,56 @@
+-- The calls of a session: a part of its input, the end of its input, or all of it at once. A line prints at most 64 bytes.
+use Prim.Native.Nat.{ℕ, _+_, _*_}
+use mathlib.Core.Path.{_≡_}
+use mathlib.Core.List.{List, [], _++_}
+use mathlib.Core.Bool.{Bool, true, false, cond}
+use lib.Dec.{leb}
+use lib.ListN.{length}
+use Rattle.fields.specs.Lists.{over}
+use Rattle.table.specs.Table.{Rows}
+use Rattle.console.specs.declared.Console.{Console}
+use Rattle.console.specs.declared.Held.{Held}
+use Rattle.console.specs.Order.{Turn, lineTurn, turnText}
+use Rattle.console.specs.Feed.{heldText, emptied, Fed, fed, finished}
+use Rattle.console.specs.Session.{newFed, sessionText}
+
+-- what a part leaves: the session, the buffer with what it prints, and the cursor behind that
+pub record Part : Type 0 where
+  pub console : Console
+  pub held : Held
+  pub rows : Rows
+  pub out : List ℕ
+  pub size : ℕ
+
+abbrev pub before : Console → Held → Rows → Fed
+before x h t = record { console = x; held = h; rows = t; text = [] }
+
+abbrev pub printed : List ℕ → ℕ → Fed → Part
+printed out at f = record { console = f .console; held = f .held; rows = f .rows; out = over out at (f .text); size = at + length (f .text) }
+
+unfoldable pub feedPart : Console → Held → Rows → List ℕ → List ℕ → Part
+feedPart x h t input out = printed out 0 (fed (before x h t) input)
+
+-- the end, printed at a cursor
+unfoldable pub lastPart : Console → Held → Rows → List ℕ → ℕ → Part
+lastPart x h t out at = printed out at (finished (before x h t))
+
+-- ---- a whole session; a buffer without room for it is refused
+pub record Ran : Type 0 where
+  pub ok : Bool
+  pub rows : Rows
+  pub out : List ℕ
+  pub size : ℕ
+
+unfoldable pub runAll : Rows → List ℕ → List ℕ → Ran
+runAll t input out =
+    cond (leb (64 * (length input + 1)) (length out))
+    (record { ok = true; rows = (finished (fed (newFed t) input)) .rows; out = over out 0 (sessionText t input); size = length (sessionText t input) })
+    (record { ok = false; rows = t; out = out; size = 0 })
+
+-- ---- a line that has ended, printed at the cursor
+pub record EndedAt (x : Console) (h : Held) (t : Rows) (d : List ℕ) (at : ℕ) (console : Console) (held : Held) (rows : Rows) (out : List ℕ) (size : ℕ) : Type 0 where
+  pub consoles : console ≡ (lineTurn x t (heldText h)) .console
+  pub helds : held ≡ emptied h
+  pub left : rows ≡ (lineTurn x t (heldText h)) .rows
+  pub buffer : out ≡ over d at (turnText (lineTurn x t (heldText h)))
+  pub cursor : size ≡ at + length (turnText (lineTurn x t (heldText h)))
