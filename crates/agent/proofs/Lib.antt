@@ -1,0 +1,6 @@
+pub mod MeaningLaws
+pub mod WritingLaws
+pub mod AnsweringLaws
+pub mod MovedLaws
+pub mod AnswerTheorems
+pub mod WritingTheorems

@@ -1,0 +1,190 @@
+-- What a call finds in the lent book, and what it leaves: all as it was, or one entry in another state.
+use Prim.Native.Nat.{ℕ, _<_}
+use native.Mathlib.Decide.{ℕ-discrete}
+use native.Mathlib.Omega.{arith}
+use mathlib.Core.Path.{_≡_, refl, sym, ap, subst⁻¹, _∙_}
+use mathlib.Core.Bool.{Bool, true, false, not}
+use mathlib.Core.List.{[]}
+use lib.ListN.{length, getD, set, length-set}
+use lib.Seq.{getD-set-same, getD-set-other, set-getD}
+use borrow.Author.Tests.{not-false}
+use Rattle.fields.specs.Amount.{isAmount}
+use Rattle.fields.specs.Codes.{isReceipt, isKind}
+use Rattle.fields.specs.Date.{isWritten}
+use Rattle.fields.specs.Digits.{within}
+use Rattle.fields.specs.Number.{isNumber}
+use Rattle.fields.proofs.Tests.{both}
+use Rattle.lists.specs.declared.Found.{Found}
+use Rattle.lists.specs.declared.Found.the-variants.{At}
+use Rattle.book.specs.declared.Book.{Book}
+use Rattle.book.specs.declared.Entry.{Entry}
+use Rattle.book.specs.declared.State.{State}
+use Rattle.book.specs.declared.State.the-variants.{Asked, Credited, CancelAsked, Cancelled, Unposted}
+use Rattle.book.specs.Entries.{BookRows, stateNumber, noEntry, entryAt, entriesOf, entryNums, bookWith, bookFrom, findEntry, WholeBook}
+use Rattle.book.specs.BookValid.{entryFields, bookGood, ReadyBook}
+use Rattle.book.proofs.EntryLaws.{EntryRoom, entry-other, entry-same, getD-entries, book-kept}
+use Rattle.book.proofs.BookLaws.{good-book, lent-book, good-lent, good-room, put-good, entry-within}
+use Rattle.book.proofs.CountLaws.{no-claim}
+use Rattle.daybook.specs.Acceptance.{isFrozen}
+
+-- ---- what every call finds
+-- the place of a receipt
+abbrev pub placeOf : Book → BookRows → ℕ → Found
+placeOf b t receipt = findEntry receipt (entriesOf t (b .used))
+
+pub same-place : (j i : ℕ) → At j ≡ At i → j ≡ i
+same-place j i e = cc
+
+pub place-in-use : (t : BookRows) (used receipt i : ℕ) (p : Found) → p ≡ findEntry receipt (entriesOf t used) → p ≡ At i → i < used
+place-in-use t used receipt i p e q = entry-within t used receipt i (sym e ∙ q)
+
+module _ (b : Book) (t : BookRows) where
+  pub book-is : (g : Bool) → g ≡ bookGood b t → not g ≡ false → bookGood b t ≡ true
+  book-is g e h = sym e ∙ not-false g h
+
+  -- the entry that is found is good
+  pub found-fields : (receipt i : ℕ) → bookGood b t ≡ true → placeOf b t receipt ≡ At i → entryFields (entryAt t i) ≡ true
+  found-fields receipt i good e = (good-book b t good) .entry i (entry-within t (b .used) receipt i e)
+
+  module _ (i : ℕ) (ready : ReadyBook b t) (l : i < b .used) where
+    -- the rows reach its place
+    pub room-at : (i < length (t .nums)) × (i < length (t .numbers)) × (i < length (t .dates))
+    room-at = let w = ready .whole in (omega (arith, w .nums), omega (arith, w .numbers), omega (arith, w .dates))
+
+    -- the entry that is there already
+    pub put-same : (e : Entry) → e ≡ entryAt t i → bookFrom t (set (entriesOf t (b .used)) i e) ≡ t
+    put-same e same =
+        let there : set (entriesOf t (b .used)) i e ≡ entriesOf t (b .used) =
+        ap (set (entriesOf t (b .used)) i) (same ∙ sym (getD-entries t (b .used) i noEntry l)) ∙ set-getD (entriesOf t (b .used)) i noEntry in
+        ap (bookFrom t) there ∙ book-kept t (b .used) (ready .whole)
+
+-- ---- the fields of an entry, as facts
+pub record EntryParts (e : Entry) : Type 0 where
+  pub receipt : isReceipt (e .receipt) ≡ true
+  pub number : isNumber (e .number) ≡ true
+  pub kind : isKind (e .kind) ≡ true
+  pub amount : isAmount (e .amount) ≡ true
+  pub date : isWritten (e .date) ≡ true
+  pub state : within 1 5 (e .state) ≡ true
+  pub authcode : within 0 999999999999999 (e .authcode) ≡ true
+
+pub entry-parts : (e : Entry) → entryFields e ≡ true → EntryParts e
+unfolding entryFields
+entry-parts e h =
+    let r = both (isReceipt (e .receipt)) _ h in
+    let n = both (isNumber (e .number)) _ (r .1) in
+    let k = both (isKind (e .kind)) _ (n .1) in
+    let a = both (isAmount (e .amount)) _ (k .1) in
+    let d = both (isWritten (e .date)) _ (a .1) in
+    let s = both (within 1 5 (e .state)) _ (d .1) in
+    record { receipt = r .0; number = n .0; kind = k .0; amount = a .0; date = d .0; state = s .0; authcode = s .1 }
+
+pub entry-again : (e : Entry) → EntryParts e → entryFields e ≡ true
+unfolding entryFields
+entry-again e p = rw (p .receipt, p .number, p .kind, p .amount, p .date, p .state, p .authcode)
+
+-- each of the five states has its number in the rows
+pub state-range : (s : State) → within 1 5 (stateNumber s) ≡ true
+unfolding stateNumber
+state-range Asked = refl
+state-range Credited = refl
+state-range CancelAsked = refl
+state-range Cancelled = refl
+state-range Unposted = refl
+
+-- ---- what an entry keeps for good
+pub record SamePayment (e e′ : Entry) : Type 0 where
+  pub receipt : e′ .receipt ≡ e .receipt
+  pub number : e′ .number ≡ e .number
+  pub kind : e′ .kind ≡ e .kind
+  pub amount : e′ .amount ≡ e .amount
+  pub date : e′ .date ≡ e .date
+
+pub same-payment : (e : Entry) → SamePayment e e
+same-payment e = record { receipt = refl; number = refl; kind = refl; amount = refl; date = refl }
+
+-- such an entry in one of the five states, with an authcode of at most 15 digits, is good again
+pub fields-kept : (e e′ : Entry) → SamePayment e e′ → EntryParts e → within 1 5 (e′ .state) ≡ true → within 0 999999999999999 (e′ .authcode) ≡ true → entryFields e′ ≡ true
+fields-kept e e′ s p state authcode =
+    entry-again e′
+    (record {
+      receipt = ap isReceipt (s .receipt) ∙ p .receipt;
+      number = ap isNumber (s .number) ∙ p .number;
+      kind = ap isKind (s .kind) ∙ p .kind;
+      amount = ap isAmount (s .amount) ∙ p .amount;
+      date = ap isWritten (s .date) ∙ p .date;
+      state = state;
+      authcode = authcode;
+    })
+
+-- rows of whole arrays are so with one of them set
+set-whole : (t : BookRows) (n i : ℕ) (e : Entry) → WholeBook t n → WholeBook (bookWith t i e) n
+set-whole t n i e w =
+    record {
+      nums = omega (arith, w .nums, length-set (t .nums) i (entryNums e));
+      numbers = omega (arith, w .numbers, length-set (t .numbers) i (e .number .bytes));
+      dates = omega (arith, w .dates, length-set (t .dates) i (e .date));
+      six = λ j l. go j l (ℕ-discrete j i);
+    }
+  where
+    go : (j : ℕ) → j < n → Dec (j ≡ i) → length (getD (set (t .nums) i (entryNums e)) j []) ≡ 6
+    go j l (yes q) =
+        let k : i < length (t .nums) = omega (arith, l, w .nums) in
+        rw q (ap length (getD-set-same (t .nums) i (entryNums e) [] k))
+    go j l (no d) = ap length (getD-set-other (t .nums) i j (entryNums e) [] d) ∙ w .six j l
+
+set-ready : (b : Book) (t : BookRows) (i : ℕ) (e : Entry) → ReadyBook b t → ReadyBook b (bookWith t i e)
+set-ready b t i e r =
+    let n : length (set (t .nums) i (entryNums e)) ≡ length (t .nums) = length-set (t .nums) i (entryNums e) in
+    let m : length (set (t .numbers) i (e .number .bytes)) ≡ length (t .numbers) = length-set (t .numbers) i (e .number .bytes) in
+    let d : length (set (t .dates) i (e .date)) ≡ length (t .dates) = length-set (t .dates) i (e .date) in
+    record {
+      whole = set-whole t (b .used) i e (r .whole);
+      same = record { numbers = m ∙ r .same .numbers ∙ sym n; dates = d ∙ r .same .dates ∙ sym n };
+      size = omega (arith, n, r .size);
+    }
+
+-- ---- the rows t′ that a call about the place p leaves of t
+pub data Left (b : Book) (t : BookRows) (p : Found) (t′ : BookRows) : Type 0 where
+  kept : t′ ≡ t → Left b t p t′
+  moved : (i : ℕ) (e′ : Entry) → p ≡ At i → i < b .used → bookGood b t ≡ true → isFrozen b ((entryAt t i) .date) ≡ false
+      → SamePayment (entryAt t i) e′ → entryFields e′ ≡ true → t′ ≡ bookWith t i e′ → Left b t p t′
+
+module _ (b : Book) (t : BookRows) (p : Found) (t′ : BookRows) where
+  -- an entry at another place is as it was
+  pub others-kept : Left b t p t′ → (j : ℕ) → (p ≡ At j → ⊥) → entryAt t′ j ≡ entryAt t j
+  others-kept (kept e) j n = ap (λ (r : BookRows). entryAt r j) e
+  others-kept (moved i e′ found l good free same fields e) j n =
+      ap (λ (r : BookRows). entryAt r j) e ∙ entry-other t i e′ j (λ q. n (found ∙ ap At (sym q)))
+
+  -- a property of what was at a place and what is there now
+  each-kept : (P : Entry → Entry → Type 0) → ((e : Entry) → P e e) → Left b t p t′
+      → ((i : ℕ) (e′ : Entry) → isFrozen b ((entryAt t i) .date) ≡ false → SamePayment (entryAt t i) e′ → P (entryAt t i) e′)
+      → (j : ℕ) → P (entryAt t j) (entryAt t′ j)
+  each-kept P one (kept e) f j = subst⁻¹ (λ (r : BookRows). P (entryAt t j) (entryAt r j)) e (one (entryAt t j))
+  each-kept P one (moved i e′ found l good free same fields e) f j = subst⁻¹ (λ (r : BookRows). P (entryAt t j) (entryAt r j)) e (go (ℕ-discrete j i))
+    where
+      room : EntryRoom t i
+      room = good-room b t good i (omega (arith, l, lent-book b t (good-lent b t good) .used))
+
+      go : Dec (j ≡ i) → P (entryAt t j) (entryAt (bookWith t i e′) j)
+      go (yes q) = subst⁻¹ (λ (k : ℕ). P (entryAt t k) (entryAt (bookWith t i e′) k)) q (subst⁻¹ (P (entryAt t i)) (entry-same t i e′ room) (f i e′ free same))
+      go (no d) = subst⁻¹ (P (entryAt t j)) (entry-other t i e′ j d) (one (entryAt t j))
+
+  -- every entry keeps its receipt, its account, its amount and its date
+  pub payments-kept : Left b t p t′ → (j : ℕ) → SamePayment (entryAt t j) (entryAt t′ j)
+  payments-kept x = each-kept SamePayment same-payment x (λ i e′ free same. same)
+
+  -- an entry of a frozen day is as it was
+  pub frozen-kept : Left b t p t′ → (j : ℕ) → isFrozen b ((entryAt t j) .date) ≡ true → entryAt t′ j ≡ entryAt t j
+  frozen-kept x = each-kept (λ (e e′ : Entry). isFrozen b (e .date) ≡ true → e′ ≡ e) (λ e h. refl) x (λ i e′ free same h. no-claim (sym free ∙ h))
+
+  -- a good book is good again
+  pub good-kept : Left b t p t′ → bookGood b t ≡ true → bookGood b t′ ≡ true
+  good-kept (kept e) g = ap (bookGood b) e ∙ g
+  good-kept (moved i e′ found l good free same fields e) g = ap (bookGood b) e ∙ put-good b t g i e′ l fields (same .receipt) (same .date)
+
+  -- rows that are ready are ready again
+  pub ready-kept : Left b t p t′ → ReadyBook b t → ReadyBook b t′
+  ready-kept (kept e) r = subst⁻¹ (ReadyBook b) e r
+  ready-kept (moved i e′ found l good free same fields e) r = subst⁻¹ (ReadyBook b) e (set-ready b t i e′ r)

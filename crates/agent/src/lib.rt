@@ -1,0 +1,4 @@
+// The agent on the net: requests written, answers taken.
+pub mod answering;
+pub mod meaning;
+pub mod writing;

@@ -1,0 +1,33 @@
+-- Laws of a part of a row, and of the lines of the input.
+use Prim.Native.Nat.{ℕ, _+_, _-_, _*_, _≤_, _<_, _^_}
+use native.Mathlib.Omega.{arith}
+use mathlib.Core.Path.{_≡_, sym, ap, _∙_}
+use mathlib.Core.List.{List}
+use mir.Syntax.{w64}
+use mir.Val.{Fits}
+use lib.ListN.{length, take, drop, length-drop}
+use lib.Seq.{length-take-le}
+use Rattle.fields.specs.Lists.{find}
+use Rattle.fields.proofs.ScanLaws.{find-le}
+
+pub rows-size : {A : Type 0} (d : List A) (n : ℕ) → n ≤ length d → n ≡ length (take n d)
+rows-size d n h = sym (length-take-le n d h)
+
+module _ (s : List ℕ) (at : ℕ) (r : List ℕ) (er : r ≡ drop at s) (l : List ℕ) (el : l ≡ take (find 10 r) r) (h : at < length s) where
+  line-size : at + length l ≤ length s
+  line-size =
+      let rest : length r ≡ length s - at = ap length er ∙ length-drop at s in
+      let part : length l ≡ find 10 r = ap length el ∙ length-take-le (find 10 r) r (find-le 10 r) in
+      omega (arith, rest, part, find-le 10 r)
+
+  pub line-fits : length s * 1 < 2 ^ 63 → Fits w64 (length l + 1)
+  line-fits b = omega (arith, line-size)
+
+  pub next-fits : length s * 1 < 2 ^ 63 → Fits w64 (at + (length l + 1))
+  next-fits b = omega (arith, line-size)
+
+  pub next-inside : at + (length l + 1) ≤ length s + 1
+  next-inside = omega (arith, line-size)
+
+  pub next-falls : (length s + 1) - (at + (length l + 1)) < (length s + 1) - at
+  next-falls = omega (arith, line-size)

@@ -1,0 +1,57 @@
+// Values from the text of a line: each reads up to the first space.
+use fields::calendar;
+use fields::calendar::Day;
+use fields::calendar::DayRead;
+use fields::date;
+use fields::digits;
+use fields::digits::Digits;
+use fields::number;
+use fields::number::Number;
+use fields::scan;
+
+// A number of at most 20 digits, or 0.
+pub fn value(s: &[u8]) -> u64 {
+    let d = digits::read_digits(scan::before_byte(s, 32), 20);
+    match d {
+        Digits::Value(v) => v,
+        Digits::Malformed => 0,
+    }
+}
+
+// An account's number, of no bytes where it is malformed.
+pub fn account(s: &[u8]) -> Number {
+    let r = number::read_number(scan::before_byte(s, 32));
+    r.number
+}
+
+// A written date, or zeros.
+pub fn written(s: &[u8]) -> [u8; 19] {
+    let r = date::read_date(scan::before_byte(s, 32));
+    r.date
+}
+
+// A day, or zeros.
+pub fn day(s: &[u8]) -> Day {
+    let r = calendar::read_day(scan::before_byte(s, 32));
+    match r {
+        DayRead::Good(d) => d,
+        DayRead::NoDate => Day {
+            year: 0,
+            month: 0,
+            day: 0,
+        },
+    }
+}
+
+// The text behind the second, third and fourth field.
+pub fn second(s: &[u8]) -> &[u8] {
+    scan::after_byte(s, 32)
+}
+
+pub fn third(s: &[u8]) -> &[u8] {
+    second(second(s))
+}
+
+pub fn fourth(s: &[u8]) -> &[u8] {
+    second(third(s))
+}

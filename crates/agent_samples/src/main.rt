@@ -1,0 +1,97 @@
+// Runs a day at the agent from standard input: prints each line, `: ` and what the agent answers.
+mod desk;
+mod given;
+mod words;
+
+use desk::Desk;
+use fields::scan;
+ghost use mathlib.Core.Path.{_≡_};
+ghost use Prim.Native.Nat.{_≤_};
+ghost use lib.ListN.{length};
+
+// The rows that are lent at most: 600 entries.
+fn empty_nums() -> [[u64; 6]; 600]
+    ensures { λ r. ⌜ 600 ≡ length r ⌝ }
+{
+    [[0u64; 6]; 600]
+}
+
+fn empty_numbers() -> [[u8; 30]; 600]
+    ensures { λ r. ⌜ 600 ≡ length r ⌝ }
+{
+    [[0u8; 30]; 600]
+}
+
+fn empty_dates() -> [[u8; 19]; 600]
+    ensures { λ r. ⌜ 600 ≡ length r ⌝ }
+{
+    [[0u8; 19]; 600]
+}
+
+// Whether a line is a heading or empty: it is printed as it is.
+fn is_heading(line: &[u8]) -> bool {
+    if line.len() == 0 {
+        return true;
+    }
+    line[0] == b'#'
+}
+
+// The lesser of two numbers.
+fn least(a: usize, b: usize) -> usize
+    ensures { λ r. ⌜ r ≤ b ⌝ }
+{
+    if a < b { a } else { b }
+}
+
+// Prints a line and what it gives, and hands the desk back.
+fn answer_line(
+    line: &[u8],
+    nums: &mut [[u64; 6]],
+    numbers: &mut [[u8; 30]],
+    dates: &mut [[u8; 19]],
+    d: Desk,
+) -> Desk {
+    io::write_all(1, line);
+    if is_heading(line) {
+        io::write_all(1, b"\n");
+        return d;
+    }
+    io::write_all(1, b": ");
+    let n = least(d.lent, nums.len());
+    let m = least(d.lent, numbers.len());
+    let k = least(d.lent, dates.len());
+    let next = words::answer(
+        scan::before_byte(line, 32),
+        scan::after_byte(line, 32),
+        &mut nums[..n],
+        &mut numbers[..m],
+        &mut dates[..k],
+        d,
+    );
+    io::write_all(1, b"\n");
+    next
+}
+
+// Answers each line.
+fn lines(s: &[u8], nums: &mut [[u64; 6]], numbers: &mut [[u8; 30]], dates: &mut [[u8; 19]]) {
+    let mut d = desk::start(b"");
+    let mut at: usize = 0;
+    while at < s.len() {
+        let line = scan::before_byte(scan::bytes_from(s, at), 10);
+        d = answer_line(line, nums, numbers, dates, d);
+        at += line.len() + 1;
+    }
+}
+
+fn main() {
+    let mut buffer = io::large_buffer();
+    let mut nums = empty_nums();
+    let mut numbers = empty_numbers();
+    let mut dates = empty_dates();
+    let n = io::read_full(0, &mut buffer);
+    if n == buffer.len() {
+        io::write_all(1, b"the input is too long\n");
+        return;
+    }
+    lines(&buffer[..n], &mut nums, &mut numbers, &mut dates);
+}

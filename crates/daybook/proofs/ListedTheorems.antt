@@ -1,0 +1,180 @@
+-- The registry of a frozen day: it reads back as the day's entries that are not cancelled, and is the same bytes at each writing.
+use Prim.Native.Nat.{ℕ, zero, suc, _+_, _<_, _≤_}
+use native.Mathlib.Omega.{arith}
+use mathlib.Core.Path.{_≡_, refl, sym, ap, _∙_}
+use mathlib.Core.Bool.{Bool, true, false, cond, not, _&&_}
+use mathlib.Core.List.{List, [], _∷_, _++_, map}
+use lib.Dec.{eqb}
+use lib.ListN.{length, getD, set}
+use borrow.Author.Tests.{lt-ltb, eq-eqb, eqb-true}
+use Rattle.fields.specs.declared.calendar.Day.{Day}
+use Rattle.fields.specs.declared.calendar.DayRead.{DayRead}
+use Rattle.fields.specs.declared.calendar.DayRead.the-variants.{Good, NoDate}
+use Rattle.fields.specs.Calendar.{dayBefore, sameDay, onDay, upTo}
+use Rattle.fields.specs.Date.{dateDay}
+use Rattle.fields.proofs.Tests.{both, and-left, and-right}
+use Rattle.fields.proofs.DayLaws.{same-day}
+use Rattle.fields.proofs.DigitLaws.{within-low}
+use Rattle.lists.specs.Lists.{allFrom}
+use Rattle.lists.proofs.ListLaws.{all-of}
+use Rattle.registry.specs.declared.line.Line.{Line}
+use Rattle.registry.specs.Line.{isLine, lineAgain}
+use Rattle.registry.specs.Registry.{registryFault, registryLines, registryBytes, rising}
+use Rattle.registry.specs.RegistryText.{everyLine}
+use Rattle.registry.proofs.TextAgain.{on-line, lines-again, registry-again}
+use Rattle.book.specs.declared.Book.{Book}
+use Rattle.book.specs.declared.Entry.{Entry}
+use Rattle.book.specs.Entries.{BookRows, entryAt, entriesOf}
+use Rattle.book.specs.BookValid.{entryFields, inTurn, entryGood, dayCount, bookGood}
+use Rattle.book.proofs.EntryLaws.{length-entries, getD-entries}
+use Rattle.book.proofs.CountLaws.{no-claim}
+use Rattle.book.proofs.BookLaws.{good-book}
+use Rattle.daybook.specs.Acceptance.{isFrozen}
+use Rattle.daybook.specs.Freezing.{isListed, listed, entryLine, registryOf, listOn, writeRegistry}
+use Rattle.daybook.proofs.RegistryLaws.{entry-line, entries-all}
+
+-- ---- it reads back
+-- thirty bytes hold the number of an entry
+abbrev thirty : ℕ → Entry → Bool
+thirty i e = eqb (length (e .number .bytes)) 30
+
+module _ (b : Book) (day : Day) where
+  lines-listed : (k : ℕ) (es : List Entry) → allFrom (entryGood b) k es ≡ true → allFrom thirty k es ≡ true → everyLine day (map entryLine (listed day es)) ≡ true
+  unfolding allFrom listed isListed everyLine entryGood
+  lines-listed k [] h s = refl
+  lines-listed k (e ∷ es) h s =
+      let p = both (inTurn b k e && entryFields e) (allFrom (entryGood b) (k + 1) es) h in
+      let q = both (thirty k e) (allFrom thirty (k + 1) es) s in
+      go (onDay day (dateDay (e .date))) refl (not (eqb (e .state) 4))
+      (entry-line e (and-right (inTurn b k e) (entryFields e) (p .0)))
+      (eqb-true _ _ (q .0))
+      (lines-listed (k + 1) es (p .1) (q .1))
+    where
+      go : (o : Bool) → onDay day (dateDay (e .date)) ≡ o → (u : Bool) → isLine (entryLine e) ≡ true → length (e .number .bytes) ≡ 30 → everyLine day (map entryLine (listed day es)) ≡ true
+          → everyLine day (map entryLine (cond (o && u) (e ∷ listed day es) (listed day es))) ≡ true
+      go true on true l n m = rw (on-line day (entryLine e) (record { size = n; good = l; on = on }), m)
+      go true on false l n m = m
+      go false on u l n m = m
+
+  lines-rise : (n k : ℕ) (es : List Entry) → allFrom (entryGood b) k es ≡ true → n < b .first + k → rising n (map entryLine (listed day es)) ≡ true
+  unfolding allFrom listed rising entryGood inTurn
+  lines-rise n k [] h l = refl
+  lines-rise n k (e ∷ es) h l =
+      let p = both (eqb (e .receipt) (b .first + k) && entryFields e) (allFrom (entryGood b) (k + 1) es) h in
+      let r : e .receipt ≡ b .first + k = eqb-true _ _ (and-left (eqb (e .receipt) (b .first + k)) (entryFields e) (p .0)) in
+      go (isListed day e) r (lines-rise (e .receipt) (k + 1) es (p .1) (omega arith)) (lines-rise n (k + 1) es (p .1) (omega arith))
+    where
+      go : (o : Bool) → e .receipt ≡ b .first + k → rising (e .receipt) (map entryLine (listed day es)) ≡ true → rising n (map entryLine (listed day es)) ≡ true
+          → rising n (map entryLine (cond o (e ∷ listed day es) (listed day es))) ≡ true
+      go true r m w = let y : n < e .receipt = omega arith in rw (lt-ltb n (e .receipt) y, m)
+      go false r m w = w
+
+lines-count : (day : Day) (es : List Entry) → length (map entryLine (listed day es)) ≤ dayCount day es
+unfolding listed isListed dayCount
+lines-count day [] = omega arith
+lines-count day (e ∷ es) = go (onDay day (dateDay (e .date))) (not (eqb (e .state) 4)) (lines-count day es)
+  where
+    go : (o u : Bool) → length (map entryLine (listed day es)) ≤ dayCount day es
+        → length (map entryLine (cond (o && u) (e ∷ listed day es) (listed day es))) ≤ cond o (suc (dayCount day es)) (dayCount day es)
+    go true true m = omega arith
+    go true false m = omega arith
+    go false u m = m
+
+-- for a good book whose numbers are held in thirty bytes, as its rows hold them
+module _ (b : Book) (t : BookRows) (day : Day) (good : bookGood b t ≡ true) (numbers : (i : ℕ) → i < b .used → length ((entryAt t i) .number .bytes) ≡ 30) where
+  abbrev entries : List Entry
+  entries = entriesOf t (b .used)
+
+  all-thirty : allFrom thirty 0 entries ≡ true
+  all-thirty = all-of thirty entries (entryAt t 0) (λ i l. ap (thirty i) (getD-entries t (b .used) i (entryAt t 0) (below i l)) ∙ eq-eqb _ _ (numbers i (below i l)))
+    where
+      below : (i : ℕ) → i < length entries → i < b .used
+      below i l = omega (arith, l, length-entries t (b .used))
+
+  all-lines : everyLine day (map entryLine (listed day entries)) ≡ true
+  all-lines = lines-listed b day 0 entries (entries-all b t good) all-thirty
+
+  -- the registry of a day has no fault
+  pub registry-reads : registryFault day (registryOf day entries) ≡ 0
+  unfolding registryOf
+  registry-reads =
+      let first : 1 ≤ b .first = within-low 1 999999999999999 (b .first) (good-book b t good .first) in
+      registry-again day (map entryLine (listed day entries)) all-lines
+      (lines-rise b day 0 0 entries (entries-all b t good) (omega arith))
+      (omega (arith, lines-count day entries, good-book b t good .days day))
+
+  -- and holds its entries that are not cancelled, in their order
+  pub registry-holds : registryLines (registryOf day entries) ≡ map lineAgain (map entryLine (listed day entries))
+  unfolding registryOf
+  registry-holds = lines-again day (map entryLine (listed day entries)) all-lines
+
+-- ---- it is alike at each writing
+-- a registry depends on the entries that it lists alone
+pub registry-same : (day : Day) (es xs : List Entry) → listed day es ≡ listed day xs → registryOf day es ≡ registryOf day xs
+unfolding registryOf
+registry-same day es xs h = ap (λ (l : List Entry). registryBytes (map entryLine l)) h
+
+-- two good books that list the same entries of a day up to both frozen days are written alike
+pub writing-same : (b c : Book) (t u : BookRows) (day : Day) (out : List ℕ) → bookGood b t ≡ true → bookGood c u ≡ true
+    → dayBefore (b .frozen) day ≡ false → dayBefore (c .frozen) day ≡ false
+    → registryOf day (entriesOf t (b .used)) ≡ registryOf day (entriesOf u (c .used))
+    → writeRegistry b t day out ≡ writeRegistry c u day out
+unfolding writeRegistry listOn
+writing-same b c t u day out g h f k r = rw (g, h, f, k, r)
+
+-- entry by entry: the same lines, and on the day the same ones cancelled
+module _ (day : Day) (z : Entry) where
+  pub registry-alike : (es xs : List Entry) → length es ≡ length xs
+      → ((i : ℕ) → i < length es → entryLine (getD es i z) ≡ entryLine (getD xs i z))
+      → ((i : ℕ) → i < length es → onDay day (dateDay ((getD es i z) .date)) ≡ true → eqb ((getD es i z) .state) 4 ≡ eqb ((getD xs i z) .state) 4)
+      → registryOf day es ≡ registryOf day xs
+  unfolding registryOf listed isListed registryBytes
+  registry-alike [] [] n lines states = refl
+  registry-alike [] (x ∷ xs) n lines states = absurd (omega arith)
+  registry-alike (e ∷ es) [] n lines states = absurd (omega arith)
+  registry-alike (e ∷ es) (x ∷ xs) n lines states =
+      ap (λ (u : Bool). registryBytes (map entryLine (cond u (e ∷ listed day es) (listed day es)))) (test (onDay day (dateDay (e .date))) refl)
+      ∙ pick (onDay day (dateDay (x .date)) && not (eqb (x .state) 4))
+      (registry-alike es xs (omega arith) (λ i l. lines (suc i) (omega arith)) (λ i l. states (suc i) (omega arith)))
+    where
+      line : entryLine e ≡ entryLine x
+      line = lines 0 (omega arith)
+
+      dates : e .date ≡ x .date
+      dates = ap (λ (y : Line). y .date) line
+
+      pick : (u : Bool) → registryBytes (map entryLine (listed day es)) ≡ registryBytes (map entryLine (listed day xs))
+          → registryBytes (map entryLine (cond u (e ∷ listed day es) (listed day es))) ≡ registryBytes (map entryLine (cond u (x ∷ listed day xs) (listed day xs)))
+      pick true m = rw (line, m)
+      pick false m = m
+
+      test : (o : Bool) → onDay day (dateDay (e .date)) ≡ o
+          → onDay day (dateDay (e .date)) && not (eqb (e .state) 4) ≡ onDay day (dateDay (x .date)) && not (eqb (x .state) 4)
+      test true on = rw (← dates, on, states 0 (omega arith) on)
+      test false on = rw (← dates, on)
+
+-- ---- an entry of a day that is not frozen is in no registry of a day that is
+pub unfrozen-off : (b : Book) (day : Day) (e : Entry) → dayBefore (b .frozen) day ≡ false → isFrozen b (e .date) ≡ false → isListed day e ≡ false
+unfolding isFrozen isListed
+unfrozen-off b day e h f = go (dateDay (e .date)) f
+  where
+    pick : (x : Day) (u : Bool) → sameDay x day ≡ u → not (dayBefore (b .frozen) x) ≡ false → u && not (eqb (e .state) 4) ≡ false
+    pick x true q g = no-claim (sym g ∙ ap not (ap (dayBefore (b .frozen)) (same-day x day q) ∙ h))
+    pick x false q g = refl
+
+    go : (r : DayRead) → upTo (b .frozen) r ≡ false → onDay day r && not (eqb (e .state) 4) ≡ false
+    go NoDate g = refl
+    go (Good x) g = pick x (sameDay x day) refl g
+
+-- so it may be added, and replaced by another such, and the registry stays
+module _ (day : Day) where
+  pub listed-more : (es : List Entry) (e : Entry) → isListed day e ≡ false → listed day (es ++ (e ∷ [])) ≡ listed day es
+  unfolding listed
+  listed-more [] e h = rw h
+  listed-more (x ∷ es) e h = ap (λ (l : List Entry). cond (isListed day x) (x ∷ l) l) (listed-more es e h)
+
+  pub listed-set : (es : List Entry) (i : ℕ) (e z : Entry) → isListed day e ≡ false → isListed day (getD es i z) ≡ false → listed day (set es i e) ≡ listed day es
+  unfolding listed
+  listed-set [] i e z h k = refl
+  listed-set (x ∷ es) zero e z h k = rw (h, k)
+  listed-set (x ∷ es) (suc i) e z h k = ap (λ (l : List Entry). cond (isListed day x) (x ∷ l) l) (listed-set es i e z h k)

@@ -1,0 +1,13 @@
+use Rattle.daybook.proofs.AcceptLaws.{made-is, made-fits}
+use borrow.Author.Needs.{needs}
+use Rattle.daybook.proofs.accepting.made_entry.Statement.{statement}
+use Rattle.daybook.proofs.accepting.made_entry.Tie as tie
+
+ruleset laws = (made-is, made-fits, needs)
+
+pub made-entry-spec : {M : Type 1} → statement M
+made-entry-spec =
+    tie.close
+    (tie.spec
+    (λ c. search laws)
+    (λ c. search laws))

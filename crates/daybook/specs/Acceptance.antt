@@ -1,0 +1,71 @@
+-- Document 01, "Agent" and the rows 68, 60 and 61: a payment is accepted at the counter.
+use Prim.Native.Nat.{ℕ, _+_}
+use mathlib.Core.List.{List, [], _∷_, _++_}
+use mathlib.Core.Bool.{Bool, true, false, cond, not, _&&_}
+use lib.Dec.{leb, ltb}
+use lib.ListN.{length}
+use Rattle.fields.specs.declared.calendar.Day.{Day}
+use Rattle.fields.specs.declared.calendar.DayRead.{DayRead}
+use Rattle.fields.specs.declared.calendar.DayRead.the-variants.{Good, NoDate}
+use Rattle.fields.specs.declared.number.Number.{Number}
+use Rattle.fields.specs.Amount.{isAmount}
+use Rattle.fields.specs.Calendar.{upTo}
+use Rattle.fields.specs.Codes.{isReceipt, isKind}
+use Rattle.fields.specs.Date.{dateDay, isWritten}
+use Rattle.fields.specs.Number.{isNumber}
+use Rattle.book.specs.declared.Book.{Book}
+use Rattle.book.specs.declared.Entry.{Entry}
+use Rattle.book.specs.Entries.{BookRows, entriesOf, bookFrom}
+use Rattle.book.specs.BookValid.{dayCount, bookGood}
+
+-- what an acceptance answers and leaves; the receipt is 0 with a fault
+pub record Accepted : Type 0 where
+  pub code : ℕ
+  pub book : Book
+  pub rows : BookRows
+  pub receipt : ℕ
+
+-- a date on or before the frozen day
+unfoldable pub isFrozen : Book → List ℕ → Bool
+isFrozen b date = upTo (b .frozen) (dateDay date)
+
+-- the next receipt, one more than the last
+unfoldable pub nextReceipt : Book → ℕ
+nextReceipt b = b .first + b .used
+
+unfoldable pub madeEntry : Book → Number → ℕ → ℕ → List ℕ → Entry
+madeEntry b n k amount date =
+    record { receipt = nextReceipt b; number = n; kind = k; amount = amount; date = date; state = 1; authcode = 0 }
+
+-- well formed fields, and an unfrozen date
+unfoldable pub mayAccept : Book → Number → ℕ → ℕ → List ℕ → Bool
+mayAccept b n k amount date = isNumber n && (isKind k && (isAmount amount && (isWritten date && not (isFrozen b date))))
+
+-- a day that has not its 512 entries yet
+abbrev pub dayOpen : List Entry → DayRead → Bool
+dayOpen es NoDate = false
+dayOpen es (Good d) = ltb (dayCount d es) 512
+
+-- a free place in the book, on the day and among the receipts
+unfoldable pub hasPlace : Book → BookRows → List ℕ → Bool
+hasPlace b t date =
+    ltb (b .used) (length (t .nums)) && (dayOpen (entriesOf t (b .used)) (dateDay date) && isReceipt (nextReceipt b))
+
+abbrev pub withEntry : Book → Book
+withEntry b = record { first = b .first; used = b .used + 1; frozen = b .frozen; settled = b .settled }
+
+unfoldable pub acceptTo : Book → BookRows → Number → ℕ → ℕ → List ℕ → Accepted
+acceptTo b t n k amount date =
+    cond (mayAccept b n k amount date)
+    (cond (hasPlace b t date)
+    (record {
+      code = 0;
+      book = withEntry b;
+      rows = bookFrom t (entriesOf t (b .used) ++ (madeEntry b n k amount date ∷ []));
+      receipt = nextReceipt b;
+    })
+    (record { code = 61; book = b; rows = t; receipt = 0 }))
+    (record { code = 60; book = b; rows = t; receipt = 0 })
+
+unfoldable pub accept : Book → BookRows → Number → ℕ → ℕ → List ℕ → Accepted
+accept b t n k amount date = cond (bookGood b t) (acceptTo b t n k amount date) (record { code = 68; book = b; rows = t; receipt = 0 })

@@ -1,0 +1,65 @@
+-- Document 01, "Agent" and the rows 68, 50, 55, 65 and 66: a day is frozen, its registry written, its report taken.
+use Prim.Native.Nat.{ℕ}
+use mathlib.Core.List.{List, [], _∷_, map}
+use mathlib.Core.Bool.{Bool, true, false, cond, not, _&&_}
+use lib.Dec.{eqb, leb}
+use lib.ListN.{length}
+use Rattle.fields.specs.declared.calendar.Day.{Day}
+use Rattle.fields.specs.Lists.{written, cursorAfter}
+use Rattle.fields.specs.Calendar.{isDay, dayBefore, nextDay, onDay}
+use Rattle.fields.specs.Date.{dateDay}
+use Rattle.registry.specs.declared.line.Line.{Line}
+use Rattle.registry.specs.Registry.{registryBytes}
+use Rattle.book.specs.declared.Book.{Book}
+use Rattle.book.specs.declared.Entry.{Entry}
+use Rattle.book.specs.Entries.{BookRows, entriesOf}
+use Rattle.book.specs.BookValid.{bookGood}
+use Rattle.daybook.specs.declared.freezing.Froze.{Froze}
+
+-- ---- freezing: the next day only, once the previous one has its report
+abbrev pub frozenOn : Book → Day → Book
+frozenOn b day = record { first = b .first; used = b .used; frozen = day; settled = false }
+
+abbrev pub froze : ℕ → Book → Froze
+froze code b = record { code = code; book = b }
+
+unfoldable pub freezeOn : Book → Day → Froze
+freezeOn b day =
+    cond (isDay day) (cond (onDay day (nextDay (b .frozen)) && b .settled) (froze 0 (frozenOn b day)) (froze 66 b)) (froze 55 b)
+
+unfoldable pub freeze : Book → BookRows → Day → Froze
+freeze b t day = cond (bookGood b t) (freezeOn b day) (froze 68 b)
+
+-- ---- the registry of a day: its entries that are not cancelled, in their order
+unfoldable pub isListed : Day → Entry → Bool
+isListed day e = onDay day (dateDay (e .date)) && not (eqb (e .state) 4)
+
+unfoldable pub listed : Day → List Entry → List Entry
+listed day [] = []
+listed day (e ∷ es) = cond (isListed day e) (e ∷ listed day es) (listed day es)
+
+abbrev pub entryLine : Entry → Line
+entryLine e = record { number = e .number; kind = e .kind; date = e .date; amount = e .amount; receipt = e .receipt }
+
+unfoldable pub registryOf : Day → List Entry → List ℕ
+registryOf day es = registryBytes (map entryLine (listed day es))
+
+-- what a registry's writing answers and leaves; the book is kept
+pub record Listed : Type 0 where
+  pub code : ℕ
+  pub out : List ℕ
+  pub size : ℕ
+
+abbrev pub unlisted : ℕ → List ℕ → Listed
+unlisted code out = record { code = code; out = out; size = 0 }
+
+-- a day up to the frozen one
+unfoldable pub listOn : Book → BookRows → Day → List ℕ → Listed
+listOn b t day out =
+    cond (isDay day && not (dayBefore (b .frozen) day))
+    (record { code = 0; out = written out 0 (registryOf day (entriesOf t (b .used))); size = cursorAfter out 0 (registryOf day (entriesOf t (b .used))) })
+    (unlisted 55 out)
+
+unfoldable pub writeRegistry : Book → BookRows → Day → List ℕ → Listed
+writeRegistry b t day out =
+    cond (bookGood b t) (cond (leb 65536 (length out)) (listOn b t day out) (unlisted 50 out)) (unlisted 68 out)

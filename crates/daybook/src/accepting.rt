@@ -1,0 +1,167 @@
+// A payment is accepted at the counter.
+use crate::frozen;
+use book::Book;
+use book::Entry;
+use book::days;
+use book::rows;
+use book::valid;
+use fields::amount;
+use fields::calendar::DayRead;
+use fields::codes;
+use fields::date;
+use fields::number::Number;
+ghost use mathlib.Core.Path.{_≡_};
+ghost use mathlib.Core.Bool.{true};
+ghost use Prim.Native.Nat.{_<_, _≤_};
+ghost use lib.ListN.{length};
+ghost use Rattle.fields.specs.Date.{dateDay};
+ghost use Rattle.book.specs.Entries.{entriesOf};
+ghost use Rattle.book.specs.BookValid.{bookGood, ReadyBook};
+ghost use Rattle.daybook.specs.Acceptance.{Accepted, madeEntry, mayAccept, dayOpen, hasPlace, acceptTo, accept};
+
+// The receipt is 0 with a fault.
+pub struct Receipted {
+    pub code: u64,
+    pub book: Book,
+    pub receipt: u64,
+}
+
+// Whether the fields are well formed and the date is not frozen.
+pub(crate) fn may_accept(b: Book, n: Number, kind: u64, kopecks: u64, written: [u8; 19]) -> bool
+    ensures { λ r. ⌜ r ≡ mayAccept b n kind kopecks written ⌝ }
+{
+    if !n.is_valid() {
+        return false;
+    }
+    if !codes::is_kind(kind) {
+        return false;
+    }
+    if !amount::is_amount(kopecks) {
+        return false;
+    }
+    if !date::is_written(written) {
+        return false;
+    }
+    !frozen::is_frozen(b, written)
+}
+
+// Whether the day has fewer than its 512 entries.
+pub(crate) fn day_open(
+    nums: &[[u64; 6]],
+    numbers: &[[u8; 30]],
+    dates: &[[u8; 19]],
+    used: usize,
+    written: [u8; 19],
+) -> bool
+    requires { ⌜ (used ≤ length (now nums)) × (used ≤ length (now numbers)) × (used ≤ length (now dates)) ⌝ }
+    ensures { λ r. ⌜ r ≡ dayOpen (entriesOf (record { nums = now (nums .entry); numbers = now (numbers .entry); dates = now (dates .entry) }) used) (dateDay written) ⌝ }
+{
+    let DayRead::Good(day) = date::day_of_date(written) else {
+        return false;
+    };
+    days::count_day(nums, numbers, dates, used, day) < 512
+}
+
+// Whether the book, the day and the receipts have a place left.
+pub(crate) fn has_place(
+    nums: &[[u64; 6]],
+    numbers: &[[u8; 30]],
+    dates: &[[u8; 19]],
+    b: Book,
+    written: [u8; 19],
+) -> bool
+    requires { ⌜ (bookGood b (record { nums = now nums; numbers = now numbers; dates = now dates }) ≡ true) × ReadyBook b (record { nums = now nums; numbers = now numbers; dates = now dates }) ⌝ }
+    ensures { λ r. ⌜ r ≡ hasPlace b (record { nums = now (nums .entry); numbers = now (numbers .entry); dates = now (dates .entry) }) written ⌝ }
+{
+    let used = b.used;
+    if nums.len() <= used {
+        return false;
+    }
+    if !day_open(nums, numbers, dates, used, written) {
+        return false;
+    }
+    codes::is_receipt(b.first + used as u64)
+}
+
+// The entry of a payment that is accepted now.
+pub(crate) fn made_entry(b: Book, n: Number, kind: u64, kopecks: u64, written: [u8; 19]) -> Entry
+    requires { ⌜ (b .first < 1000000000000000) × (b .used ≤ 4096) ⌝ }
+    ensures { λ r. ⌜ r ≡ madeEntry b n kind kopecks written ⌝ }
+{
+    Entry {
+        receipt: b.first + b.used as u64,
+        number: n,
+        kind,
+        amount: kopecks,
+        date: written,
+        state: 1,
+        authcode: 0,
+    }
+}
+
+// A book that has passed row 68.
+pub(crate) fn accept_to(
+    nums: &mut [[u64; 6]],
+    numbers: &mut [[u8; 30]],
+    dates: &mut [[u8; 19]],
+    b: Book,
+    n: Number,
+    kind: u64,
+    kopecks: u64,
+    written: [u8; 19],
+) -> Receipted
+    requires { ⌜ (bookGood b (record { nums = now nums; numbers = now numbers; dates = now dates }) ≡ true) × ReadyBook b (record { nums = now nums; numbers = now numbers; dates = now dates }) ⌝ }
+    ensures { λ r. ⌜ _≡_ {A = Accepted}
+        (record { code = r .code; book = r .book; rows = record { nums = now (nums .exit); numbers = now (numbers .exit); dates = now (dates .exit) }; receipt = r .receipt })
+        (acceptTo b (record { nums = now (nums .entry); numbers = now (numbers .entry); dates = now (dates .entry) }) n kind kopecks written) ⌝ }
+{
+    if !may_accept(b, n, kind, kopecks, written) {
+        return Receipted {
+            code: 60,
+            book: b,
+            receipt: 0,
+        };
+    }
+    if !has_place(nums, numbers, dates, b, written) {
+        return Receipted {
+            code: 61,
+            book: b,
+            receipt: 0,
+        };
+    }
+    let used = b.used;
+    let e = made_entry(b, n, kind, kopecks, written);
+    rows::store_entry(nums, numbers, dates, used, e);
+    let mut next = b;
+    next.used = used + 1;
+    Receipted {
+        code: 0,
+        book: next,
+        receipt: e.receipt,
+    }
+}
+
+// Accepts a payment and gives its receipt; a fault keeps all.
+pub fn accept(
+    nums: &mut [[u64; 6]],
+    numbers: &mut [[u8; 30]],
+    dates: &mut [[u8; 19]],
+    b: Book,
+    n: Number,
+    kind: u64,
+    kopecks: u64,
+    written: [u8; 19],
+) -> Receipted
+    ensures { λ r. ⌜ _≡_ {A = Accepted}
+        (record { code = r .code; book = r .book; rows = record { nums = now (nums .exit); numbers = now (numbers .exit); dates = now (dates .exit) }; receipt = r .receipt })
+        (accept b (record { nums = now (nums .entry); numbers = now (numbers .entry); dates = now (dates .entry) }) n kind kopecks written) ⌝ }
+{
+    if !valid::book_good(nums, numbers, dates, b) {
+        return Receipted {
+            code: 68,
+            book: b,
+            receipt: 0,
+        };
+    }
+    accept_to(nums, numbers, dates, b, n, kind, kopecks, written)
+}

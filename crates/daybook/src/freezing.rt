@@ -1,0 +1,53 @@
+// Freezing a day.
+use book::Book;
+use book::valid;
+use fields::calendar::Day;
+ghost use mathlib.Core.Path.{_≡_};
+ghost use mathlib.Core.Bool.{_&&_};
+ghost use Rattle.fields.specs.Calendar.{nextDay, onDay};
+ghost use Rattle.daybook.specs.Freezing.{freeze};
+
+pub struct Froze {
+    pub code: u64,
+    pub book: Book,
+}
+
+// Whether the day is the next to be frozen, and the last one has its report.
+pub(crate) fn may_freeze(b: Book, day: Day) -> bool
+    ensures { λ r. ⌜ r ≡ onDay day (nextDay (b .frozen)) && b .settled ⌝ }
+{
+    let frozen = b.frozen;
+    if day.follows(frozen) {
+        b.settled
+    } else {
+        false
+    }
+}
+
+// Freezes the day after the last frozen one; a fault keeps all.
+pub fn freeze(
+    nums: &[[u64; 6]],
+    numbers: &[[u8; 30]],
+    dates: &[[u8; 19]],
+    b: Book,
+    day: Day,
+) -> Froze
+    ensures { λ r. ⌜ r ≡ freeze b (record { nums = now (nums .entry); numbers = now (numbers .entry); dates = now (dates .entry) }) day ⌝ }
+{
+    if !valid::book_good(nums, numbers, dates, b) {
+        return Froze { code: 68, book: b };
+    }
+    if !day.is_valid() {
+        return Froze { code: 55, book: b };
+    }
+    if !may_freeze(b, day) {
+        return Froze { code: 66, book: b };
+    }
+    let mut next = b;
+    next.frozen = day;
+    next.settled = false;
+    Froze {
+        code: 0,
+        book: next,
+    }
+}

@@ -1,0 +1,11 @@
+// The agent at the counter and at the end of the day: payments accepted, days frozen, registries written.
+pub mod accepting;
+pub mod freezing;
+pub mod frozen;
+pub mod listing;
+
+// What a writing gives: `size` bytes of the buffer hold its text, none with a fault.
+pub struct Sent {
+    pub code: u64,
+    pub size: usize,
+}

@@ -1,0 +1,102 @@
+// The registry of a frozen day.
+use crate::Sent;
+use book::Book;
+use book::Entry;
+use book::rows;
+use book::valid;
+use fields::calendar::Day;
+use fields::date;
+use registry::line::Line;
+ghost use mathlib.Core.Path.{_≡_};
+ghost use mathlib.Core.Bool.{true};
+ghost use Prim.Native.Nat.{_≤_};
+ghost use lib.ListN.{length};
+ghost use Rattle.fields.specs.Lists.{written, cursorAfter};
+ghost use Rattle.book.specs.Entries.{entriesOf};
+ghost use Rattle.book.specs.BookValid.{bookGood, ReadyBook};
+ghost use Rattle.daybook.specs.Freezing.{isListed, entryLine, registryOf, Listed, writeRegistry};
+
+// Whether the day's registry lists the entry.
+pub(crate) fn is_listed(day: Day, e: Entry) -> bool
+    ensures { λ r. ⌜ r ≡ isListed day e ⌝ }
+{
+    let written = e.date;
+    if !date::is_on(day, written) {
+        return false;
+    }
+    e.state != 4
+}
+
+// The line of an entry.
+pub(crate) fn entry_line(e: Entry) -> Line
+    ensures { λ r. ⌜ r ≡ entryLine e ⌝ }
+{
+    let number = e.number;
+    let date = e.date;
+    Line {
+        number,
+        kind: e.kind,
+        date,
+        amount: e.amount,
+        receipt: e.receipt,
+    }
+}
+
+// Writes the lines of the day's entries from the start of the buffer on.
+pub(crate) fn write_lines(
+    nums: &[[u64; 6]],
+    numbers: &[[u8; 30]],
+    dates: &[[u8; 19]],
+    b: Book,
+    day: Day,
+    out: &mut [u8],
+) -> usize
+    requires { ⌜ (bookGood b (record { nums = now nums; numbers = now numbers; dates = now dates }) ≡ true) × ReadyBook b (record { nums = now nums; numbers = now numbers; dates = now dates }) ⌝ }
+    requires { ⌜ 65536 ≤ length (now out) ⌝ }
+    ensures { λ r. ⌜ (r ≡ cursorAfter (now (out .entry)) 0 (registryOf day (entriesOf (record { nums = now (nums .entry); numbers = now (numbers .entry); dates = now (dates .entry) }) (b .used))))
+        × (now (out .exit) ≡ written (now (out .entry)) 0 (registryOf day (entriesOf (record { nums = now (nums .entry); numbers = now (numbers .entry); dates = now (dates .entry) }) (b .used)))) ⌝ }
+{
+    let used = b.used;
+    let mut at: usize = 0;
+    let mut i: usize = 0;
+    while i < used {
+        let e = rows::load_entry(nums, numbers, dates, i);
+        if !is_listed(day, e) {
+            i += 1;
+            continue;
+        }
+        let x = entry_line(e);
+        at = x.write(out, at);
+        i += 1;
+    }
+    at
+}
+
+// Writes the registry of a day up to the frozen one, alike each time; a fault keeps all.
+pub fn write_registry(
+    nums: &[[u64; 6]],
+    numbers: &[[u8; 30]],
+    dates: &[[u8; 19]],
+    b: Book,
+    day: Day,
+    out: &mut [u8],
+) -> Sent
+    ensures { λ r. ⌜ _≡_ {A = Listed} (record { code = r .code; out = now (out .exit); size = r .size })
+        (writeRegistry b (record { nums = now (nums .entry); numbers = now (numbers .entry); dates = now (dates .entry) }) day (now (out .entry))) ⌝ }
+{
+    if !valid::book_good(nums, numbers, dates, b) {
+        return Sent { code: 68, size: 0 };
+    }
+    if out.len() < 65536 {
+        return Sent { code: 50, size: 0 };
+    }
+    if !day.is_valid() {
+        return Sent { code: 55, size: 0 };
+    }
+    let frozen = b.frozen;
+    if frozen.before(day) {
+        return Sent { code: 55, size: 0 };
+    }
+    let size = write_lines(nums, numbers, dates, b, day, out);
+    Sent { code: 0, size }
+}
