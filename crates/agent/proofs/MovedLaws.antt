@@ -23,7 +23,8 @@ use Rattle.book.specs.declared.State.the-variants.{Asked, Credited, CancelAsked
 use Rattle.book.specs.Entries.{BookRows, stateNumber, noEntry, entryAt, entriesOf, entryNums, bookWith, bookFrom, findEntry, WholeBook}
 use Rattle.book.specs.BookValid.{entryFields, bookGood, ReadyBook}
 use Rattle.book.proofs.EntryLaws.{EntryRoom, entry-other, entry-same, getD-entries, book-kept}
-use Rattle.book.proofs.BookLaws.{good-book, lent-book, good-lent, good-room, put-good, entry-within}
+use Rattle.lists.proofs.LentLaws.{lent-facts}
+use Rattle.book.proofs.BookLaws.{good-book, good-lent, good-room, put-good, entry-within}
 use Rattle.book.proofs.CountLaws.{no-claim}
 use Rattle.daybook.specs.Acceptance.{isFrozen}
 
@@ -165,7 +166,7 @@ module _ (b : Book) (t : BookRows) (p : Found) (t′ : BookRows) where
   each-kept P one (moved i e′ found l good free same fields e) f j = subst⁻¹ (λ (r : BookRows). P (entryAt t j) (entryAt r j)) e (go (ℕ-discrete j i))
     where
       room : EntryRoom t i
-      room = good-room b t good i (omega (arith, l, lent-book b t (good-lent b t good) .used))
+      room = good-room b t good i (omega (arith, l, lent-facts _ _ _ _ (good-lent b t good) .room))
 
       go : Dec (j ≡ i) → P (entryAt t j) (entryAt (bookWith t i e′) j)
       go (yes q) = subst⁻¹ (λ (k : ℕ). P (entryAt t k) (entryAt (bookWith t i e′) k)) q (subst⁻¹ (P (entryAt t i)) (entry-same t i e′ room) (f i e′ free same))

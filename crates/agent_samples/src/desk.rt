@@ -115,6 +115,7 @@ fn write_into(
     }
 }
 
+// A writing into 512 bytes.
 pub fn write(
     a: Action,
     s: &[u8],

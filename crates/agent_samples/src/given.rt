@@ -43,15 +43,17 @@ pub fn day(s: &[u8]) -> Day {
     }
 }
 
-// The text behind the second, third and fourth field.
+// The text from the second field on.
 pub fn second(s: &[u8]) -> &[u8] {
     scan::after_byte(s, 32)
 }
 
+// The text from the third field on.
 pub fn third(s: &[u8]) -> &[u8] {
     second(second(s))
 }
 
+// The text from the fourth field on.
 pub fn fourth(s: &[u8]) -> &[u8] {
     second(third(s))
 }

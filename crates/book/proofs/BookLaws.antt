@@ -19,6 +19,8 @@ use Rattle.fields.proofs.Tests.{and-left, and-right, both}
 use Rattle.lists.specs.declared.Found.{Found}
 use Rattle.lists.specs.declared.Found.the-variants.{At, Nothing}
 use Rattle.lists.specs.Lists.{allFrom}
+use Rattle.lists.specs.Lent.{Lent}
+use Rattle.lists.proofs.LentLaws.{lent-facts, facts-lent}
 use Rattle.lists.proofs.ListLaws.{all-at, all-of, search-within, found-fits, found-none}
 use Rattle.book.specs.declared.Book.{Book}
 use Rattle.book.specs.declared.Entry.{Entry}
@@ -37,33 +39,7 @@ pub record GoodBook (b : Book) (t : BookRows) : Type 0 where
   pub turn : (i : ℕ) → i < b .used → (entryAt t i) .receipt ≡ b .first + i
   pub days : (d : Day) → dayCount d (entriesOf t (b .used)) ≤ 512
 
--- rows that are lent right, as facts
-pub record LentBook (b : Book) (t : BookRows) : Type 0 where
-  pub some : 1 ≤ length (t .nums)
-  pub most : length (t .nums) ≤ 4096
-  pub numbers : length (t .numbers) ≡ length (t .nums)
-  pub dates : length (t .dates) ≡ length (t .nums)
-  pub used : b .used ≤ length (t .nums)
-
 module _ (b : Book) (t : BookRows) where
-  pub lent-book : bookLent b t ≡ true → LentBook b t
-  unfolding bookLent
-  lent-book h =
-      let t₄ = leb (b .used) (length (t .nums)) in
-      let t₃ = eqb (length (t .dates)) (length (t .nums)) && t₄ in
-      let t₂ = eqb (length (t .numbers)) (length (t .nums)) && t₃ in
-      let t₁ = leb (length (t .nums)) 4096 && t₂ in
-      let p = both (leb 1 (length (t .nums))) t₁ h in
-      let q = both (leb (length (t .nums)) 4096) t₂ (p .1) in
-      let r = both (eqb (length (t .numbers)) (length (t .nums))) t₃ (q .1) in
-      let s = both (eqb (length (t .dates)) (length (t .nums))) t₄ (r .1) in
-      record { some = leb-true _ _ (p .0); most = leb-true _ _ (q .0); numbers = eqb-true _ _ (r .0); dates = eqb-true _ _ (s .0); used = leb-true _ _ (s .1) }
-
-  pub book-lent : LentBook b t → bookLent b t ≡ true
-  unfolding bookLent
-  book-lent h =
-      rw (le-leb _ _ (h .some), le-leb _ _ (h .most), eq-eqb _ _ (h .numbers), eq-eqb _ _ (h .dates), le-leb _ _ (h .used))
-
   abbrev entries : List Entry
   entries = entriesOf t (b .used)
 
@@ -123,17 +99,17 @@ module _ (b : Book) (t : BookRows) (good : bookGood b t ≡ true) where
   facts : GoodBook b t
   facts = good-book b t good
 
-  lent : LentBook b t
-  lent = lent-book b t (good-lent b t good)
+  lent : Lent (b .used) (length (t .nums)) (length (t .numbers)) (length (t .dates))
+  lent = lent-facts _ _ _ _ (good-lent b t good)
 
   pub good-room : (i : ℕ) → i < length (t .nums) → EntryRoom t i
-  good-room i l = record { nums = l; numbers = omega (arith, lent .numbers); dates = omega (arith, lent .dates) }
+  good-room i l = record { nums = l; numbers = omega (arith, lent .second); dates = omega (arith, lent .third) }
 
   -- another frozen day
   pub frozen-good : (d : Day) (s : Bool) → isDay d ≡ true → bookGood (record { first = b .first; used = b .used; frozen = d; settled = s }) t ≡ true
   frozen-good d s h =
       let n : Book = record { first = b .first; used = b .used; frozen = d; settled = s } in
-      book-again n t (book-lent n t (record { some = lent .some; most = lent .most; numbers = lent .numbers; dates = lent .dates; used = lent .used }))
+      book-again n t (facts-lent _ _ _ _ lent)
       (record { first = facts .first; frozen = h; entry = facts .entry; turn = facts .turn; days = facts .days })
 
   module _ (i : ℕ) (e : Entry) where
@@ -144,7 +120,7 @@ module _ (b : Book) (t : BookRows) (good : bookGood b t ≡ true) where
         let v : length ((bookWith t i e) .numbers) ≡ length (t .numbers) = length-set (t .numbers) i (e .number .bytes) in
         let w : length ((bookWith t i e) .dates) ≡ length (t .dates) = length-set (t .dates) i (e .date) in
         let x = lent in
-        book-lent n (bookWith t i e) (record { some = omega arith; most = omega arith; numbers = v ∙ x .numbers ∙ sym a; dates = w ∙ x .dates ∙ sym a; used = omega arith })
+        facts-lent _ _ _ _ (record { some = omega arith; most = omega arith; second = v ∙ x .second ∙ sym a; third = w ∙ x .third ∙ sym a; room = omega arith })
 
     -- a property of each entry, where e has it
     put-each : (P : ℕ → Entry → Type 0) (n : ℕ) → i < length (t .nums) → P i e → ((j : ℕ) → j < n → j ≢ i → P j (entryAt t j))
@@ -158,7 +134,7 @@ module _ (b : Book) (t : BookRows) (good : bookGood b t ≡ true) where
     -- an entry in use that keeps its receipt and its date
     pub put-good : i < b .used → entryFields e ≡ true → e .receipt ≡ (entryAt t i) .receipt → e .date ≡ (entryAt t i) .date → bookGood b (bookWith t i e) ≡ true
     put-good l fields r d =
-        book-again b (bookWith t i e) (put-lent b (lent .used))
+        book-again b (bookWith t i e) (put-lent b (lent .room))
         (record {
           first = facts .first;
           frozen = facts .frozen;
@@ -168,7 +144,7 @@ module _ (b : Book) (t : BookRows) (good : bookGood b t ≡ true) where
         })
       where
         room : i < length (t .nums)
-        room = omega (arith, lent .used)
+        room = omega (arith, lent .room)
 
         days : (x : Day) → dayCount x (entriesOf (bookWith t i e) (b .used)) ≤ 512
         days x =

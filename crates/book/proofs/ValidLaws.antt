@@ -15,6 +15,7 @@ use Rattle.fields.specs.Date.{isWritten}
 use Rattle.fields.specs.Digits.{within}
 use Rattle.fields.specs.Number.{isNumber}
 use Rattle.fields.proofs.Tests.{and-left, and-right}
+use Rattle.lists.specs.Lent.{Lent}
 use Rattle.lists.specs.Lists.{allFrom}
 use Rattle.lists.proofs.ListLaws.{all-more, all-not, all-end}
 use Rattle.book.specs.declared.Book.{Book}
@@ -132,25 +133,9 @@ unfolding bookHead
 head-receipt b s e n = and-left (isReceipt (b .first)) (isDay (b .frozen)) (sym e ∙ not-false s n)
 
 module _ (b : Book) (t : BookRows) where
-  pub lent-none : length (t .nums) < 1 → false ≡ bookGood b t
-  unfolding bookGood bookLent
-  lent-none h = rw (lt-leb _ _ h)
-
-  pub lent-many : 4096 < length (t .nums) → false ≡ bookGood b t
-  unfolding bookGood bookLent
-  lent-many h = simp (lt-leb _ _ h, and-false)
-
-  pub lent-numbers : (length (t .numbers) ≡ length (t .nums) → ⊥) → false ≡ bookGood b t
-  unfolding bookGood bookLent
-  lent-numbers d = simp (ne-eqb _ _ d, and-false)
-
-  pub lent-dates : (length (t .dates) ≡ length (t .nums) → ⊥) → false ≡ bookGood b t
-  unfolding bookGood bookLent
-  lent-dates d = simp (ne-eqb _ _ d, and-false)
-
-  pub lent-used : length (t .nums) < b .used → false ≡ bookGood b t
-  unfolding bookGood bookLent
-  lent-used h = simp (lt-leb _ _ h, and-false)
+  pub book-unlent : (l : Bool) → l ≡ bookLent b t → not l ≡ true → false ≡ bookGood b t
+  unfolding bookGood
+  book-unlent l e n = rw (← e, not-true l n)
 
   module _ (s : Bool) (head : s ≡ bookHead b) where
     pub book-head : not s ≡ true → false ≡ bookGood b t
@@ -162,23 +147,13 @@ module _ (b : Book) (t : BookRows) where
       unfolding bookGood
       book-entries n = simp (sym entries ∙ not-true g n, and-false)
 
-      module _ (some : 1 ≤ length (t .nums)) (most : length (t .nums) ≤ 4096) (bs : length (t .numbers) ≡ length (t .nums))
-          (ds : length (t .dates) ≡ length (t .nums)) (room : b .used ≤ length (t .nums)) (n : not s ≡ false) (m : not g ≡ false) where
-        pub book-days : (r : Bool) → r ≡ daysGood (entriesOf t (b .used)) → r ≡ bookGood b t
-        unfolding bookGood bookLent
-        book-days r q =
-            q ∙ rw (
-              le-leb _ _ some,
-              le-leb _ _ most,
-              eq-eqb _ _ bs,
-              eq-eqb _ _ ds,
-              le-leb _ _ room,
-              ← head,
-              not-false s n,
-              ← entries,
-              not-false g m,
-            )
+      pub book-days : (l : Bool) → l ≡ bookLent b t → not l ≡ false → not s ≡ false → not g ≡ false
+          → (r : Bool) → r ≡ daysGood (entriesOf t (b .used)) → r ≡ bookGood b t
+      unfolding bookGood
+      book-days l lent o n m r q = q ∙ rw (← lent, not-false l o, ← head, not-false s n, ← entries, not-false g m)
 
-  pub book-ready : length (t .nums) ≤ 4096 → length (t .numbers) ≡ length (t .nums) → length (t .dates) ≡ length (t .nums)
+  pub book-ready : (l : Bool) → (l ≡ true → Lent (b .used) (length (t .nums)) (length (t .numbers)) (length (t .dates))) → not l ≡ false
       → (g : Bool) → not g ≡ false → (g ≡ true → WholeBook t (b .used)) → ReadyBook b t
-  book-ready most bs ds g m whole = record { whole = whole (not-false g m); same = record { numbers = bs; dates = ds }; size = most }
+  book-ready l facts o g m whole =
+      let f = facts (not-false l o) in
+      record { whole = whole (not-false g m); same = record { numbers = f .second; dates = f .third }; size = f .most }

@@ -15,6 +15,7 @@ use Rattle.fields.specs.Codes.{isReceipt, isKind}
 use Rattle.fields.specs.Date.{dateDay, isWritten}
 use Rattle.fields.specs.Number.{isNumber}
 use Rattle.lists.specs.Lists.{allFrom}
+use Rattle.lists.specs.Lent.{lentWell}
 use Rattle.book.specs.declared.Book.{Book}
 use Rattle.book.specs.declared.Entry.{Entry}
 use Rattle.book.specs.Entries.{BookRows, entriesOf, WholeBook, OneLength}
@@ -48,11 +49,8 @@ unfoldable pub daysGood : List Entry → Bool
 daysGood es = allFrom (λ i e. dayFits es (dateDay (e .date))) 0 es
 
 -- a book of 1 to 4,096 places in rows of one length, and no more used than lent
-unfoldable pub bookLent : Book → BookRows → Bool
-bookLent b t =
-    leb 1 (length (t .nums))
-    && (leb (length (t .nums)) 4096
-    && (eqb (length (t .numbers)) (length (t .nums)) && (eqb (length (t .dates)) (length (t .nums)) && leb (b .used) (length (t .nums)))))
+abbrev pub bookLent : Book → BookRows → Bool
+bookLent b t = lentWell (b .used) (length (t .nums)) (length (t .numbers)) (length (t .dates))
 
 -- the first receipt is one, and the frozen day a date
 unfoldable pub bookHead : Book → Bool

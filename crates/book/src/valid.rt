@@ -89,20 +89,7 @@ pub fn book_good(nums: &[[u64; 6]], numbers: &[[u8; 30]], dates: &[[u8; 19]], b:
     ensures { λ r. ⌜ r ≡ bookGood b (record { nums = now (nums .entry); numbers = now (numbers .entry); dates = now (dates .entry) }) ⌝ }
     ensures { λ r. ⌜ (r ≡ true → ReadyBook b (record { nums = now (nums .entry); numbers = now (numbers .entry); dates = now (dates .entry) })) ⌝ }
 {
-    let n = nums.len();
-    if n < 1 {
-        return false;
-    }
-    if 4096 < n {
-        return false;
-    }
-    if numbers.len() != n {
-        return false;
-    }
-    if dates.len() != n {
-        return false;
-    }
-    if n < b.used {
+    if !lists::is_lent(b.used, nums.len(), numbers.len(), dates.len()) {
         return false;
     }
     if !head_good(b) {

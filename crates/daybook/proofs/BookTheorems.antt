@@ -27,7 +27,9 @@ use Rattle.book.specs.Entries.{BookRows, entryAt, entriesOf, entryNums, bookWit
 use Rattle.book.specs.BookValid.{entryFields, dayCount, bookLent, bookGood, ReadyBook}
 use Rattle.book.proofs.EntryLaws.{length-entries, getD-entries, entries-more, entry-from, entries-from}
 use Rattle.book.proofs.CountLaws.{no-claim}
-use Rattle.book.proofs.BookLaws.{LentBook, lent-book, book-lent, good-lent, good-book, good-room, added-good, frozen-good}
+use Rattle.lists.specs.Lent.{Lent}
+use Rattle.lists.proofs.LentLaws.{lent-facts, facts-lent}
+use Rattle.book.proofs.BookLaws.{good-lent, good-book, good-room, added-good, frozen-good}
 use Rattle.daybook.specs.declared.freezing.Froze.{Froze}
 use Rattle.daybook.specs.Acceptance.{Accepted, isFrozen, nextReceipt, madeEntry, mayAccept, dayOpen, hasPlace, withEntry, acceptTo, accept}
 use Rattle.daybook.specs.Freezing.{froze, frozenOn, freezeOn, freeze, registryOf, writeRegistry}
@@ -56,8 +58,8 @@ module _ (b : Book) (t : BookRows) (e : Entry) where
   entries-now = ap (entriesOf (bookFrom t more)) (sym more-length) ∙ entries-from t more e
 
   module _ (good : bookGood b t ≡ true) (room : b .used < length (t .nums)) where
-    lent : LentBook b t
-    lent = lent-book b t (good-lent b t good)
+    lent : Lent (b .used) (length (t .nums)) (length (t .numbers)) (length (t .dates))
+    lent = lent-facts _ _ _ _ (good-lent b t good)
 
     nums-size : length ((bookFrom t more) .nums) ≡ length (t .nums)
     unfolding bookFrom
@@ -65,22 +67,22 @@ module _ (b : Book) (t : BookRows) (e : Entry) where
 
     numbers-size : length ((bookFrom t more) .numbers) ≡ length (t .nums)
     unfolding bookFrom
-    numbers-size = omega (arith, column-size (λ (x : Entry). x .number .bytes) (t .numbers) more, more-length, lent .numbers)
+    numbers-size = omega (arith, column-size (λ (x : Entry). x .number .bytes) (t .numbers) more, more-length, lent .second)
 
     dates-size : length ((bookFrom t more) .dates) ≡ length (t .nums)
     unfolding bookFrom
-    dates-size = omega (arith, column-size (λ (x : Entry). x .date) (t .dates) more, more-length, lent .dates)
+    dates-size = omega (arith, column-size (λ (x : Entry). x .date) (t .dates) more, more-length, lent .third)
 
     more-lent : bookLent (withEntry b) (bookFrom t more) ≡ true
     more-lent =
         let l = lent in
-        book-lent (withEntry b) (bookFrom t more)
+        facts-lent _ _ _ _
         (record {
           some = omega (arith, nums-size);
           most = omega (arith, nums-size, l .most);
-          numbers = numbers-size ∙ sym nums-size;
-          dates = dates-size ∙ sym nums-size;
-          used = omega (arith, nums-size);
+          second = numbers-size ∙ sym nums-size;
+          third = dates-size ∙ sym nums-size;
+          room = omega (arith, nums-size);
         })
 
     more-good : entryFields e ≡ true → e .receipt ≡ b .first + b .used → (x : Day) → dateDay (e .date) ≡ Good x → dayCount x (entriesOf t (b .used)) < 512

@@ -19,6 +19,7 @@ use Rattle.table.specs.Table.{Rows, recordAt, recordsOf, Whole}
 use Rattle.table.specs.Accounts.{accountsOf, noAccount, balanceAt}
 use Rattle.table.specs.Valid.{near, accountGood, gateGood, recordGood, lentGood, tableGood, Ready}
 use Rattle.lists.proofs.ListLaws.{all-at, all-of}
+use Rattle.lists.proofs.LentLaws.{lent-facts, facts-lent}
 use Rattle.table.proofs.TableLaws.{length-records, getD-records}
 use Rattle.table.proofs.AccountLaws.{in-use}
 use Rattle.table.proofs.RangeLaws.{near-mag}
@@ -77,18 +78,15 @@ module _ (g : Gate) (t : Rows) (places : length (g .accounts) ≡ 256) (good : t
 
   -- and every other clause holds
   pub good-table : Good g t
-  unfolding tableGood lentGood gateGood accountGood
+  unfolding tableGood gateGood accountGood
   good-table =
-      let most = and-right (leb 1 (length (t .nums))) _ lent-good in
-      let numbers = and-right (leb (length (t .nums)) 4096) _ most in
-      let dates = and-right (eqb (length (t .numbers)) (length (t .nums))) _ numbers in
-      let room = and-right (eqb (length (t .dates)) (length (t .nums))) _ dates in
+      let lent = lent-facts _ _ _ _ lent-good in
       record {
-        some = leb-true 1 (length (t .nums)) (and-left (leb 1 (length (t .nums))) _ lent-good);
-        most = leb-true (length (t .nums)) 4096 (and-left (leb (length (t .nums)) 4096) _ most);
-        numbers = eqb-true _ _ (and-left (eqb (length (t .numbers)) (length (t .nums))) _ numbers);
-        dates = eqb-true _ _ (and-left (eqb (length (t .dates)) (length (t .nums))) _ dates);
-        room = leb-true (g .used) (length (t .nums)) room;
+        some = lent .some;
+        most = lent .most;
+        numbers = lent .second;
+        dates = lent .third;
+        room = lent .room;
         count = few;
         closed = and-left (isDay (g .closed)) _ (and-right (leb (g .count) 256) _ gate-good);
         number = λ i h. and-left (isNumber ((getD (g .accounts) i noAccount) .number)) _ (account-good i h);
@@ -124,9 +122,11 @@ module _ (g : Gate) (t : Rows) (places : length (g .accounts) ≡ 256) (good : G
 
   -- the clauses and the balance bound are row 68
   pub table-again : tableGood g t ≡ true
-  unfolding tableGood lentGood
+  unfolding tableGood
   table-again =
-      rw (le-leb _ _ (good .some), le-leb _ _ (good .most), eq-eqb _ _ (good .numbers), eq-eqb _ _ (good .dates), le-leb _ _ (good .room), gate-again, records-again)
+      let lent : lentGood g t ≡ true
+      = facts-lent _ _ _ _ (record { some = good .some; most = good .most; second = good .numbers; third = good .dates; room = good .room }) in
+      rw (lent, gate-again, records-again)
 
   -- and make the gate and the rows ready, where each used record has its lengths
   pub ready-again : Whole t (g .used) → Ready g t

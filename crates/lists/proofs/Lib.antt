@@ -1,2 +1,3 @@
 pub mod ListLaws
 pub mod ColumnLaws
+pub mod LentLaws

@@ -14,6 +14,7 @@ use Rattle.table.specs.declared.Gate.{Gate}
 use Rattle.table.specs.declared.Record.{Record}
 use Rattle.lists.specs.declared.Found.{Found}
 use Rattle.lists.specs.declared.Found.the-variants.{At, Nothing}
+use Rattle.lists.specs.Lent.{Lent}
 use Rattle.lists.specs.Lists.{allFrom}
 use Rattle.table.specs.Table.{Rows, recordAt, recordsOf, Whole}
 use Rattle.table.specs.Accounts.{isAccount, accountsOf, findAccount, noAccount}
@@ -95,47 +96,26 @@ module _ (g : Gate) (t : Rows) (i : ℕ) (passed : allFrom (recordGood g) 0 (rec
   records-end h = sym (passed ∙ all-end (recordGood g) i (recordsOf t (g .used)) (recordAt t i) (omega (arith, length-records t (g .used))))
 
 -- ---- the lent table
-pub room-same : (a b u : ℕ) → a ≡ b → u ≤ b → u ≤ a
-room-same a b u e h = omega arith
-
-pub room-most : (n u most : ℕ) → u ≤ n → n ≤ most → u ≤ most
-room-most n u most h k = omega arith
-
 pub sound-count : (g : Gate) (s : Bool) → (s ≡ true → Sound g) → not s ≡ false → g .count ≤ 256
 sound-count g s f n = f (not-false s n) .count
 
 module _ (g : Gate) (t : Rows) where
-  pub lent-none : length (t .nums) < 1 → false ≡ tableGood g t
-  unfolding tableGood lentGood
-  lent-none h = rw (lt-leb _ _ h)
-
-  pub lent-many : 4096 < length (t .nums) → false ≡ tableGood g t
-  unfolding tableGood lentGood
-  lent-many h = simp (lt-leb _ _ h, and-false)
-
-  pub lent-numbers : (length (t .numbers) ≡ length (t .nums) → ⊥) → false ≡ tableGood g t
-  unfolding tableGood lentGood
-  lent-numbers d = simp (ne-eqb _ _ d, and-false)
-
-  pub lent-dates : (length (t .dates) ≡ length (t .nums) → ⊥) → false ≡ tableGood g t
-  unfolding tableGood lentGood
-  lent-dates d = simp (ne-eqb _ _ d, and-false)
-
-  pub lent-used : length (t .nums) < g .used → false ≡ tableGood g t
-  unfolding tableGood lentGood
-  lent-used h = simp (lt-leb _ _ h, and-false)
+  pub table-lent : (l : Bool) → l ≡ lentGood g t → not l ≡ true → false ≡ tableGood g t
+  unfolding tableGood
+  table-lent l e n = rw (← e, not-true l n)
 
   module _ (s : Bool) (e : s ≡ gateGood g) where
     pub table-gate : not s ≡ true → false ≡ tableGood g t
     unfolding tableGood
     table-gate n = simp (sym e ∙ not-true s n, and-false)
 
-    module _ (some : 1 ≤ length (t .nums)) (most : length (t .nums) ≤ 4096) (bs : length (t .numbers) ≡ length (t .nums))
-        (ds : length (t .dates) ≡ length (t .nums)) (room : g .used ≤ length (t .nums)) (n : not s ≡ false) where
+    module _ (l : Bool) (lent : l ≡ lentGood g t) (facts : l ≡ true → Lent (g .used) (length (t .nums)) (length (t .numbers)) (length (t .dates)))
+        (m : not l ≡ false) (n : not s ≡ false) where
       pub table-records : (r : Bool) → r ≡ allFrom (recordGood g) 0 (recordsOf t (g .used)) → r ≡ tableGood g t
-      unfolding tableGood lentGood
-      table-records r q = q ∙ rw (le-leb _ _ some, le-leb _ _ most, eq-eqb _ _ bs, eq-eqb _ _ ds, le-leb _ _ room, ← e, not-false s n)
+      unfolding tableGood
+      table-records r q = q ∙ rw (← lent, not-false l m, ← e, not-false s n)
 
       pub table-ready : (s ≡ true → Sound g) → (r : Bool) → (r ≡ true → Whole t (g .used)) → r ≡ true → Ready g t
       table-ready sound r whole y =
-          record { whole = whole y; same = record { numbers = bs; dates = ds }; sound = sound (not-false s n); size = most }
+          let f = facts (not-false l m) in
+          record { whole = whole y; same = record { numbers = f .second; dates = f .third }; sound = sound (not-false s n); size = f .most }

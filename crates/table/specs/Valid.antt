@@ -16,6 +16,7 @@ use Rattle.table.specs.declared.Account.{Account}
 use Rattle.table.specs.declared.Gate.{Gate}
 use Rattle.table.specs.declared.Record.{Record}
 use Rattle.lists.specs.Lists.{isFound, allFrom}
+use Rattle.lists.specs.Lent.{lentWell}
 use Rattle.table.specs.Table.{Rows, recordsOf, Whole, SameLengths}
 use Rattle.table.specs.Accounts.{accountsOf, findAccount, balanceAt}
 
@@ -50,11 +51,8 @@ unfoldable pub recordGood : Gate → ℕ → Record → Bool
 recordGood g i r = authcodeGood i r && (rangesGood r && accountKnown g r)
 
 -- a table of 1 to 4,096 places in rows of one length, and no more used than lent
-unfoldable pub lentGood : Gate → Rows → Bool
-lentGood g t =
-    leb 1 (length (t .nums))
-    && (leb (length (t .nums)) 4096
-    && (eqb (length (t .numbers)) (length (t .nums)) && (eqb (length (t .dates)) (length (t .nums)) && leb (g .used) (length (t .nums)))))
+abbrev pub lentGood : Gate → Rows → Bool
+lentGood g t = lentWell (g .used) (length (t .nums)) (length (t .numbers)) (length (t .dates))
 
 unfoldable pub tableGood : Gate → Rows → Bool
 tableGood g t = lentGood g t && (gateGood g && allFrom (recordGood g) 0 (recordsOf t (g .used)))

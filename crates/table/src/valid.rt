@@ -119,20 +119,7 @@ pub fn table_good(nums: &[[u64; 6]], numbers: &[[u8; 30]], dates: &[[[u8; 19]; 3
     ensures { λ b. ⌜ b ≡ tableGood g (record { nums = now (nums .entry); numbers = now (numbers .entry); dates = now (dates .entry) }) ⌝ }
     ensures { λ b. ⌜ (b ≡ true → Ready g (record { nums = now (nums .entry); numbers = now (numbers .entry); dates = now (dates .entry) })) ⌝ }
 {
-    let n = nums.len();
-    if n < 1 {
-        return false;
-    }
-    if 4096 < n {
-        return false;
-    }
-    if numbers.len() != n {
-        return false;
-    }
-    if dates.len() != n {
-        return false;
-    }
-    if n < g.used {
+    if !lists::is_lent(g.used, nums.len(), numbers.len(), dates.len()) {
         return false;
     }
     if !ranges::gate_good(g) {
