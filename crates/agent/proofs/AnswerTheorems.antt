@@ -174,7 +174,7 @@ module _ (b : Book) (t : BookRows) (a : Action) (receipt : ℕ) (text : List ℕ
         let l : i < b .used = entry-within t (b .used) receipt i e in
         put-same b t i ready l (answered i) (unmoved-entry _ answer (entryAt t i) (found-fields b t receipt i good e) (same i e)))
 
-    -- no refusal is final: an answer that says neither paid nor revoked leaves the rows as they are
+    -- an answer that says neither paid nor revoked leaves the rows as they are
     pub answer-silent : meaning a (answer .code) ≡ Silent → (takeAnswer b t a receipt text) .rows ≡ t
     unfolding turned
     answer-silent silent = answer-unmoved (λ i e. rw silent refl)

@@ -1,4 +1,4 @@
--- Document 01, "Agent" and the rows 68, 60, 62 and 64: an answer comes back on its request's connection, with that request's action and receipt.
+-- Document 01, "Agent" and the rows 68, 60, 62 and 64: an answer is handed in together with the action and the receipt that it answers.
 use Prim.Native.Nat.{ℕ}
 use mathlib.Core.List.{List}
 use mathlib.Core.Bool.{Bool, true, false, cond}
@@ -26,7 +26,7 @@ pub record Took : Type 0 where
   pub code : ℕ
   pub rows : BookRows
 
--- ---- what an answer says: paid is payment's or status' 0, revoked is any 7 and cancel's 0; no refusal is final
+-- ---- what an answer says: paid is payment's or status' 0, revoked is any 7 and cancel's 0; whatever else it says leaves the payment open
 unfoldable pub paymentMeaning : ℕ → Meaning
 paymentMeaning code = cond (eqb code 0) Paid (cond (eqb code 7) Revoked Silent)
 

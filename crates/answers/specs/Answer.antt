@@ -40,7 +40,7 @@ element name content = opening name ++ (content ++ closing name)
 abbrev pub elementIf : Bool → List ℕ → List ℕ → List ℕ
 elementIf used name content = cond used (element name content) []
 
--- codes of 10 and more have a message: `table full`, `bad request`, `bad reason`; others none
+-- the codes 30, 31 and 32 are told in words too: `table full`, `bad request`, `bad reason`
 abbrev pub hasMessage : ℕ → Bool
 hasMessage code = cond (eqb code 30) true (cond (eqb code 31) true (eqb code 32))
 

@@ -48,7 +48,7 @@ dayFits es (Good d) = leb (dayCount d es) 512
 unfoldable pub daysGood : List Entry → Bool
 daysGood es = allFrom (λ i e. dayFits es (dateDay (e .date))) 0 es
 
--- a book of 1 to 4,096 places in rows of one length, and no more used than lent
+-- how its rows are lent
 abbrev pub bookLent : Book → BookRows → Bool
 bookLent b t = lentWell (b .used) (length (t .nums)) (length (t .numbers)) (length (t .dates))
 

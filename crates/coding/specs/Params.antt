@@ -27,7 +27,7 @@ splitAt c (b ∷ s) = cond (eqb b c) ([] ∷ splitAt c s) (longer b (splitAt c s
 abbrev pub pieces : List ℕ → List (List ℕ)
 pieces s = splitAt 38 s
 
--- a piece splits at its first = (61)
+-- a piece is a name and a value around its first = (61)
 abbrev pub hasValue : List ℕ → Bool
 hasValue p = ltb (find 61 p) (length p)
 

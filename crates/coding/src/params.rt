@@ -9,7 +9,7 @@ pub enum Method {
     Post,
 }
 
-// A GET gives the part of its target behind the first question mark, a POST its body.
+// What follows the first question mark of a GET's target, or a POST's body.
 pub fn parameters<'a>(method: Method, target: &'a [u8], body: &'a [u8]) -> &'a [u8]
     ensures { λ r. ⌜ now r ≡ paramPart method (now (target .entry)) (now (body .entry)) ⌝ }
 {

@@ -29,7 +29,7 @@ pub record Accepted : Type 0 where
 unfoldable pub isFrozen : Book → List ℕ → Bool
 isFrozen b date = upTo (b .frozen) (dateDay date)
 
--- the next receipt, one more than the last
+-- the receipt that comes next
 unfoldable pub nextReceipt : Book → ℕ
 nextReceipt b = b .first + b .used
 

@@ -16,7 +16,7 @@ use Rattle.book.specs.Entries.{BookRows, entriesOf}
 use Rattle.book.specs.BookValid.{bookGood}
 use Rattle.daybook.specs.declared.freezing.Froze.{Froze}
 
--- ---- freezing: the next day only, once the previous one has its report
+-- ---- freezing: a day that follows the last frozen one, which has to be settled
 abbrev pub frozenOn : Book → Day → Book
 frozenOn b day = record { first = b .first; used = b .used; frozen = day; settled = false }
 

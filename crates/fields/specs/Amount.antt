@@ -33,7 +33,7 @@ amountOf Malformed f = Malformed
 amountOf (Value w) Malformed = Malformed
 amountOf (Value w) (Value v) = cond (eqb (w * 100 + v) 0) Malformed (Value (w * 100 + v))
 
--- 1 to 7 digits, then optionally a point (46) and 1 or 2 digits; not zero
+-- roubles in at most 7 digits, and kopecks in one or two behind a point (46), or none; 0 is no amount
 unfoldable pub amountRead : List ℕ → Digits
 amountRead s = amountOf (digitsRead 7 (take (find 46 s) s)) (kopecksFrom (drop (find 46 s) s))
 

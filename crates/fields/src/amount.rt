@@ -1,4 +1,4 @@
-// Amounts: 1 to 7 digits, then optionally a point and 1 or 2 digits; held in kopecks.
+// Amounts: roubles, with kopecks behind a point or without; held in kopecks.
 use crate::digits;
 use crate::digits::Digits;
 use crate::out;

@@ -11,7 +11,7 @@ pub fn is_receipt(v: u64) -> bool
     digits::is_within(1, 999999999999999, v)
 }
 
-// A receipt: 1 to 15 digits, not zero.
+// A receipt: a payment's number, in at most 15 digits.
 pub fn read_receipt(s: &[u8]) -> Digits
     ensures { λ r. ⌜ r ≡ receiptRead (now (s .entry)) ⌝ }
 {

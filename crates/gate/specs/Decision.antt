@@ -1,4 +1,4 @@
--- Document 01, "Gate": one decision from action and record. It sees values only, no wire text.
+-- Document 01, "Gate": the decision. It sees values only, no wire text.
 use Prim.Native.Nat.{ℕ}
 use mathlib.Core.Bool.{Bool, true, false, cond}
 use Rattle.message.specs.declared.action.Action.{Action}
@@ -13,11 +13,11 @@ use Rattle.gate.specs.declared.decision.Decided.{Decided}
 abbrev pub keeps : ℕ → Decided
 keeps code = record { code = code; change = Keep }
 
--- account unknown 2; table full 30; else 0
+-- 2 where the account is not known, 30 where there is no room
 unfoldable pub checkCode : View → ℕ
 checkCode v = cond (v .known) (cond (v .full) 30 0) 2
 
--- date on or before the closed day 5; then as a check; else credit it and add the record
+-- 5 where its day is closed; then as for a check; else it is credited and recorded
 unfoldable pub paymentNew : View → Decided
 paymentNew v =
     cond (v .closed) (keeps 5) (cond (v .known) (cond (v .full) (keeps 30) (record { code = 0; change = Append })) (keeps 2))

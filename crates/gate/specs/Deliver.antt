@@ -63,7 +63,7 @@ abbrev pub standingOf : Found → Record → Standing
 standingOf Nothing r = Unrecorded
 standingOf (At i) r = cond (eqb (r .state) 1) Done Cancelled
 
--- whether a date is on or before the closed day
+-- whether the day of a date is closed
 unfoldable pub dateClosed : Gate → List ℕ → Bool
 dateClosed g date = upTo (g .closed) (dateDay date)
 
@@ -178,7 +178,7 @@ pub record Made (t : Rows) (c : Changed) (gate : Gate) (subject : Record) (rows 
   pub left : rows ≡ rowsFrom t (c .records)
 
 -- ---- the answer
--- authcode goes with 0 and 7, except on check
+-- an authcode tells of a payment that stands or stood, so it goes with 0 and 7, to all but a check
 abbrev pub settles : ℕ → Bool
 settles code = eqb code 0 || eqb code 7
 
@@ -188,14 +188,14 @@ answersAuthcode Payment code = settles code
 answersAuthcode Status code = settles code
 answersAuthcode Cancel code = settles code
 
--- every payment answer has a date, status and cancel with 0 or 7, a check none
+-- a payment is always answered with a date, status and cancel only where they have an authcode, a check never
 unfoldable pub answersDate : Action → ℕ → Bool
 answersDate Check code = false
 answersDate Payment code = true
 answersDate Status code = settles code
 answersDate Cancel code = settles code
 
--- the cancel date with 7 and with cancel's 0, the credit date with other 0s, the clock with other codes
+-- when the payment was cancelled, or else when it was credited; a refusal tells the clock
 unfoldable pub answerDate : Action → ℕ → Record → List ℕ → List ℕ
 answerDate a code r clock =
     cond (eqb code 7) (r .cancel) (cond (eqb code 0) (cond (isCancel a) (r .cancel) (r .credit)) clock)

@@ -30,7 +30,7 @@ openTo g n k =
 unfoldable pub openCall : Gate → Rows → Number → ℕ → Reply
 openCall g t n k = cond (tableGood g t) (openTo g n k) (replies 68 g)
 
--- 1 to 999,999,999 kopecks and no more than the balance, else 58
+-- an amount that the balance covers, else 58
 unfoldable pub drawOn : Gate → Found → ℕ → Reply
 drawOn g Nothing n = replies 59 g
 drawOn g (At a) n = cond (isAmount n && not (ltZ (balanceAt g a) (pos n))) (replies 0 (debited g a n)) (replies 58 g)

@@ -1,4 +1,4 @@
-// One decision from action and record.
+// The decision on a request, from its action and the record of its receipt.
 use message::action::Action;
 ghost use mathlib.Core.Path.{_≡_};
 ghost use Rattle.gate.specs.Decision.{keeps, checkCode, paymentNew, cancelDone, decision};
@@ -10,7 +10,7 @@ pub enum Standing {
     Cancelled,
 }
 
-// What else a decision looks at: the account is known, the table is full, the date is on or before the closed day, the balance is below the amount.
+// What else a decision looks at: the account is known, the table is full, its day is closed, the balance is below the amount.
 pub struct View {
     pub known: bool,
     pub full: bool,

@@ -64,7 +64,7 @@ pub(crate) fn standing(found: Found, r: Record) -> Standing
     }
 }
 
-// Whether a date is on or before the closed day.
+// Whether the day of a date is closed.
 pub(crate) fn date_closed(g: Gate, d: [u8; 19]) -> bool
     ensures { λ t. ⌜ t ≡ dateClosed g d ⌝ }
 {

@@ -73,7 +73,7 @@ unfoldable pub firstFault : List ℕ → ℕ
 firstFault [] = 0
 firstFault (f ∷ fs) = cond (eqb f 0) (firstFault fs) f
 
--- receipt (4), number and type (2), amount (3), date (5), reason (32), each where the action has the field
+-- the first malformed one of the fields that the action has: receipt 4, number or type 2, amount 3, date 5, reason 32
 unfoldable pub fieldFault : Action → List Slot → ℕ
 fieldFault a t =
     firstFault
@@ -100,7 +100,7 @@ askedOf a t =
 unfoldable pub fieldsRead : Action → List Slot → RequestRead
 fieldsRead a t = cond (eqb (fieldFault a t) 0) (record { fault = 0; asked = askedOf a t }) (refused (fieldFault a t) a)
 
--- `action` absent or not one of the four is 1
+-- without one of the four actions it is 1
 abbrev pub actionRead : ActionRead → List Slot → RequestRead
 actionRead Unknown t = refused 1 Check
 actionRead (Known a) t = fieldsRead a t

@@ -23,7 +23,7 @@ use Rattle.table.specs.Accounts.{accountsOf, findAccount, withUsed, withClosed}
 use Rattle.table.specs.Valid.{tableGood}
 use Rattle.gate.specs.Deliver.{noRecord, makeRecord, revoked, creditedAt, debitedAt, isFull}
 
--- a line matches a record if receipt, account, amount and date agree
+-- a line speaks of a record that is the same in all four
 unfoldable pub matches : Line → Record → Bool
 matches x r =
     eqb (r .receipt) (x .receipt)
@@ -40,7 +40,7 @@ pub data Verdict : Type 0 where
   Posts : ℕ → Verdict
   Unposted : Verdict
 
--- receipt unrecorded, account known, table not full: posted
+-- a receipt that is not recorded is posted where its account is known and there is room
 abbrev pub postVerdict : Found → Found → Bool → Verdict
 postVerdict (At i) account full = Unposted
 postVerdict Nothing Nothing full = Unposted
@@ -106,7 +106,7 @@ unfoldable pub settleLines : List ℕ → ℕ → List Line → Ledger → Ledge
 settleLines clock lent [] l = l
 settleLines clock lent (x ∷ xs) l = settleLines clock lent xs (settleLine clock lent x l)
 
--- ---- the sweep: every done record of the day that no line matches is cancelled, even below zero
+-- ---- the sweep: what is done on the day and stands in no line is cancelled, whatever the balance
 unfoldable pub anyMatches : List Line → Record → Bool
 anyMatches [] r = false
 anyMatches (x ∷ xs) r = matches x r || anyMatches xs r
@@ -128,7 +128,7 @@ unfoldable pub swept : List ℕ → Day → List Line → Ledger → Ledger
 swept clock day xs l =
     record { gate = sweepGates day xs (l .records) (l .gate); records = map (sweptRecord clock day xs) (l .records) }
 
--- ---- the report: one byte a line, 1 if a done record matches
+-- ---- the report: a byte for each line, 1 (49) where it stands done in the table
 unfoldable pub anyDone : Line → List Record → Bool
 anyDone x [] = false
 anyDone x (r ∷ rs) = (isDone r && matches x r) || anyDone x rs
@@ -144,13 +144,13 @@ pub record Settled : Type 0 where
   pub rows : Rows
   pub report : List ℕ
 
--- the day after the closed one is settled and closed
+-- the next day: settled, then closed
 unfoldable pub settleDay : Gate → Rows → List ℕ → Day → List Line → List ℕ → Settled
 settleDay g t clock day xs out =
     let l = swept clock day xs (settleLines clock (length (t .nums)) xs (record { gate = g; records = recordsOf t (g .used) })) in
     record { code = 0; gate = withClosed (l .gate) day; rows = rowsFrom t (l .records); report = written out 0 (reportOf xs (l .records)) }
 
--- a day on or before the closed one is only reported; a later one, or no date, is 55
+-- an earlier day is only reported; one that is further on, or none, is 55
 unfoldable pub settleText : Gate → Rows → List ℕ → Day → List ℕ → List ℕ → Settled
 settleText g t clock day text out =
     cond (onDay day (nextDay (g .closed)))

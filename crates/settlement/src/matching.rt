@@ -11,7 +11,7 @@ ghost use Rattle.lists.specs.Lists.{firstFrom};
 ghost use Rattle.table.specs.Table.{Rows, recordsOf};
 ghost use Rattle.settlement.specs.Settle.{matches};
 
-// Whether receipt, account, amount and date agree.
+// Whether a line and a record are the same in all four.
 pub fn matches_record(x: Line, r: Record) -> bool
     ensures { λ b. ⌜ b ≡ matches x r ⌝ }
 {

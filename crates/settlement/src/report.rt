@@ -1,4 +1,4 @@
-// The report: one byte a line, 1 if a done record matches.
+// The report: a byte for each line, 1 where it stands done in the table.
 use crate::matching;
 use registry::line::Line;
 use registry::text;

@@ -1,4 +1,4 @@
-// The sweep: every done record of the day that no line matches is cancelled.
+// The sweep: what is done on the day and stands in no line is cancelled.
 use crate::lines;
 use fields::calendar::Day;
 use fields::date;

@@ -13,7 +13,7 @@ use Rattle.table.specs.declared.Gate.{Gate}
 use Rattle.lists.specs.declared.Found.{Found}
 use Rattle.lists.specs.Lists.{firstFrom}
 
--- number with type names an account
+-- the account of a number and a type
 unfoldable pub isAccount : Number → ℕ → Account → Bool
 isAccount n k a = eqb (a .kind) k && sameNumber (a .number) n
 

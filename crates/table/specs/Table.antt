@@ -62,7 +62,7 @@ rowsFrom t rs =
       dates = map datesOf rs ++ drop (length rs) (t .dates);
     }
 
--- a lookup takes the first record that fits
+-- the first record of a receipt
 abbrev pub hasReceipt : ℕ → Record → Bool
 hasReceipt x r = eqb (r .receipt) x
 

@@ -50,7 +50,7 @@ authcodeGood i r = eqb (r .authcode) (i + 1)
 unfoldable pub recordGood : Gate → ℕ → Record → Bool
 recordGood g i r = authcodeGood i r && (rangesGood r && accountKnown g r)
 
--- a table of 1 to 4,096 places in rows of one length, and no more used than lent
+-- how its rows are lent
 abbrev pub lentGood : Gate → Rows → Bool
 lentGood g t = lentWell (g .used) (length (t .nums)) (length (t .numbers)) (length (t .dates))
 

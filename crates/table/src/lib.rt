@@ -7,7 +7,7 @@ pub mod valid;
 use fields::calendar::Day;
 use fields::number::Number;
 
-// A payment. State 1 is done, 2 is cancelled; a done record's cancel date is nineteen zero bytes.
+// A payment. State 1 is done, 2 is cancelled; while it is done, zeros stand for its cancel date.
 pub struct Record {
     pub receipt: u64,
     pub number: Number,
