@@ -4,3 +4,4 @@ pub mod AnsweringLaws
 pub mod MovedLaws
 pub mod AnswerTheorems
 pub mod WritingTheorems
+pub mod AlikeTheorems
