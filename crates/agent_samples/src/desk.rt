@@ -12,6 +12,9 @@ use fields::scan;
 use message::action;
 use message::action::Action;
 use message::action::ActionRead;
+ghost use mathlib.Core.Path.{_≡_};
+ghost use Prim.Native.Nat.{_<_};
+ghost use lib.ListN.{length};
 
 pub struct Desk {
     pub book: Book,
@@ -186,7 +189,14 @@ pub fn registry(s: &[u8], nums: &[[u64; 6]], numbers: &[[u8; 30]], dates: &[[u8;
     show_sent(r, &out);
 }
 
-// The registry of a day, into 4,096 bytes.
+// One byte less than a registry asks for.
+fn small_buffer() -> [u8; 65535]
+    ensures { λ r. ⌜ 65535 ≡ length r ⌝ }
+{
+    [0u8; 65535]
+}
+
+// The registry of a day, into 65,535 bytes.
 pub fn registry_small(
     s: &[u8],
     nums: &[[u64; 6]],
@@ -194,7 +204,7 @@ pub fn registry_small(
     dates: &[[u8; 19]],
     d: Desk,
 ) {
-    let mut out = io::buffer();
+    let mut out = small_buffer();
     let r = listing::write_registry(nums, numbers, dates, d.book, given::day(s), &mut out);
     show_sent(r, &out);
 }
@@ -220,17 +230,26 @@ pub fn settle(d: Desk) -> Desk {
     with_book(d, b)
 }
 
-// The first entry's state or authcode, spoilt.
+// Where a named number of an entry stands.
+fn place_of(name: &[u8]) -> usize
+    ensures { λ r. ⌜ r < 6 ⌝ }
+{
+    if scan::same_bytes(name, b"receipt") {
+        return 0;
+    }
+    if scan::same_bytes(name, b"state") {
+        return 4;
+    }
+    5
+}
+
+// The first entry's receipt, state or authcode, spoilt.
 pub fn spoil(s: &[u8], nums: &mut [[u64; 6]]) {
     if nums.len() == 0 {
         return;
     }
     let v = given::value(given::second(s));
     let mut w = nums[0];
-    if scan::same_bytes(scan::before_byte(s, 32), b"state") {
-        w[4] = v;
-    } else {
-        w[5] = v;
-    }
+    w[place_of(scan::before_byte(s, 32))] = v;
     nums[0] = w;
 }
