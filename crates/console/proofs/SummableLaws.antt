@@ -35,7 +35,7 @@ use Rattle.table.specs.Valid.{tableGood}
 use Rattle.table.proofs.AccountLaws.{holder-within}
 use Rattle.table.proofs.RangeLaws.{near-mag}
 use Rattle.table.proofs.SignedLaws.{mag-up}
-use Rattle.gate.specs.declared.opening.Reply.{Reply}
+use Rattle.gate.specs.declared.Reply.{Reply}
 use Rattle.gate.specs.Opening.{openTo, openCall, drawOn, drawFrom, drawCall}
 use Rattle.gate.specs.Deliver.{isShort, debitedAt, deliver, respond, Delivered}
 use Rattle.gate.proofs.DeliverLaws.{asked-amount}
@@ -149,7 +149,7 @@ module _ (g : Gate) (s : Summable g) where
   deliver-summable : (t : Rows) (clock params out : List ℕ) → Summable ((deliver g t clock params out) .gate)
   deliver-summable t clock params out =
       let q : Asked = (requestRead params) .asked in
-      delivered-by g t clock params out (λ (d : Delivered). Summable (d .gate)) (λ code left. s)
+      delivered-by g t clock params out (λ (d : Delivered). Summable (d .gate)) (λ code left size. s)
       (λ good _ _. outcome-summable t good clock q (respond g t clock q out) (asked-amount params (requestRead params) refl) (outcome g t clock q out))
 
 -- ---- a line

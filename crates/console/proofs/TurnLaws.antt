@@ -21,7 +21,7 @@ use Rattle.fields.specs.Date.{dateRead}
 use Rattle.table.specs.declared.Gate.{Gate}
 use Rattle.table.specs.Table.{Rows}
 use Rattle.table.specs.Accounts.{withClosed}
-use Rattle.gate.specs.declared.opening.Reply.{Reply}
+use Rattle.gate.specs.declared.Reply.{Reply}
 use Rattle.gate.specs.Opening.{openCall, drawCall}
 use Rattle.gate.specs.Deliver.{deliver, Delivered}
 use Rattle.console.specs.declared.Console.{Console}
@@ -48,7 +48,7 @@ module _ (x : Console) (t : Rows) (l : List ℕ) where
       unfolding startTurn
       start-none n r e = rw (← form, not-false b h, ← ef, ← ed, n, e)
 
-      pub start-good : (day : Day) → d ≡ Good day → (g : Gate) → g ≡ withClosed (x .gate) day → (r : Turned) → r ≡ calledOn (record { code = 0; gate = g }) → turnOf r t ≡ startTurn x t l
+      pub start-good : (day : Day) → d ≡ Good day → (g : Gate) → g ≡ withClosed (x .gate) day → (r : Turned) → r ≡ calledOn (record { code = 0; gate = g; size = 0 }) → turnOf r t ≡ startTurn x t l
       unfolding startTurn
       start-good day n g eg r e = rw (← form, not-false b h, ← ef, ← ed, n, e, eg)
 
@@ -74,7 +74,7 @@ module _ (x : Console) (t : Rows) (l : List ℕ) where
 
   -- ---- R
   pub ask-done : (f : List ℕ) → f ≡ fieldAt 1 l → (d : DateRead) → d ≡ dateRead f → (p : List ℕ) → p ≡ paramsIn l → (a : Reply) (rows : Rows) (out : List ℕ)
-      → _≡_ {A = Delivered} (record { code = a .code; gate = a .gate; rows = rows; out = out }) (deliver (x .gate) t (d .date) p (replicate 512 0))
+      → _≡_ {A = Delivered} (record { code = a .code; gate = a .gate; rows = rows; out = out; size = a .size }) (deliver (x .gate) t (d .date) p (replicate 512 0))
       → (r : Turned) → r ≡ calledOn a → turnOf r rows ≡ askTurn x t l
   unfolding askTurn
   ask-done f ef d ed p ep a rows out ea r er = rw (er, ← ef, ← ed, ← ep, ← ea)

@@ -20,7 +20,7 @@ use Rattle.table.specs.declared.Account.{Account}
 use Rattle.table.specs.declared.Gate.{Gate}
 use Rattle.table.specs.Table.{Rows}
 use Rattle.table.specs.Accounts.{accountsOf, withClosed}
-use Rattle.gate.specs.declared.opening.Reply.{Reply}
+use Rattle.gate.specs.declared.Reply.{Reply}
 use Rattle.gate.specs.Opening.{openCall, drawCall}
 use Rattle.gate.specs.Deliver.{deliver, Delivered}
 use Rattle.console.specs.declared.Console.{Console}

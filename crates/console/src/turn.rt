@@ -8,9 +8,9 @@ use fields::date;
 use fields::digits;
 use fields::digits::Digits;
 use fields::number;
+use gate::Reply;
 use gate::deliver;
 use gate::opening;
-use gate::opening::Reply;
 ghost use mathlib.Core.Path.{_≡_};
 ghost use mathlib.Core.Bool.{true};
 ghost use Rattle.fields.specs.declared.digits.Digits.the-variants.{Value};
@@ -70,7 +70,11 @@ fn start_turn(x: Console, line: &[u8]) -> Turned
     };
     let mut gate = x.gate;
     gate.closed = d;
-    answered(Reply { code: 0, gate })
+    answered(Reply {
+        code: 0,
+        gate,
+        size: 0,
+    })
 }
 
 // O: an opening.

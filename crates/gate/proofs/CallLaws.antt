@@ -29,7 +29,7 @@ use Rattle.table.specs.Accounts.{isAccount, accountsOf, findAccount, noAccount,
 use Rattle.table.specs.Valid.{near, rangesGood, accountKnown, authcodeGood, recordGood, tableGood, Ready}
 use Rattle.table.proofs.AccountLaws.{holder-within}
 use Rattle.table.proofs.RangeLaws.{no-claim}
-use Rattle.gate.specs.declared.opening.Reply.{Reply}
+use Rattle.gate.specs.declared.Reply.{Reply}
 use Rattle.message.specs.declared.action.Action.the-variants.{Payment}
 use Rattle.message.specs.declared.request.Asked.{Asked}
 use Rattle.message.specs.Request.{requestRead}
@@ -264,7 +264,7 @@ module _ (g : Gate) (t : Rows) (ready : Ready g t) (good : tableGood g t ≡ tru
   module _ (clock params out : List ℕ) (room : Roomy g t ((requestRead params) .asked)) where
     delivered-near : Near ((deliver g t clock params out) .gate)
     delivered-near =
-        delivered-by g t clock params out (λ (d : Delivered). Near (d .gate)) (λ code left. bound)
+        delivered-by g t clock params out (λ (d : Delivered). Near (d .gate)) (λ code left size. bound)
         (λ _ _ _. outcome-near clock ((requestRead params) .asked) (respond g t clock ((requestRead params) .asked) out) (outcome g t clock ((requestRead params) .asked) out) room)
 
     -- 5: a delivery keeps row 68 where its account has room for a payment

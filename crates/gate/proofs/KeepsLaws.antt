@@ -28,29 +28,25 @@ use Rattle.table.specs.Accounts.{accountsOf, findAccount, balanceAt, debited, o
 use Rattle.table.specs.Valid.{tableGood, Ready}
 use Rattle.table.proofs.TableLaws.{rows-kept}
 use Rattle.table.proofs.RangeLaws.{no-claim}
-use Rattle.gate.specs.declared.opening.Reply.{Reply}
-use Rattle.gate.specs.Deliver.{noRecord, answerOf, Delivered, respond, deliverRead, deliver}
+use Rattle.gate.specs.declared.Reply.{Reply}
+use Rattle.gate.specs.Deliver.{Delivered, undelivered, respond, deliverRead, deliver}
 use Rattle.gate.specs.Opening.{replies, openTo, openCall, drawOn, drawFrom, drawCall}
 use Rattle.gate.proofs.OutcomeLaws.{Outcome, stays, appends, revokes, outcome}
 
 -- ---- a delivery by its tests
--- a code, and everything as it was
-abbrev pub refusal : ℕ → Gate → Rows → List ℕ → Delivered
-refusal code g t out = record { code = code; gate = g; rows = t; out = out }
-
 module _ (g : Gate) (t : Rows) (clock params out : List ℕ) where
   -- a table that is not good: 68, and nothing changes, the buffer neither
-  pub refused-table : tableGood g t ≡ false → deliver g t clock params out ≡ refusal 68 g t out
+  pub refused-table : tableGood g t ≡ false → deliver g t clock params out ≡ undelivered 68 g t out
   unfolding deliver
   refused-table h = rw h
 
   -- a buffer under 512 bytes: 50, and nothing changes
-  pub refused-room : tableGood g t ≡ true → length out < 512 → deliver g t clock params out ≡ refusal 50 g t out
+  pub refused-room : tableGood g t ≡ true → length out < 512 → deliver g t clock params out ≡ undelivered 50 g t out
   unfolding deliver
   refused-room h l = rw (h, lt-leb _ _ l)
 
   -- a clock that is no date: 51, and nothing changes
-  pub refused-clock : tableGood g t ≡ true → 512 ≤ length out → isWritten clock ≡ false → deliver g t clock params out ≡ refusal 51 g t out
+  pub refused-clock : tableGood g t ≡ true → 512 ≤ length out → isWritten clock ≡ false → deliver g t clock params out ≡ undelivered 51 g t out
   unfolding deliver
   refused-clock h l c = rw (h, le-leb _ _ l, c)
 
@@ -61,16 +57,16 @@ module _ (g : Gate) (t : Rows) (clock params out : List ℕ) where
   refused-keeps = go (tableGood g t) (leb 512 (length out)) (isWritten clock) (deliverRead g t clock (requestRead params) out)
     where
       go : (a b c : Bool) (x : Delivered) → a && (b && c) ≡ false
-          → ((cond a (cond b (cond c x (refusal 51 g t out)) (refusal 50 g t out)) (refusal 68 g t out)) .gate ≡ g)
-          × ((cond a (cond b (cond c x (refusal 51 g t out)) (refusal 50 g t out)) (refusal 68 g t out)) .rows ≡ t)
-          × ((cond a (cond b (cond c x (refusal 51 g t out)) (refusal 50 g t out)) (refusal 68 g t out)) .out ≡ out)
+          → ((cond a (cond b (cond c x (undelivered 51 g t out)) (undelivered 50 g t out)) (undelivered 68 g t out)) .gate ≡ g)
+          × ((cond a (cond b (cond c x (undelivered 51 g t out)) (undelivered 50 g t out)) (undelivered 68 g t out)) .rows ≡ t)
+          × ((cond a (cond b (cond c x (undelivered 51 g t out)) (undelivered 50 g t out)) (undelivered 68 g t out)) .out ≡ out)
       go false b c x h = (refl, refl, refl)
       go true false c x h = (refl, refl, refl)
       go true true false x h = (refl, refl, refl)
       go true true true x h = no-claim (sym h)
 
   -- what holds of every refusal and of every answer to a request read without fault holds of a delivery
-  pub delivered-by : (P : Delivered → Type 0) → ((code : ℕ) (left : List ℕ) → P (refusal code g t left))
+  pub delivered-by : (P : Delivered → Type 0) → ((code : ℕ) (left : List ℕ) (size : ℕ) → P (record { code = code; gate = g; rows = t; out = left; size = size }))
       → (tableGood g t ≡ true → isWritten clock ≡ true → (requestRead params) .fault ≡ 0 → P (respond g t clock ((requestRead params) .asked) out))
       → P (deliver g t clock params out)
   unfolding deliver deliverRead
@@ -81,10 +77,10 @@ module _ (g : Gate) (t : Rows) (clock params out : List ℕ) where
       (λ _. cond-elim P (isWritten clock) _ _
       (λ dated. cond-elim P (eqb (q .fault) 0) _ _
       (λ none. answer good dated (eqb-true (q .fault) 0 none))
-      (λ _. keep (q .fault) (written out 0 (answerBytes (answerOf (q .asked .action) (q .fault) noRecord clock)))))
-      (λ _. keep 51 out))
-      (λ _. keep 50 out))
-      (λ _. keep 68 out)
+      (λ _. keep (q .fault) _ _))
+      (λ _. keep 51 out 0))
+      (λ _. keep 50 out 0))
+      (λ _. keep 68 out 0)
 
 -- ---- a fault keeps the gate and the rows
 -- the gate and the rows are as they were
@@ -106,7 +102,7 @@ module _ (g : Gate) (t : Rows) (ready : Ready g t) (clock : List ℕ) where
   pub fault-keeps : (params out : List ℕ) → ((deliver g t clock params out) .code ≡ 0 → ⊥) → Kept g t (deliver g t clock params out)
   fault-keeps params out =
       delivered-by g t clock params out (λ (d : Delivered). (d .code ≡ 0 → ⊥) → Kept g t d)
-      (λ code left n. record { gate = refl; rows = refl })
+      (λ code left size n. record { gate = refl; rows = refl })
       (λ _ _ _. respond-keeps ((requestRead params) .asked) out)
 
 -- ---- the same for opening an account and drawing from one

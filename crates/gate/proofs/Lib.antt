@@ -1,5 +1,5 @@
 pub mod CaseLaws
-pub mod ReplyLaws
+pub mod AnsweringLaws
 pub mod PlanLaws
 pub mod ChangeLaws
 pub mod DeliverLaws

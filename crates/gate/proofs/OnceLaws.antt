@@ -110,11 +110,11 @@ module _ (g : Gate) (t : Rows) (clock params out : List ℕ) (i : ℕ) (known : 
   -- a delivery of a recorded receipt adds no record
   pub delivered-once : (deliver g t clock params out) .gate .used ≡ g .used
   delivered-once =
-      delivered-by g t clock params out (λ (d : Delivered). d .gate .used ≡ g .used) (λ code left. refl)
+      delivered-by g t clock params out (λ (d : Delivered). d .gate .used ≡ g .used) (λ code left size. refl)
       (λ _ _ _. once-used g t clock ((requestRead params) .asked) out i known)
 
   -- and raises no balance
   pub delivered-balance : (j : ℕ) → balanceAt ((deliver g t clock params out) .gate) j ≤ℤ balanceAt g j
   delivered-balance j =
-      delivered-by g t clock params out (λ (d : Delivered). balanceAt (d .gate) j ≤ℤ balanceAt g j) (λ code left. ≤ℤ-refl (balanceAt g j))
+      delivered-by g t clock params out (λ (d : Delivered). balanceAt (d .gate) j ≤ℤ balanceAt g j) (λ code left size. ≤ℤ-refl (balanceAt g j))
       (λ _ _ _. once-balance g t clock ((requestRead params) .asked) out i known j)

@@ -23,7 +23,7 @@ use Rattle.table.specs.Table.{Rows}
 use Rattle.table.specs.Accounts.{isAccount, accountsOf, findAccount, balanceAt, debited, opened}
 use Rattle.table.specs.Valid.{Sound, Ready, tableGood}
 use Rattle.lists.proofs.ListLaws.{search-within}
-use Rattle.gate.specs.declared.opening.Reply.{Reply}
+use Rattle.gate.specs.declared.Reply.{Reply}
 use Rattle.gate.specs.Deliver.{Within}
 use Rattle.gate.specs.Opening.{replies, openTo, openCall, drawOn, drawFrom, drawCall}
 

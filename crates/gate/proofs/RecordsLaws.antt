@@ -132,7 +132,7 @@ respond-lasts g t clock q out = lasting-outcome g t (respond g t clock q out) cl
 pub records-last : (g : Gate) (t : Rows) (clock params out : List ℕ) → Lasting g t (deliver g t clock params out)
 records-last g t clock params out =
     delivered-by g t clock params out (Lasting g t)
-    (λ code left. record { used = omega arith; identity = λ i z h. same-identity _ _ refl; settled = λ i h e. refl })
+    (λ code left size. record { used = omega arith; identity = λ i z h. same-identity _ _ refl; settled = λ i h e. refl })
     (λ _ _ _. respond-lasts g t clock ((requestRead params) .asked) out)
 
 -- ---- no receipt twice
@@ -180,6 +180,6 @@ module _ (g : Gate) (t : Rows) (once : Distinct g t) (d : Delivered) (last : Las
 pub receipts-distinct : (g : Gate) (t : Rows) → Distinct g t → (clock params out : List ℕ) → Distinct ((deliver g t clock params out) .gate) ((deliver g t clock params out) .rows)
 receipts-distinct g t once clock params out =
     delivered-by g t clock params out (λ (d : Delivered). Distinct (d .gate) (d .rows))
-    (λ code left. once)
+    (λ code left size. once)
     (λ _ _ _. distinct-outcome g t once (respond g t clock ((requestRead params) .asked) out) (respond-lasts g t clock ((requestRead params) .asked) out)
     clock ((requestRead params) .asked) (outcome g t clock ((requestRead params) .asked) out))

@@ -228,7 +228,7 @@ module _ (g : Gate) (t : Rows) (ready : Ready g t) (good : tableGood g t ≡ tru
   delivered-again =
       let facts : Good g t = good-table g t (ready .sound .places) good in
       delivered-by g t clock params out (λ (d : Delivered). Again g (d .gate) (d .rows))
-      (λ code left. record { good = facts; names = names-same g g refl; whole = ready .whole })
+      (λ code left size. record { good = facts; names = names-same g g refl; whole = ready .whole })
       (λ _ dated none. again-outcome g t facts clock dated ((requestRead params) .asked) (read-good params none)
       (respond g t clock ((requestRead params) .asked) out) (outcome g t clock ((requestRead params) .asked) out))
 

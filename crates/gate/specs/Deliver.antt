@@ -8,7 +8,7 @@ use lib.IntN.{ℤ, pos}
 use lib.Signed.{ltZ}
 use lib.ListN.{length, getD, set}
 use Rattle.fields.specs.declared.number.Number.{Number}
-use Rattle.fields.specs.Lists.{written}
+use Rattle.fields.specs.Lists.{written, cursorAfter}
 use Rattle.fields.specs.Calendar.{upTo}
 use Rattle.fields.specs.Date.{dateDay, isWritten, emptyDate}
 use Rattle.message.specs.declared.action.Action.{Action}
@@ -211,12 +211,17 @@ answerOf a code r clock =
     }
 
 -- ---- the call
--- what a call answers and leaves: its code, the gate, the rows and the answer's buffer
+-- what a call answers and leaves: its code, the gate, the rows and the answer's buffer, whose first `size` bytes are the answer (none where nothing is written)
 pub record Delivered : Type 0 where
   pub code : ℕ
   pub gate : Gate
   pub rows : Rows
   pub out : List ℕ
+  pub size : ℕ
+
+-- nothing is written, and all is kept
+abbrev pub undelivered : ℕ → Gate → Rows → List ℕ → Delivered
+undelivered code g t out = record { code = code; gate = g; rows = t; out = out; size = 0 }
 
 abbrev pub answered : Rows → List ℕ → Action → ℕ → List ℕ → Changed → Delivered
 answered t out a code clock c =
@@ -225,6 +230,7 @@ answered t out a code clock c =
       gate = c .gate;
       rows = rowsFrom t (c .records);
       out = written out 0 (answerBytes (answerOf a code (c .subject) clock));
+      size = cursorAfter out 0 (answerBytes (answerOf a code (c .subject) clock));
     }
 
 -- a request without a fault: the decision, its change and the answer
@@ -236,17 +242,27 @@ unfoldable pub respond : Gate → Rows → List ℕ → Asked → List ℕ → D
 respond g t clock q out = respondBy g t clock q out (planOf g (recordsOf t (g .used)) (length (t .nums)) q)
 
 -- a fault of the request is answered too, and keeps the state
+abbrev pub faultAnswered : Gate → Rows → List ℕ → Action → ℕ → List ℕ → Delivered
+faultAnswered g t out a fault clock =
+    record {
+      code = fault;
+      gate = g;
+      rows = t;
+      out = written out 0 (answerBytes (answerOf a fault noRecord clock));
+      size = cursorAfter out 0 (answerBytes (answerOf a fault noRecord clock));
+    }
+
 unfoldable pub deliverRead : Gate → Rows → List ℕ → RequestRead → List ℕ → Delivered
 deliverRead g t clock q out =
     cond (eqb (q .fault) 0)
     (respond g t clock (q .asked) out)
-    (record { code = q .fault; gate = g; rows = t; out = written out 0 (answerBytes (answerOf (q .asked .action) (q .fault) noRecord clock)) })
+    (faultAnswered g t out (q .asked .action) (q .fault) clock)
 
 -- 68, 50 and 51 write nothing and keep all
 unfoldable pub deliver : Gate → Rows → List ℕ → List ℕ → List ℕ → Delivered
 deliver g t clock params out =
     cond (tableGood g t)
     (cond (leb 512 (length out))
-    (cond (isWritten clock) (deliverRead g t clock (requestRead params) out) (record { code = 51; gate = g; rows = t; out = out }))
-    (record { code = 50; gate = g; rows = t; out = out }))
-    (record { code = 68; gate = g; rows = t; out = out })
+    (cond (isWritten clock) (deliverRead g t clock (requestRead params) out) (undelivered 51 g t out))
+    (undelivered 50 g t out))
+    (undelivered 68 g t out)

@@ -15,10 +15,10 @@ use Rattle.lists.specs.Lists.{isFound}
 use Rattle.table.specs.Table.{Rows}
 use Rattle.table.specs.Accounts.{accountsOf, findAccount, balanceAt, debited, opened}
 use Rattle.table.specs.Valid.{tableGood}
-use Rattle.gate.specs.declared.opening.Reply.{Reply}
+use Rattle.gate.specs.declared.Reply.{Reply}
 
 abbrev pub replies : ℕ → Gate → Reply
-replies code g = record { code = code; gate = g }
+replies code g = record { code = code; gate = g; size = 0 }
 
 -- malformed 59, known 56, 256 accounts 57
 unfoldable pub openTo : Gate → Number → ℕ → Reply

@@ -1,4 +1,5 @@
 // Opening an account, and drawing from one.
+use crate::Reply;
 use fields::amount;
 use fields::codes;
 use fields::number::Number;
@@ -15,12 +16,6 @@ ghost use Rattle.table.specs.Valid.{Sound};
 ghost use Rattle.gate.specs.Deliver.{Within};
 ghost use Rattle.gate.specs.Opening.{openTo, openCall, drawOn, drawFrom, drawCall};
 
-// What a call answers: its code, and the gate as it leaves it.
-pub struct Reply {
-    pub code: u64,
-    pub gate: Gate,
-}
-
 // Whether number and type are well formed.
 fn is_named(n: Number, kind: u64) -> bool
     ensures { λ t. ⌜ t ≡ isNumber n && isKind kind ⌝ }
@@ -36,17 +31,30 @@ fn open_to(g: Gate, n: Number, kind: u64) -> Reply
     ensures { λ r. ⌜ r ≡ openTo g n kind ⌝ }
 {
     if !is_named(n, kind) {
-        return Reply { code: 59, gate: g };
+        return Reply {
+            code: 59,
+            gate: g,
+            size: 0,
+        };
     }
     if let Found::At(_) = accounts::find_account(g, n, kind) {
-        return Reply { code: 56, gate: g };
+        return Reply {
+            code: 56,
+            gate: g,
+            size: 0,
+        };
     }
     if 256 <= g.count {
-        return Reply { code: 57, gate: g };
+        return Reply {
+            code: 57,
+            gate: g,
+            size: 0,
+        };
     }
     Reply {
         code: 0,
         gate: accounts::open_account(g, n, kind),
+        size: 0,
     }
 }
 
@@ -62,7 +70,11 @@ pub fn open_call(
     ensures { λ r. ⌜ r ≡ openCall g (record { nums = now (nums .entry); numbers = now (numbers .entry); dates = now (dates .entry) }) n kind ⌝ }
 {
     if !valid::table_good(nums, numbers, dates, g) {
-        return Reply { code: 68, gate: g };
+        return Reply {
+            code: 68,
+            gate: g,
+            size: 0,
+        };
     }
     open_to(g, n, kind)
 }
@@ -72,17 +84,30 @@ fn draw_on(g: Gate, f: Found, kopecks: u64) -> Reply
     ensures { λ r. ⌜ r ≡ drawOn g f kopecks ⌝ }
 {
     let Found::At(a) = f else {
-        return Reply { code: 59, gate: g };
+        return Reply {
+            code: 59,
+            gate: g,
+            size: 0,
+        };
     };
     if !amount::is_amount(kopecks) {
-        return Reply { code: 58, gate: g };
+        return Reply {
+            code: 58,
+            gate: g,
+            size: 0,
+        };
     }
     if accounts::below(g, a, kopecks) {
-        return Reply { code: 58, gate: g };
+        return Reply {
+            code: 58,
+            gate: g,
+            size: 0,
+        };
     }
     Reply {
         code: 0,
         gate: accounts::debit(g, a, kopecks),
+        size: 0,
     }
 }
 
@@ -91,7 +116,11 @@ fn draw_from(g: Gate, n: Number, kind: u64, kopecks: u64) -> Reply
     ensures { λ r. ⌜ r ≡ drawFrom g n kind kopecks ⌝ }
 {
     if !is_named(n, kind) {
-        return Reply { code: 59, gate: g };
+        return Reply {
+            code: 59,
+            gate: g,
+            size: 0,
+        };
     }
     draw_on(g, accounts::find_account(g, n, kind), kopecks)
 }
@@ -109,7 +138,11 @@ pub fn draw_call(
     ensures { λ r. ⌜ r ≡ drawCall g (record { nums = now (nums .entry); numbers = now (numbers .entry); dates = now (dates .entry) }) n kind kopecks ⌝ }
 {
     if !valid::table_good(nums, numbers, dates, g) {
-        return Reply { code: 68, gate: g };
+        return Reply {
+            code: 68,
+            gate: g,
+            size: 0,
+        };
     }
     draw_from(g, n, kind, kopecks)
 }

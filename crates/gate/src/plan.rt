@@ -1,9 +1,9 @@
 // What the gate looks up for a request, and its decision.
+use crate::answering;
 use crate::decision;
 use crate::decision::Decided;
 use crate::decision::Standing;
 use crate::decision::View;
-use crate::reply;
 use fields::date;
 use fields::number::Number;
 use lists::Found;
@@ -78,7 +78,7 @@ pub(crate) fn account_of(g: Gate, q: Asked, r: Record) -> Found
     ensures { λ f. ⌜ f ≡ accountOf g q r ⌝ }
 {
     let a = q.action;
-    if reply::is_cancel(a) {
+    if answering::is_cancel(a) {
         let n = r.number;
         return accounts::find_account(g, n, r.kind);
     }
@@ -93,7 +93,11 @@ pub(crate) fn date_of(q: Asked, r: Record) -> [u8; 19]
     let a = q.action;
     let own = q.date;
     let recorded = r.date;
-    if reply::is_cancel(a) { recorded } else { own }
+    if answering::is_cancel(a) {
+        recorded
+    } else {
+        own
+    }
 }
 
 // Whether a balance is below an amount.

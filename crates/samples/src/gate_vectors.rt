@@ -7,9 +7,9 @@ use crate::world::World;
 use fields::digits;
 use fields::number::Number;
 use fields::scan;
+use gate::Reply;
 use gate::deliver;
 use gate::opening;
-use gate::opening::Reply;
 use table::Record;
 use table::rows;
 
@@ -149,10 +149,10 @@ pub fn deliver(
     dates: &mut [[[u8; 19]; 3]],
     w: World,
 ) -> World {
-    let mut out = [0u8; 512];
+    let mut out = [46u8; 512];
     let r = deliver_one(s, nums, numbers, dates, w, &mut out);
     let next = answered(w, r);
-    show_written(&out);
+    show_written(&out, r.size);
     next
 }
 
@@ -164,19 +164,23 @@ pub fn deliver_small(
     dates: &mut [[[u8; 19]; 3]],
     w: World,
 ) -> World {
-    let mut out = [0u8; 511];
+    let mut out = [46u8; 511];
     let r = deliver_one(s, nums, numbers, dates, w, &mut out);
     let next = answered(w, r);
-    show_written(&out);
+    show_written(&out, r.size);
     next
 }
 
-// What was written over zeros.
-pub fn show_written(out: &[u8]) {
-    let n = scan::find_byte(out, 0);
-    if 0 < n {
+// The bytes that were written into a buffer of points, and a word where another byte is no point any more.
+pub fn show_written(out: &[u8], size: usize) {
+    if 0 < size {
         show::text(b" ");
-        show::text(scan::first_bytes(out, n));
+        show::text(scan::first_bytes(out, size));
+    }
+    let points = [46u8; 512];
+    let lent = scan::first_bytes(&points, out.len());
+    if !scan::same_bytes(scan::bytes_from(out, size), scan::bytes_from(lent, size)) {
+        show::text(b" and more");
     }
 }
 

@@ -4,7 +4,7 @@ use crate::given;
 use crate::split;
 use crate::world;
 use crate::world::World;
-use gate::opening::Reply;
+use gate::Reply;
 use settlement::settle;
 
 // A registry, from day, clock and text, with its report in `out`.
@@ -43,10 +43,10 @@ pub fn settle(
     dates: &mut [[[u8; 19]; 3]],
     w: World,
 ) -> World {
-    let mut out = [0u8; 512];
+    let mut out = [46u8; 512];
     let r = settle_one(s, nums, numbers, dates, w, &mut out);
     let next = gate_vectors::answered(w, r);
-    gate_vectors::show_written(&out);
+    gate_vectors::show_written(&out, r.size);
     next
 }
 
@@ -58,9 +58,9 @@ pub fn settle_small(
     dates: &mut [[[u8; 19]; 3]],
     w: World,
 ) -> World {
-    let mut out = [0u8; 511];
+    let mut out = [46u8; 511];
     let r = settle_one(s, nums, numbers, dates, w, &mut out);
     let next = gate_vectors::answered(w, r);
-    gate_vectors::show_written(&out);
+    gate_vectors::show_written(&out, r.size);
     next
 }

@@ -46,9 +46,10 @@ pub record K : Type 0 where
   pub start-closed : opens .gate .closed ≡ day19
   pub start-account : findAccount account12 1 (accountsOf (opens .gate)) ≡ At 0
   pub start-balance : balanceAt (opens .gate) 0 ≡ pos 0
-  -- K1: the bytes of the answer with the rest of the buffer as it was, and the balance
+  -- K1: the bytes of the answer with the rest of the buffer as it was, how many they are, and the balance
   pub k1 : pays .code ≡ 0
   pub k1-bytes : pays .out ≡ answer1 ++ replicate 378 0
+  pub k1-size : pays .size ≡ 134
   pub k1-balance : balanceAt (pays .gate) 0 ≡ pos 1012
   -- K2: the same bytes and balance
   pub k2 : paysAgain .code ≡ 0
@@ -88,6 +89,7 @@ pub record K : Type 0 where
   -- K10: K8, registry with K1's line: `1`, balance 1012
   pub k10 : settlesLine .code ≡ 0
   pub k10-report : settlesLine .report ≡ 49 ∷ replicate 511 0
+  pub k10-size : settlesLine .size ≡ 1
   pub k10-balance : balanceAt (settlesLine .gate) 0 ≡ pos 1012
   -- K11: after K9 a new receipt of that day: 5
   pub k11 : paysLate .code ≡ 5
@@ -96,7 +98,7 @@ pub record K : Type 0 where
 
 -- every definition on the way is computed
 pub cases : K
-unfolding opens atStart pays paysAgain draws cancelsDrawn cancels paysCancelled settlesNone settlesLine paysLate settlesLater T.recordsOf TL.tab TL.firstFrom TL.allFrom A.isAccount A.findAccount VA.tableGood LE.lentWell VA.gateGood VA.accountGood VA.near VA.recordGood VA.rangesGood VA.stateGood VA.accountKnown VA.authcodeGood L.every L.eqList N.numberByte N.isNumber N.sameNumber C.leapYear C.daysIn C.isDate C.dayOf C.twoDigits C.dayPart W.clockTime W.dateDay L.find G.digitsRead G.rangeRead M.kopecksAfter M.amountRead N.isNumberText N.numberRead W.dateRead T.rowsFrom T.findRecord A.credited A.debited L.written C.dayBefore D.isFull D.nextAuthcode D.revoked deliver D.deliverRead D.respond D.planOf D.planWith D.viewOf D.dateOf D.accountOf D.isCancel D.dateClosed D.changed D.makeRecord D.answerOf D.answersAuthcode D.answersDate D.answerDate E.decision E.paymentNew E.checkCode E.cancelDone G.fixed G.decimal U.isHex U.hexValue U.wellCoded U.decoded P.splitAt MN.laterIndex MN.nameIndex MN.actionWord MN.actionOf MS.addPiece MS.gatherFrom MS.gathered MR.held MR.fieldOf MR.refused MR.firstFault MR.fieldFault MR.askedOf MR.fieldsRead MR.requestRead AN.element AN.messageOf AN.answerBytes openCall O.openTo A.opened drawCall O.drawFrom O.drawOn settle S.settleText S.settleDay S.matches S.verdictOf S.restored S.postedRecord S.applied S.settleLine S.settleLines S.anyMatches S.isStray S.sweptRecord S.sweptGate S.sweepGates S.swept S.anyDone S.reportOf RR.splitLines RR.countOf RR.lineCount RR.goodLine RR.goodLines RR.heldLines RR.registryLines RR.rising RR.registryFault RL.lineRead C.sameDay C.nextDay
+unfolding opens atStart pays paysAgain draws cancelsDrawn cancels paysCancelled settlesNone settlesLine paysLate settlesLater T.recordsOf TL.tab TL.firstFrom TL.allFrom A.isAccount A.findAccount VA.tableGood LE.lentWell VA.gateGood VA.accountGood VA.near VA.recordGood VA.rangesGood VA.stateGood VA.accountKnown VA.authcodeGood L.every L.eqList N.numberByte N.isNumber N.sameNumber C.leapYear C.daysIn C.isDate C.dayOf C.twoDigits C.dayPart W.clockTime W.dateDay L.find G.digitsRead G.rangeRead M.kopecksAfter M.amountRead N.isNumberText N.numberRead W.dateRead T.rowsFrom T.findRecord A.credited A.debited L.written L.cursorAfter C.dayBefore D.isFull D.nextAuthcode D.revoked deliver D.deliverRead D.respond D.planOf D.planWith D.viewOf D.dateOf D.accountOf D.isCancel D.dateClosed D.changed D.makeRecord D.answerOf D.answersAuthcode D.answersDate D.answerDate E.decision E.paymentNew E.checkCode E.cancelDone G.fixed G.decimal U.isHex U.hexValue U.wellCoded U.decoded P.splitAt MN.laterIndex MN.nameIndex MN.actionWord MN.actionOf MS.addPiece MS.gatherFrom MS.gathered MR.held MR.fieldOf MR.refused MR.firstFault MR.fieldFault MR.askedOf MR.fieldsRead MR.requestRead AN.element AN.messageOf AN.answerBytes openCall O.openTo A.opened drawCall O.drawFrom O.drawOn settle S.settleText S.settleDay S.matches S.verdictOf S.restored S.postedRecord S.applied S.settleLine S.settleLines S.anyMatches S.isStray S.sweptRecord S.sweptGate S.sweepGates S.swept S.anyDone S.reportOf RR.splitLines RR.countOf RR.lineCount RR.goodLine RR.goodLines RR.heldLines RR.registryLines RR.rising RR.registryFault RL.lineRead C.sameDay C.nextDay
 cases =
     record {
       opening = refl;
@@ -105,6 +107,7 @@ cases =
       start-balance = refl;
       k1 = refl;
       k1-bytes = refl;
+      k1-size = refl;
       k1-balance = refl;
       k2 = refl;
       k2-bytes = refl;
@@ -134,6 +137,7 @@ cases =
       k9-balance = refl;
       k10 = refl;
       k10-report = refl;
+      k10-size = refl;
       k10-balance = refl;
       k11 = refl;
       k12 = refl;

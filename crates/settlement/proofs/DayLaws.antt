@@ -35,11 +35,12 @@ module _ (g : Gate) (t : Rows) (clock : List ℕ) (day : Day) (xs : List Line) (
       ∙ ap (λ (y : Rows). rowsFrom y (recordsOf t₂ (b .used))) one
       ∙ from-from t (recordsOf t₁ (a .used)) (recordsOf t₂ (b .used)) (omega (arith, as-many))
 
-  pub day-settled : (out′ : List ℕ) → out′ ≡ over out 0 (reportOf xs (recordsOf t₂ (b .used)))
-      → _≡_ {A = Settled} (record { code = 0; gate = withClosed b day; rows = t₂; report = out′ }) (settleDay g t clock day xs out)
+  pub day-settled : (out′ : List ℕ) → out′ ≡ over out 0 (reportOf xs (recordsOf t₂ (b .used))) → (n : ℕ) → n ≡ length xs
+      → _≡_ {A = Settled} (record { code = 0; gate = withClosed b day; rows = t₂; report = out′; size = n }) (settleDay g t clock day xs out)
   unfolding settleDay
-  day-settled out′ e =
+  day-settled out′ e n en =
       rw (is₁, is₂)
-      (ap (λ (y : Rows). record { code = 0; gate = withClosed b day; rows = y; report = out′ }) rows-are
-      ∙ ap (λ (y : List ℕ). record { code = 0; gate = withClosed b day; rows = rowsFrom t (recordsOf t₂ (b .used)); report = y })
+      (ap (λ (y : Rows). record { code = 0; gate = withClosed b day; rows = y; report = out′; size = n }) rows-are
+      ∙ ap (λ (k : ℕ). record { code = 0; gate = withClosed b day; rows = rowsFrom t (recordsOf t₂ (b .used)); report = out′; size = k }) en
+      ∙ ap (λ (y : List ℕ). record { code = 0; gate = withClosed b day; rows = rowsFrom t (recordsOf t₂ (b .used)); report = y; size = length xs })
       (e ∙ report-written xs (recordsOf t₂ (b .used)) out few room))

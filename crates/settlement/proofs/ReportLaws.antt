@@ -74,3 +74,17 @@ module _ (s : List ℕ) (rs : List Record) (d₀ d : List ℕ) (n at : ℕ)
       unfolding reportOf
       report-on x read y ey b eb =
           left ∙ rw (first-line s at e here ends x read h, ← ey, ← eb) (over-step d n b (reportOf (registryLines (drop (e + 2) s)) rs) report-place)
+
+-- ---- the same loop's count
+module _ (s : List ℕ) (n at : ℕ) (counted : length (registryLines s) ≡ n + length (registryLines (drop at s))) where
+  pub count-end : length s ≤ at → n ≡ length (registryLines s)
+  count-end h = let z : length (registryLines (drop at s)) ≡ 0 = ap length (none-left s at h) in omega arith
+
+  module _ (e : ℕ) (here : at < length s) (ends : e ≡ at + lineEnd (drop at s)) where
+    pub count-rest : length s ≤ e → n ≡ length (registryLines s)
+    count-rest h = let z : length (registryLines (drop at s)) ≡ 0 = ap length (no-line-left s at e here ends h) in omega arith
+
+    pub count-on : e < length s → (x : LineRead) → x ≡ lineRead (take (lineEnd (drop at s)) (drop at s)) → length (registryLines s) ≡ n + 1 + length (registryLines (drop (e + 2) s))
+    count-on h x read =
+        let z : length (registryLines (drop at s)) ≡ suc (length (registryLines (drop (e + 2) s))) = ap length (first-line s at e here ends x read h) in
+        omega arith

@@ -34,7 +34,7 @@ use Rattle.table.proofs.TableLaws.{length-records, getD-records, from-at, recor
 use borrow.Author.Tests.{leb-true, eqb-true, eqb-false}
 use Rattle.gate.specs.Deliver.{noRecord, revoked, creditedAt, debitedAt, isFull}
 use Rattle.gate.proofs.RecordsLaws.{debit-used}
-use Rattle.settlement.specs.Settle.{matches, isDone, Verdict, Keeps, Restores, Posts, Unposted, postVerdict, matchVerdict, verdictOf, restored, postedRecord, Ledger, applied, settleLine, settleLines, anyMatches, isStray, sweptRecord, sweptGate, sweepGates, swept, anyDone, reportOf, Settled, settleDay, settleText, settle}
+use Rattle.settlement.specs.Settle.{matches, isDone, Verdict, Keeps, Restores, Posts, Unposted, postVerdict, matchVerdict, verdictOf, restored, postedRecord, Ledger, applied, settleLine, settleLines, anyMatches, isStray, sweptRecord, sweptGate, sweepGates, swept, anyDone, reportOf, Settled, unsettled, reported, settleDay, settleText, settle}
 
 true-not-false : true ≡ false → ⊥
 true-not-false e = let z : _≡_ {A = ℕ} 0 1 = cc in absurd (omega arith)
@@ -232,13 +232,7 @@ pub record Passed (g : Gate) (t : Rows) (day : Day) (text out : List ℕ) : Type
   pub faultless : registryFault day text ≡ 0
 
 module _ (g : Gate) (t : Rows) (clock : List ℕ) (day : Day) (text out : List ℕ) where
-  abbrev refusal : ℕ → Settled
-  refusal code = record { code = code; gate = g; rows = t; report = out }
-
-  abbrev reported : Settled
-  reported = record { code = 0; gate = g; rows = t; report = written out 0 (reportOf (registryLines text) (recordsOf t (g .used))) }
-
-  pub settled-by : (P : Settled → Type 0) → ((code : ℕ) → (code ≡ 0 → ⊥) → P (refusal code)) → (Passed g t day text out → onDay day (nextDay (g .closed)) ≡ false → P reported)
+  pub settled-by : (P : Settled → Type 0) → ((code : ℕ) → (code ≡ 0 → ⊥) → P (unsettled code g t out)) → (Passed g t day text out → onDay day (nextDay (g .closed)) ≡ false → P (reported g t (registryLines text) out))
       → (Passed g t day text out → onDay day (nextDay (g .closed)) ≡ true → P (settleDay g t clock day (registryLines text) out))
       → P (settle g t clock day text out)
   unfolding settle settleText
@@ -262,12 +256,13 @@ module _ (g : Gate) (t : Rows) (clock : List ℕ) (day : Day) (text out : List �
     pub gates : d .gate ≡ g
     pub tables : d .rows ≡ t
     pub buffer : d .report ≡ out
+    pub empty : d .size ≡ 0
 
   pub fault-keeps : ((settle g t clock day text out) .code ≡ 0 → ⊥) → Kept (settle g t clock day text out)
   unfolding settleDay
   fault-keeps =
       settled-by (λ (d : Settled). (d .code ≡ 0 → ⊥) → Kept d)
-      (λ code _ _. record { gates = refl; tables = refl; buffer = refl })
+      (λ code _ _. record { gates = refl; tables = refl; buffer = refl; empty = refl })
       (λ _ _ n. absurd (n refl))
       (λ _ _ n. absurd (n refl))
 

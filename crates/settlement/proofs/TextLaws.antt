@@ -59,40 +59,40 @@ module _ (g : Gate) (t : Rows) (clock : List ℕ) (day : Day) (s out : List ℕ)
   text-next h d e = e ∙ rw (← en, h)
 
   module _ (h : n ≡ false) (rows : Rows) (er : rows ≡ t) (v : Bool) (ev : v ≡ isDay day) where
-    pub text-no-date : not v ≡ true → (left : List ℕ) → left ≡ out → _≡_ {A = Settled} (record { code = 55; gate = g; rows = rows; report = left }) (settleText g t clock day s out)
+    pub text-no-date : not v ≡ true → (left : List ℕ) → left ≡ out → _≡_ {A = Settled} (record { code = 55; gate = g; rows = rows; report = left; size = 0 }) (settleText g t clock day s out)
     unfolding settleText
     text-no-date c left el = rw (← en, h, ← ev, not-true v c, er, el)
 
     module _ (c : not v ≡ false) (b : Bool) (eb : b ≡ dayBefore (g .closed) day) where
-      pub text-later : b ≡ true → (left : List ℕ) → left ≡ out → _≡_ {A = Settled} (record { code = 55; gate = g; rows = rows; report = left }) (settleText g t clock day s out)
+      pub text-later : b ≡ true → (left : List ℕ) → left ≡ out → _≡_ {A = Settled} (record { code = 55; gate = g; rows = rows; report = left; size = 0 }) (settleText g t clock day s out)
       unfolding settleText
       text-later y left el = rw (← en, h, ← ev, not-false v c, ← eb, y, er, el)
 
       pub text-reported : b ≡ false → length (registryLines s) ≤ 512 → 512 ≤ length out → (left : List ℕ) → left ≡ over out 0 (reportOf (registryLines s) (recordsOf t (g .used)))
-          → _≡_ {A = Settled} (record { code = 0; gate = g; rows = rows; report = left }) (settleText g t clock day s out)
+          → (k : ℕ) → k ≡ length (registryLines s) → _≡_ {A = Settled} (record { code = 0; gate = g; rows = rows; report = left; size = k }) (settleText g t clock day s out)
       unfolding settleText
-      text-reported y few room left el =
+      text-reported y few room left el k ek =
           let w = el ∙ report-written (registryLines s) (recordsOf t (g .used)) out few room in
-          rw (← en, h, ← ev, not-false v c, ← eb, y, er, w)
+          rw (← en, h, ← ev, not-false v c, ← eb, y, er, w, ek)
 
 -- ---- the call
 module _ (g : Gate) (t : Rows) (clock : List ℕ) (day : Day) (s out : List ℕ) (b : Bool) (eb : b ≡ tableGood g t) where
   module _ (rows : Rows) (er : rows ≡ t) (left : List ℕ) (el : left ≡ out) where
-    pub settle-not-table : not b ≡ true → _≡_ {A = Settled} (record { code = 68; gate = g; rows = rows; report = left }) (settle g t clock day s out)
+    pub settle-not-table : not b ≡ true → _≡_ {A = Settled} (record { code = 68; gate = g; rows = rows; report = left; size = 0 }) (settle g t clock day s out)
     unfolding settle
     settle-not-table h = rw (← eb, not-true b h, er, el)
 
     module _ (h : not b ≡ false) where
-      pub settle-no-room : length out < 512 → _≡_ {A = Settled} (record { code = 50; gate = g; rows = rows; report = left }) (settle g t clock day s out)
+      pub settle-no-room : length out < 512 → _≡_ {A = Settled} (record { code = 50; gate = g; rows = rows; report = left; size = 0 }) (settle g t clock day s out)
       unfolding settle
       settle-no-room l = rw (← eb, not-false b h, lt-leb _ _ l, er, el)
 
       module _ (l : 512 ≤ length out) (w : Bool) (ew : w ≡ isWritten clock) where
-        pub settle-no-clock : not w ≡ true → _≡_ {A = Settled} (record { code = 51; gate = g; rows = rows; report = left }) (settle g t clock day s out)
+        pub settle-no-clock : not w ≡ true → _≡_ {A = Settled} (record { code = 51; gate = g; rows = rows; report = left; size = 0 }) (settle g t clock day s out)
         unfolding settle
         settle-no-clock n = rw (← eb, not-false b h, le-leb _ _ l, ← ew, not-true w n, er, el)
 
-        pub settle-fault : not w ≡ false → (f : ℕ) → f ≡ registryFault day s → (f ≡ 0 → ⊥) → _≡_ {A = Settled} (record { code = f; gate = g; rows = rows; report = left }) (settle g t clock day s out)
+        pub settle-fault : not w ≡ false → (f : ℕ) → f ≡ registryFault day s → (f ≡ 0 → ⊥) → _≡_ {A = Settled} (record { code = f; gate = g; rows = rows; report = left; size = 0 }) (settle g t clock day s out)
         unfolding settle
         settle-fault n f ef z = rw (← eb, not-false b h, le-leb _ _ l, ← ew, not-false w n, ← ef, ne-eqb _ _ z, er, el)
 

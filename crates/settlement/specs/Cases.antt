@@ -8,7 +8,7 @@ use Rattle.fields.specs.declared.number.Number.{Number}
 use Rattle.fields.specs.Number.{numberOf}
 use Rattle.table.specs.declared.Gate.{Gate}
 use Rattle.table.specs.Table.{Rows}
-use Rattle.gate.specs.declared.opening.Reply.{Reply}
+use Rattle.gate.specs.declared.Reply.{Reply}
 use Rattle.gate.specs.Deliver.{Delivered, deliver}
 use Rattle.gate.specs.Opening.{openCall, drawCall}
 use Rattle.settlement.specs.Settle.{Settled, settle}

@@ -138,26 +138,42 @@ reportOf [] rs = []
 reportOf (x ∷ xs) rs = cond (anyDone x rs) 49 48 ∷ reportOf xs rs
 
 -- ---- the call
+-- what it answers and leaves; the first `size` bytes of the buffer are the report, none with a fault
 pub record Settled : Type 0 where
   pub code : ℕ
   pub gate : Gate
   pub rows : Rows
   pub report : List ℕ
+  pub size : ℕ
+
+abbrev pub unsettled : ℕ → Gate → Rows → List ℕ → Settled
+unsettled code g t out = record { code = code; gate = g; rows = t; report = out; size = 0 }
 
 -- the next day: settled, then closed
 unfoldable pub settleDay : Gate → Rows → List ℕ → Day → List Line → List ℕ → Settled
 settleDay g t clock day xs out =
     let l = swept clock day xs (settleLines clock (length (t .nums)) xs (record { gate = g; records = recordsOf t (g .used) })) in
-    record { code = 0; gate = withClosed (l .gate) day; rows = rowsFrom t (l .records); report = written out 0 (reportOf xs (l .records)) }
+    record {
+      code = 0;
+      gate = withClosed (l .gate) day;
+      rows = rowsFrom t (l .records);
+      report = written out 0 (reportOf xs (l .records));
+      size = length xs;
+    }
 
--- an earlier day is only reported; one that is further on, or none, is 55
+-- an earlier day is only reported
+abbrev pub reported : Gate → Rows → List Line → List ℕ → Settled
+reported g t xs out =
+    record { code = 0; gate = g; rows = t; report = written out 0 (reportOf xs (recordsOf t (g .used))); size = length xs }
+
+-- one that is further on, or none, is 55
 unfoldable pub settleText : Gate → Rows → List ℕ → Day → List ℕ → List ℕ → Settled
 settleText g t clock day text out =
     cond (onDay day (nextDay (g .closed)))
     (settleDay g t clock day (registryLines text) out)
     (cond (isDay day && not (dayBefore (g .closed) day))
-    (record { code = 0; gate = g; rows = t; report = written out 0 (reportOf (registryLines text) (recordsOf t (g .used))) })
-    (record { code = 55; gate = g; rows = t; report = out }))
+    (reported g t (registryLines text) out)
+    (unsettled 55 g t out))
 
 -- 68, 50, 51, then 53, 52, 54 of the text, then 55
 unfoldable pub settle : Gate → Rows → List ℕ → Day → List ℕ → List ℕ → Settled
@@ -165,7 +181,7 @@ settle g t clock day text out =
     cond (tableGood g t)
     (cond (leb 512 (length out))
     (cond (isWritten clock)
-    (cond (eqb (registryFault day text) 0) (settleText g t clock day text out) (record { code = registryFault day text; gate = g; rows = t; report = out }))
-    (record { code = 51; gate = g; rows = t; report = out }))
-    (record { code = 50; gate = g; rows = t; report = out }))
-    (record { code = 68; gate = g; rows = t; report = out })
+    (cond (eqb (registryFault day text) 0) (settleText g t clock day text out) (unsettled (registryFault day text) g t out))
+    (unsettled 51 g t out))
+    (unsettled 50 g t out))
+    (unsettled 68 g t out)

@@ -3,6 +3,7 @@ use crate::lines;
 use crate::report;
 use crate::sweeping;
 use fields::calendar::Day;
+use gate::Reply;
 use table::Gate;
 ghost use mathlib.Core.Path.{_≡_};
 ghost use Prim.Native.Nat.{_≤_};
@@ -22,17 +23,21 @@ pub(crate) fn settle_day(
     day: Day,
     s: &[u8],
     out: &mut [u8],
-) -> Gate
+) -> Reply
     requires { ⌜ Held g (record { nums = now nums; numbers = now numbers; dates = now dates }) 10000000000000 ⌝ }
     requires { ⌜ (lineCount (now s) ≤ 512) × (length (registryLines (now s)) ≤ 512) × (512 ≤ length (now out)) ⌝ }
     ensures { λ r. ⌜ _≡_ {A = Settled}
-        (record { code = 0; gate = r; rows = record { nums = now (nums .exit); numbers = now (numbers .exit); dates = now (dates .exit) }; report = now (out .exit) })
+        (record { code = r .code; gate = r .gate; rows = record { nums = now (nums .exit); numbers = now (numbers .exit); dates = now (dates .exit) }; report = now (out .exit); size = r .size })
         (settleDay g (record { nums = now (nums .entry); numbers = now (numbers .entry); dates = now (dates .entry) }) clock day (registryLines (now (s .entry))) (now (out .entry))) ⌝ }
 {
     let a = lines::settle_lines(nums, numbers, dates, g, clock, s);
     let b = sweeping::sweep(nums, numbers, dates, a, clock, day, s);
-    report::write_report(nums, numbers, dates, b.used, s, out);
+    let size = report::write_report(nums, numbers, dates, b.used, s, out);
     let mut next = b;
     next.closed = day;
-    next
+    Reply {
+        code: 0,
+        gate: next,
+        size,
+    }
 }

@@ -53,7 +53,7 @@ pub(crate) fn mark(done: bool) -> u8
     if done { 49 } else { 48 }
 }
 
-// Writes the report of the lines of a text.
+// Writes the report of the lines of a text, and tells its length.
 pub(crate) fn write_report(
     nums: &[[u64; 6]],
     numbers: &[[u8; 30]],
@@ -61,8 +61,9 @@ pub(crate) fn write_report(
     used: usize,
     s: &[u8],
     out: &mut [u8],
-)
+) -> usize
     requires { ⌜ (used ≤ length (now nums)) × (used ≤ length (now numbers)) × (used ≤ length (now dates)) × (lineCount (now s) ≤ length (now out)) ⌝ }
+    ensures { λ r. ⌜ r ≡ length (registryLines (now (s .entry))) ⌝ }
     ensures { λ _. ⌜ now (out .exit) ≡ over (now (out .entry)) 0 (reportOf (registryLines (now (s .entry))) (recordsOf (record { nums = now (nums .entry); numbers = now (numbers .entry); dates = now (dates .entry) }) used)) ⌝ }
 {
     let mut n: usize = 0;
@@ -70,7 +71,7 @@ pub(crate) fn write_report(
     while at < s.len() {
         let e = text::end_of_line(s, at);
         if s.len() <= e {
-            return;
+            return n;
         }
         let read = text::line_at(s, at);
         let x = read.line;
@@ -78,4 +79,5 @@ pub(crate) fn write_report(
         n += 1;
         at = e + 2;
     }
+    n
 }

@@ -3,7 +3,7 @@ use crate::closing;
 use crate::report;
 use fields::calendar::Day;
 use fields::date;
-use gate::opening::Reply;
+use gate::Reply;
 use registry::text;
 use table::Gate;
 use table::valid;
@@ -29,26 +29,34 @@ pub(crate) fn settle_text(
     requires { ⌜ Held g (record { nums = now nums; numbers = now numbers; dates = now dates }) 10000000000000 ⌝ }
     requires { ⌜ (lineCount (now s) ≤ 512) × (length (registryLines (now s)) ≤ 512) × (512 ≤ length (now out)) ⌝ }
     ensures { λ r. ⌜ _≡_ {A = Settled}
-        (record { code = r .code; gate = r .gate; rows = record { nums = now (nums .exit); numbers = now (numbers .exit); dates = now (dates .exit) }; report = now (out .exit) })
+        (record { code = r .code; gate = r .gate; rows = record { nums = now (nums .exit); numbers = now (numbers .exit); dates = now (dates .exit) }; report = now (out .exit); size = r .size })
         (settleText g (record { nums = now (nums .entry); numbers = now (numbers .entry); dates = now (dates .entry) }) clock day (now (s .entry)) (now (out .entry))) ⌝ }
 {
     let closed = g.closed;
     if day.follows(closed) {
-        let next = closing::settle_day(nums, numbers, dates, g, clock, day, s, out);
-        return Reply {
-            code: 0,
-            gate: next,
-        };
+        return closing::settle_day(nums, numbers, dates, g, clock, day, s, out);
     }
     if !day.is_valid() {
-        return Reply { code: 55, gate: g };
+        return Reply {
+            code: 55,
+            gate: g,
+            size: 0,
+        };
     }
     if closed.before(day) {
-        return Reply { code: 55, gate: g };
+        return Reply {
+            code: 55,
+            gate: g,
+            size: 0,
+        };
     }
     let used = g.used;
-    report::write_report(nums, numbers, dates, used, s, out);
-    Reply { code: 0, gate: g }
+    let size = report::write_report(nums, numbers, dates, used, s, out);
+    Reply {
+        code: 0,
+        gate: g,
+        size,
+    }
 }
 
 // Settles a day by its registry, or only reports it; a fault keeps all.
@@ -63,23 +71,36 @@ pub fn settle(
     out: &mut [u8],
 ) -> Reply
     ensures { λ r. ⌜ _≡_ {A = Settled}
-        (record { code = r .code; gate = r .gate; rows = record { nums = now (nums .exit); numbers = now (numbers .exit); dates = now (dates .exit) }; report = now (out .exit) })
+        (record { code = r .code; gate = r .gate; rows = record { nums = now (nums .exit); numbers = now (numbers .exit); dates = now (dates .exit) }; report = now (out .exit); size = r .size })
         (settle g (record { nums = now (nums .entry); numbers = now (numbers .entry); dates = now (dates .entry) }) clock day (now (s .entry)) (now (out .entry))) ⌝ }
 {
     if !valid::table_good(nums, numbers, dates, g) {
-        return Reply { code: 68, gate: g };
+        return Reply {
+            code: 68,
+            gate: g,
+            size: 0,
+        };
     }
     if out.len() < 512 {
-        return Reply { code: 50, gate: g };
+        return Reply {
+            code: 50,
+            gate: g,
+            size: 0,
+        };
     }
     if !date::is_written(clock) {
-        return Reply { code: 51, gate: g };
+        return Reply {
+            code: 51,
+            gate: g,
+            size: 0,
+        };
     }
     let fault = text::check_registry(day, s);
     if fault != 0 {
         return Reply {
             code: fault,
             gate: g,
+            size: 0,
         };
     }
     settle_text(nums, numbers, dates, g, clock, day, s, out)

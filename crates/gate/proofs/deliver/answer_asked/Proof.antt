@@ -20,9 +20,11 @@ returns c =
     let t′ : Rows = record { nums = m .make-change .last .0; numbers = m .make-change .last .1 .0; dates = m .make-change .last .1 .1 .0 } in
     asked-answered (s .args .g) t (s .args .clock) (s .args .q) (s .args .out .now) (p .make-plan .result) (m .make-change .result .gate) (m .make-change .result .subject) t′ (x .answer-of .result)
     (w .write-answer .last .1 .0)
+    (w .write-answer .result)
     (p .make-plan .ensures)
     (m .make-change .ensures)
     (x .answer-of .ensures)
+    (w .write-answer .ensures .0)
     (w .write-answer .ensures .1)
 
 pub answer-asked-spec : {M : Type 1} → statement M

@@ -1,19 +1,18 @@
 use borrow.Author.Needs.{needs}
 use mathlib.Core.Path.{sym, _∙_}
 use borrow.Author.Tests.{not-false}
-use Rattle.gate.proofs.DeliverLaws.{not-table, no-room, no-clock, read-refused, read-answered, asked-amount}
+use Rattle.gate.proofs.DeliverLaws.{not-table, no-room, no-clock, read-done, asked-amount}
 use Rattle.gate.proofs.deliver.deliver.Statement.{statement}
 use Rattle.gate.proofs.deliver.deliver.Tie as tie
 
-answer-asked-requires : tie.Need-answer-asked-requires
-answer-asked-requires c κs =
-    let r = c .before .before .before .before .before .before .before in
-    let e = r .before .before .before .before in
+answer-read-requires : tie.Need-answer-read-requires
+answer-read-requires c κs =
+    let e = c .before .before .before .before .before .before .before .before in
     let k = e .before in
     let y = not-false (k .table-good .result) (e .if1 .left) in
     (k .table-good .ensures .1 y, (sym (k .table-good .ensures .0) ∙ y, search (asked-amount, needs)))
 
-ruleset laws = (not-table, no-room, no-clock, read-refused, read-answered, needs)
+ruleset laws = (not-table, no-room, no-clock, read-done, needs)
 
 pub deliver-spec : {M : Type 1} → statement M
 deliver-spec =
@@ -34,13 +33,7 @@ deliver-spec =
     (λ c. search laws)
     (λ c. search laws)
     (λ c κs. search laws)
-    (λ c κs. search laws)
-    (λ c. search laws)
-    (λ c. search laws)
-    (λ c. search laws)
-    (λ c. search laws)
-    (λ c. search laws)
-    answer-asked-requires
+    answer-read-requires
     (λ c. search laws)
     (λ c. search laws)
     (λ c. search laws)

@@ -19,7 +19,7 @@ returns c =
     let w = r .before .before .before .before .before .before .before .before in
     let l = w .before .before .before .before .before .before .before in
     let s = l .before .before .before .before .before .before in
-    day-settled _ _ _ _ _ _ (s .pre .1 .1) (s .pre .1 .2) _ _ (l .settle-lines .ensures .0) (l .settle-lines .ensures .1 .1) _ _ (w .sweep .ensures .0) (w .sweep .ensures .1 .1) _ (r .write-report .ensures)
+    day-settled _ _ _ _ _ _ (s .pre .1 .1) (s .pre .1 .2) _ _ (l .settle-lines .ensures .0) (l .settle-lines .ensures .1 .1) _ _ (w .sweep .ensures .0) (w .sweep .ensures .1 .1) _ (r .write-report .ensures .1) _ (r .write-report .ensures .0)
 
 pub settle-day-spec : {M : Type 1} → statement M
 settle-day-spec =

@@ -1,5 +1,5 @@
 use borrow.Author.Needs.{needs}
-use Rattle.settlement.proofs.ReportLaws.{report-end, report-rest, report-place, report-room, report-on}
+use Rattle.settlement.proofs.ReportLaws.{report-end, report-rest, report-place, report-room, report-on, count-end, count-rest, count-on}
 use Rattle.settlement.proofs.LinesLaws.{next-in}
 use native.Mathlib.Nat.{zero-add}
 use Prim.Native.Nat.{_≤_, _-_, _+_}
@@ -16,12 +16,13 @@ abbrev Inv-loop : tie.InvT-loop
 Inv-loop nums numbers dates used s out₀ n₀ at₀ out n at =
     let rs = recordsOf (record { nums = nums; numbers = numbers; dates = dates }) used in
     (at ≤ length s) × (length out ≡ length out₀) × (n + lineCount (drop at s) ≤ length out)
+    × (length (registryLines s) ≡ n + length (registryLines (drop at s)))
     × (over out₀ 0 (reportOf (registryLines s) rs) ≡ over out n (reportOf (registryLines (drop at s)) rs))
 
 abbrev μ-loop : tie.MeasureT-loop
 μ-loop nums numbers dates used s out₀ n₀ at₀ out n at = length s - at
 
-ruleset laws = (report-end, report-rest, report-place, report-room, report-on, next-in, zero-add, needs)
+ruleset laws = (report-end, report-rest, report-place, report-room, report-on, count-end, count-rest, count-on, next-in, zero-add, needs)
 
 pub write-report-spec : {M : Type 1} → statement M
 write-report-spec =

@@ -1,7 +1,7 @@
 use borrow.Author.Needs.{needs}
-use Rattle.gate.proofs.ReplyLaws.{answer-is}
-use Rattle.gate.proofs.reply.answer_of.Statement.{statement}
-use Rattle.gate.proofs.reply.answer_of.Tie as tie
+use Rattle.gate.proofs.AnsweringLaws.{answer-is}
+use Rattle.gate.proofs.answering.answer_of.Statement.{statement}
+use Rattle.gate.proofs.answering.answer_of.Tie as tie
 
 ruleset laws = (answer-is, needs)
 

@@ -1,8 +1,8 @@
 use borrow.Author.Needs.{needs}
-use Rattle.gate.proofs.ReplyLaws.{authcode-at}
+use Rattle.gate.proofs.AnsweringLaws.{authcode-at}
 use Rattle.gate.specs.Deliver.{answersAuthcode}
-use Rattle.gate.proofs.reply.answers_authcode.Statement.{statement}
-use Rattle.gate.proofs.reply.answers_authcode.Tie as tie
+use Rattle.gate.proofs.answering.answers_authcode.Statement.{statement}
+use Rattle.gate.proofs.answering.answers_authcode.Tie as tie
 
 ruleset laws = (authcode-at, needs)
 

@@ -1,7 +1,7 @@
 use borrow.Author.Needs.{needs}
-use Rattle.gate.proofs.ReplyLaws.{date-7, date-other, date-cancel, date-credit}
-use Rattle.gate.proofs.reply.answer_date.Statement.{statement}
-use Rattle.gate.proofs.reply.answer_date.Tie as tie
+use Rattle.gate.proofs.AnsweringLaws.{date-7, date-other, date-cancel, date-credit}
+use Rattle.gate.proofs.answering.answer_date.Statement.{statement}
+use Rattle.gate.proofs.answering.answer_date.Tie as tie
 
 ruleset laws = (date-7, date-other, date-cancel, date-credit, needs)
 

@@ -1,7 +1,7 @@
 use borrow.Author.Needs.{needs}
-use Rattle.gate.proofs.ReplyLaws.{settled-0, settled-7, settled-not}
-use Rattle.gate.proofs.reply.is_settled.Statement.{statement}
-use Rattle.gate.proofs.reply.is_settled.Tie as tie
+use Rattle.gate.proofs.AnsweringLaws.{settled-0, settled-7, settled-not}
+use Rattle.gate.proofs.answering.is_settled.Statement.{statement}
+use Rattle.gate.proofs.answering.is_settled.Tie as tie
 
 ruleset laws = (settled-0, settled-7, settled-not, needs)
 

@@ -1,8 +1,8 @@
 use borrow.Author.Needs.{needs}
-use Rattle.gate.proofs.ReplyLaws.{cancel-at}
+use Rattle.gate.proofs.AnsweringLaws.{cancel-at}
 use Rattle.gate.specs.Deliver.{isCancel}
-use Rattle.gate.proofs.reply.is_cancel.Statement.{statement}
-use Rattle.gate.proofs.reply.is_cancel.Tie as tie
+use Rattle.gate.proofs.answering.is_cancel.Statement.{statement}
+use Rattle.gate.proofs.answering.is_cancel.Tie as tie
 
 ruleset laws = (cancel-at, needs)
 

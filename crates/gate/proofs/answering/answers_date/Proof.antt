@@ -1,8 +1,8 @@
 use borrow.Author.Needs.{needs}
-use Rattle.gate.proofs.ReplyLaws.{dated-at}
+use Rattle.gate.proofs.AnsweringLaws.{dated-at}
 use Rattle.gate.specs.Deliver.{answersDate}
-use Rattle.gate.proofs.reply.answers_date.Statement.{statement}
-use Rattle.gate.proofs.reply.answers_date.Tie as tie
+use Rattle.gate.proofs.answering.answers_date.Statement.{statement}
+use Rattle.gate.proofs.answering.answers_date.Tie as tie
 
 ruleset laws = (dated-at, needs)
 
