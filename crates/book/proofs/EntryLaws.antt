@@ -2,11 +2,12 @@
 use mathlib.Core.Path.{_≡_, refl, sym, ap, _∙_}
 use mathlib.Core.Logic.{_≢_}
 use mathlib.Core.List.{List, [], _∷_, _++_, map}
-use Prim.Native.Nat.{ℕ, _+_, _-_, _<_, _≤_}
+use Prim.Native.Nat.{ℕ, suc, _+_, _-_, _<_, _≤_}
+use native.Mathlib.Numerals.{add-one}
 use native.Mathlib.Omega.{arith}
 use borrow.Author.Count.{below-none, below-more}
 use lib.ListN.{length, take, drop, getD, set, length-set, length-append, take-append-drop}
-use lib.Seq.{getD-set-same, getD-set-other, ext-getD}
+use lib.Seq.{drop-cons, getD-set-same, getD-set-other, ext-getD}
 use Rattle.lists.specs.Lists.{tab}
 use Rattle.lists.proofs.ListLaws.{length-tab, getD-tab, map-tab, tab-same, tab-take, list-six}
 use Rattle.lists.proofs.ColumnLaws.{tab-put, tab-add, column-back, column-more, column-set, column-next, column-at, column-size}
@@ -58,6 +59,14 @@ length-entries t n = length-tab n (entryAt t)
 pub getD-entries : (t : BookRows) (n i : ℕ) (z : Entry) → i < n → getD (entriesOf t n) i z ≡ entryAt t i
 unfolding entriesOf
 getD-entries t n i z h = getD-tab n (entryAt t) i z h
+
+-- what is left of the entries at i
+pub entries-rest : (t : BookRows) (n i : ℕ) (e : Entry) → i < n → e ≡ entryAt t i → drop i (entriesOf t n) ≡ e ∷ drop (i + 1) (entriesOf t n)
+entries-rest t n i e h is =
+    let l : i < length (entriesOf t n) = omega (arith, length-entries t n) in
+    drop-cons (entriesOf t n) i e l
+    ∙ ap (λ (x : Entry). x ∷ drop (suc i) (entriesOf t n)) (getD-entries t n i e h ∙ sym is)
+    ∙ ap (λ (k : ℕ). e ∷ drop k (entriesOf t n)) (sym (add-one i))
 
 -- ---- rows from a list of entries
 module _ (t : BookRows) (n : ℕ) (w : WholeBook t n) where

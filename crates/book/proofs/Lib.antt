@@ -2,3 +2,4 @@ pub mod EntryLaws
 pub mod CountLaws
 pub mod ValidLaws
 pub mod BookLaws
+pub mod PaymentLaws

@@ -1,6 +1,5 @@
 -- Laws of a day's registry: which entries it lists, how long it is, and how it is written.
 use Prim.Native.Nat.{ℕ, suc, _+_, _*_, _<_, _≤_}
-use native.Mathlib.Numerals.{add-one}
 use native.Mathlib.Nat.{add-zero}
 use native.Mathlib.Omega.{arith}
 use mathlib.Core.Path.{_≡_, sym, ap, _∙_}
@@ -8,7 +7,6 @@ use mathlib.Core.Bool.{Bool, true, false, cond, not, _&&_}
 use mathlib.Core.List.{List, [], _∷_, _++_, map}
 use lib.Dec.{eqb}
 use lib.ListN.{length, drop, length-append, drop-of-length-le}
-use lib.Seq.{drop-cons}
 use borrow.Author.Tests.{le-leb, lt-leb, not-true, not-false}
 use Rattle.fields.specs.declared.calendar.Day.{Day}
 use Rattle.fields.specs.Lists.{written, cursorAfter}
@@ -28,7 +26,7 @@ use Rattle.book.specs.declared.Book.{Book}
 use Rattle.book.specs.declared.Entry.{Entry}
 use Rattle.book.specs.Entries.{BookRows, entryAt, entriesOf}
 use Rattle.book.specs.BookValid.{entryFields, inTurn, entryGood, dayCount, daysGood, bookLent, bookHead, bookGood}
-use Rattle.book.proofs.EntryLaws.{length-entries, getD-entries}
+use Rattle.book.proofs.EntryLaws.{length-entries, entries-rest}
 use Rattle.book.proofs.BookLaws.{good-book}
 use Rattle.daybook.specs.Freezing.{isListed, listed, entryLine, registryOf, Listed, unlisted, listOn, writeRegistry}
 
@@ -96,20 +94,13 @@ module _ (b : Book) (t : BookRows) (day : Day) where
   abbrev es : List Entry
   es = entriesOf t (b .used)
 
-  rest-is : (i : ℕ) (e : Entry) → i < b .used → e ≡ entryAt t i → drop i es ≡ e ∷ drop (i + 1) es
-  rest-is i e h is =
-      let l : i < length es = omega (arith, length-entries t (b .used)) in
-      drop-cons es i e l
-      ∙ ap (λ (x : Entry). x ∷ drop (suc i) es) (getD-entries t (b .used) i e h ∙ sym is)
-      ∙ ap (λ (k : ℕ). e ∷ drop k es) (sym (add-one i))
-
   pub lines-start : (out : List ℕ) → bookGood b t ≡ true → 65536 ≤ length out → 0 + length (registryOf day es) ≤ length out
   lines-start out g l = omega (arith, registry-few b t day g)
 
   module _ (i : ℕ) (e : Entry) (h : i < b .used) (is : e ≡ entryAt t i) (l : Bool) (el : l ≡ isListed day e) where
     module _ (n : not l ≡ true) where
       skip : registryOf day (drop i es) ≡ registryOf day (drop (i + 1) es)
-      skip = ap (registryOf day) (rest-is i e h is) ∙ registry-skip day e (drop (i + 1) es) (sym el ∙ not-true l n)
+      skip = ap (registryOf day) (entries-rest t (b .used) i e h is) ∙ registry-skip day e (drop (i + 1) es) (sym el ∙ not-true l n)
 
       pub skip-room : (out : List ℕ) (at : ℕ) → at + length (registryOf day (drop i es)) ≤ length out → at + length (registryOf day (drop (i + 1) es)) ≤ length out
       skip-room out at m = rw (← skip) m
@@ -132,7 +123,7 @@ module _ (b : Book) (t : BookRows) (day : Day) where
 
       line : registryOf day (drop i es) ≡ lineText x ++ registryOf day (drop (i + 1) es)
       line =
-          ap (registryOf day) (rest-is i e h is)
+          ap (registryOf day) (entries-rest t (b .used) i e h is)
           ∙ registry-line day e (drop (i + 1) es) (sym el ∙ not-false l n)
           ∙ ap (λ (s : List ℕ). s ++ registryOf day (drop (i + 1) es)) (sym text)
 

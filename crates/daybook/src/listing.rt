@@ -17,7 +17,7 @@ ghost use Rattle.book.specs.BookValid.{bookGood, ReadyBook};
 ghost use Rattle.daybook.specs.Freezing.{isListed, entryLine, registryOf, Listed, writeRegistry};
 
 // Whether the day's registry lists the entry.
-pub(crate) fn is_listed(day: Day, e: Entry) -> bool
+pub fn is_listed(day: Day, e: Entry) -> bool
     ensures { λ r. ⌜ r ≡ isListed day e ⌝ }
 {
     let written = e.date;
