@@ -19,7 +19,7 @@ use Rattle.daybook.specs.Freezing.{isListed, listed, registryOf, writeRegistry}
 use Rattle.daybook.proofs.ListedTheorems.{registry-same, writing-same, unfrozen-off, listed-set}
 use Rattle.agent.specs.Answering.{takeAnswer}
 use Rattle.agent.specs.Writing.{writeRequest}
-use Rattle.agent.proofs.MovedLaws.{placeOf, SamePayment, Left, kept, moved, room-at, good-kept}
+use Rattle.agent.proofs.MovedLaws.{placeOf, Left, kept, moved, room-at, good-kept}
 use Rattle.agent.proofs.AnswerTheorems.{answer-left}
 use Rattle.agent.proofs.WritingTheorems.{write-left}
 

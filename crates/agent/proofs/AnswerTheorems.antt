@@ -26,12 +26,13 @@ use Rattle.book.specs.BookValid.{entryFields, bookGood, ReadyBook}
 use Rattle.book.proofs.EntryLaws.{getD-entries, book-set}
 use Rattle.book.proofs.BookLaws.{entry-within, number-again}
 use Rattle.book.proofs.CountLaws.{no-claim}
+use Rattle.book.proofs.PaymentLaws.{entry-parts, SamePayment, fields-kept, state-range, waits}
 use Rattle.agent.specs.declared.meaning.Meaning.{Meaning}
 use Rattle.agent.specs.declared.meaning.Meaning.the-variants.{Paid, Revoked, Silent}
 use Rattle.daybook.specs.Acceptance.{isFrozen}
 use Rattle.agent.specs.Answering.{Took, meaning, credits, turned, authcodeAfter, answeredEntry, took, takeAt, takeReceipt, checkCode, takeFor, takeAnswer}
 use Rattle.agent.proofs.MeaningLaws.{payment-silent, cancel-silent}
-use Rattle.agent.proofs.MovedLaws.{placeOf, same-place, found-fields, put-same, entry-parts, SamePayment, fields-kept, state-range, Left, kept, moved, others-kept, payments-kept, frozen-kept, good-kept, ready-kept}
+use Rattle.agent.proofs.MovedLaws.{placeOf, same-place, found-fields, put-same, Left, kept, moved, others-kept, payments-kept, frozen-kept, good-kept, ready-kept}
 
 -- every code but 0 and 7 says nothing, whatever was asked
 silent-code : (a : Action) (code : ℕ) → (code ≡ 0 → ⊥) → (code ≡ 7 → ⊥) → meaning a code ≡ Silent
@@ -74,15 +75,7 @@ unmoved-entry : (m : Meaning) (x : Answer) (e : Entry) → entryFields e ≡ tru
 unfolding answeredEntry authcodeAfter
 unmoved-entry m x e h same = rw (same, number-again (e .state) (entry-parts e h .state), unmoved-credits m (stateOf (e .state)) same)
 
--- the states in which a payment waits for an answer
-abbrev pub waits : State → Bool
-waits Asked = true
-waits Credited = false
-waits CancelAsked = true
-waits Cancelled = false
-waits Unposted = false
-
--- no answer turns another
+-- no answer turns a state in which none is awaited
 final-turned : (m : Meaning) (s : State) → waits s ≡ false → turned m s ≡ s
 unfolding turned
 final-turned m Asked h = no-claim (sym h)

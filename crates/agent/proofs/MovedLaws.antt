@@ -18,7 +18,7 @@ use Rattle.book.proofs.EntryLaws.{EntryRoom, entry-other, entry-same, getD-entr
 use Rattle.lists.proofs.LentLaws.{lent-facts}
 use Rattle.book.proofs.BookLaws.{good-book, good-lent, good-room, put-good, entry-within}
 use Rattle.book.proofs.CountLaws.{no-claim}
-pub use Rattle.book.proofs.PaymentLaws.{EntryParts, entry-parts, SamePayment, same-payment, fields-kept, state-range}
+pub use Rattle.book.proofs.PaymentLaws.{EntryParts, entry-parts, SamePayment, same-payment, fields-kept}
 use Rattle.daybook.specs.Acceptance.{isFrozen}
 
 -- ---- what every call finds

@@ -12,6 +12,7 @@ use fields::scan;
 use message::action;
 use message::action::Action;
 use message::action::ActionRead;
+use reporting::taking;
 ghost use mathlib.Core.Path.{_≡_};
 ghost use Prim.Native.Nat.{_<_};
 ghost use lib.ListN.{length};
@@ -182,6 +183,37 @@ pub fn freeze(
     with_book(d, b)
 }
 
+// Whether the frozen day has its report.
+fn show_settled(b: Book) {
+    if b.settled {
+        io::write_all(1, b" settled");
+        return;
+    }
+    io::write_all(1, b" unsettled");
+}
+
+// The report of a day, from the day and its bytes, which may be none.
+pub fn report(
+    s: &[u8],
+    nums: &mut [[u64; 6]],
+    numbers: &mut [[u8; 30]],
+    dates: &mut [[u8; 19]],
+    d: Desk,
+) -> Desk {
+    let r = taking::take_report(
+        nums,
+        numbers,
+        dates,
+        d.book,
+        given::day(s),
+        given::second(s),
+    );
+    let b = r.book;
+    show(r.code);
+    show_settled(b);
+    with_book(d, b)
+}
+
 // The registry of a day, into 65,536 bytes.
 pub fn registry(s: &[u8], nums: &[[u64; 6]], numbers: &[[u8; 30]], dates: &[[u8; 19]], d: Desk) {
     let mut out = io::large_buffer();
@@ -221,13 +253,6 @@ pub fn entry(s: &[u8], nums: &[[u64; 6]], numbers: &[[u8; 30]], dates: &[[u8; 19
     show(e.state);
     io::write_all(1, b" ");
     show(e.authcode);
-}
-
-// The frozen day as if its report had been taken.
-pub fn settle(d: Desk) -> Desk {
-    let mut b = d.book;
-    b.settled = true;
-    with_book(d, b)
 }
 
 // Where a named number of an entry stands.

@@ -109,8 +109,8 @@ pub fn answer(
     if scan::same_bytes(word, b"freeze") {
         return desk::freeze(text, nums, numbers, dates, d);
     }
-    if scan::same_bytes(word, b"settled") {
-        return desk::settle(d);
+    if scan::same_bytes(word, b"report") {
+        return desk::report(text, nums, numbers, dates, d);
     }
     answer_there(word, text, nums, numbers, dates, d);
     d

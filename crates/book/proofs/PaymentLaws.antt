@@ -1,6 +1,6 @@
 -- What a payment is known by, which no answer, writing or report changes; its state and its authcode may.
 use mathlib.Core.Path.{_≡_, refl, ap, _∙_}
-use mathlib.Core.Bool.{true}
+use mathlib.Core.Bool.{Bool, true, false}
 use Rattle.fields.specs.Amount.{isAmount}
 use Rattle.fields.specs.Codes.{isReceipt, isKind}
 use Rattle.fields.specs.Date.{isWritten}
@@ -46,6 +46,14 @@ state-range Credited = refl
 state-range CancelAsked = refl
 state-range Cancelled = refl
 state-range Unposted = refl
+
+-- the states in which a payment waits for an answer
+abbrev pub waits : State → Bool
+waits Asked = true
+waits Credited = false
+waits CancelAsked = true
+waits Cancelled = false
+waits Unposted = false
 
 -- ---- what an entry keeps for good
 pub record SamePayment (e e′ : Entry) : Type 0 where
