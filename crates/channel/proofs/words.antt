@@ -3,3 +3,4 @@ pub mod SettledDays
 pub mod Flag
 pub mod SafeOf
 pub mod Safety
+pub mod Refused
