@@ -1,4 +1,4 @@
-// What the vectors keep from line to line: the book, and how many entries are lent.
+// What the vectors keep from line to line: the book, the gate, and how many entries and records are lent.
 use crate::given;
 use agent::answering;
 use agent::writing;
@@ -13,6 +13,7 @@ use message::action;
 use message::action::Action;
 use message::action::ActionRead;
 use reporting::taking;
+use table::Gate;
 ghost use mathlib.Core.Path.{_≡_};
 ghost use Prim.Native.Nat.{_<_};
 ghost use lib.ListN.{length};
@@ -20,10 +21,12 @@ ghost use lib.ListN.{length};
 pub struct Desk {
     pub book: Book,
     pub lent: usize,
+    pub gate: Gate,
+    pub places: usize,
 }
 
-// A book from its first receipt, its frozen day and the number of entries lent; at the start it is settled.
-pub fn start(s: &[u8]) -> Desk {
+// A book from its first receipt, its frozen day and the number of entries lent; at the start it is settled. The gate stays.
+pub fn start(s: &[u8], g: Gate) -> Desk {
     let frozen = given::day(given::second(s));
     Desk {
         book: Book {
@@ -33,13 +36,18 @@ pub fn start(s: &[u8]) -> Desk {
             settled: true,
         },
         lent: given::value(given::third(s)) as usize,
+        gate: g,
+        places: 0,
     }
 }
 
-fn with_book(d: Desk, b: Book) -> Desk {
+pub fn with_book(d: Desk, b: Book) -> Desk {
+    let g = d.gate;
     Desk {
         book: b,
         lent: d.lent,
+        gate: g,
+        places: d.places,
     }
 }
 
@@ -100,7 +108,7 @@ pub fn check(s: &[u8], nums: &[[u64; 6]], numbers: &[[u8; 30]], dates: &[[u8; 19
 }
 
 // A writing into `out`, from a receipt and for a cancel its reason.
-fn write_into(
+pub fn write_into(
     a: Action,
     s: &[u8],
     nums: &mut [[u64; 6]],

@@ -1,5 +1,6 @@
-// Runs a day at the agent from standard input: prints each line, `: ` and what the agent answers.
+// Runs days at the agent, and at both ends, from standard input: prints each line, `: ` and what is answered.
 mod desk;
+mod ends;
 mod given;
 mod words;
 
@@ -49,6 +50,9 @@ fn answer_line(
     nums: &mut [[u64; 6]],
     numbers: &mut [[u8; 30]],
     dates: &mut [[u8; 19]],
+    table: &mut [[u64; 6]],
+    owners: &mut [[u8; 30]],
+    times: &mut [[[u8; 19]; 3]],
     d: Desk,
 ) -> Desk {
     io::write_all(1, line);
@@ -60,12 +64,18 @@ fn answer_line(
     let n = least(d.lent, nums.len());
     let m = least(d.lent, numbers.len());
     let k = least(d.lent, dates.len());
-    let next = words::answer(
+    let o = least(d.places, table.len());
+    let p = least(d.places, owners.len());
+    let q = least(d.places, times.len());
+    let next = words::answer_both(
         scan::before_byte(line, 32),
         scan::after_byte(line, 32),
         &mut nums[..n],
         &mut numbers[..m],
         &mut dates[..k],
+        &mut table[..o],
+        &mut owners[..p],
+        &mut times[..q],
         d,
     );
     io::write_all(1, b"\n");
@@ -73,12 +83,20 @@ fn answer_line(
 }
 
 // Answers each line.
-fn lines(s: &[u8], nums: &mut [[u64; 6]], numbers: &mut [[u8; 30]], dates: &mut [[u8; 19]]) {
-    let mut d = desk::start(b"");
+fn lines(
+    s: &[u8],
+    nums: &mut [[u64; 6]],
+    numbers: &mut [[u8; 30]],
+    dates: &mut [[u8; 19]],
+    table: &mut [[u64; 6]],
+    owners: &mut [[u8; 30]],
+    times: &mut [[[u8; 19]; 3]],
+) {
+    let mut d = desk::start(b"", ends::no_gate(given::day(b"")));
     let mut at: usize = 0;
     while at < s.len() {
         let line = scan::before_byte(scan::bytes_from(s, at), 10);
-        d = answer_line(line, nums, numbers, dates, d);
+        d = answer_line(line, nums, numbers, dates, table, owners, times, d);
         at += line.len() + 1;
     }
 }
@@ -88,10 +106,21 @@ fn main() {
     let mut nums = empty_nums();
     let mut numbers = empty_numbers();
     let mut dates = empty_dates();
+    let mut table = [[0u64; 6]; 8];
+    let mut owners = [[0u8; 30]; 8];
+    let mut times = [[[0u8; 19]; 3]; 8];
     let n = io::read_full(0, &mut buffer);
     if n == buffer.len() {
         io::write_all(1, b"the input is too long\n");
         return;
     }
-    lines(&buffer[..n], &mut nums, &mut numbers, &mut dates);
+    lines(
+        &buffer[..n],
+        &mut nums,
+        &mut numbers,
+        &mut dates,
+        &mut table,
+        &mut owners,
+        &mut times,
+    );
 }

@@ -1,6 +1,7 @@
 // The words of the vectors: the one place that says what each runs.
 use crate::desk;
 use crate::desk::Desk;
+use crate::ends;
 use crate::given;
 use fields::scan;
 use message::action::Action;
@@ -89,7 +90,7 @@ fn look(
 }
 
 // Runs the word on its text, and hands the desk back.
-pub fn answer(
+fn answer(
     word: &[u8],
     text: &[u8],
     nums: &mut [[u64; 6]],
@@ -98,7 +99,7 @@ pub fn answer(
     d: Desk,
 ) -> Desk {
     if scan::same_bytes(word, b"book") {
-        return desk::start(text);
+        return desk::start(text, d.gate);
     }
     if scan::same_bytes(word, b"accept") {
         return desk::accept(text, nums, numbers, dates, d);
@@ -114,4 +115,41 @@ pub fn answer(
     }
     answer_there(word, text, nums, numbers, dates, d);
     d
+}
+
+// Runs a word that the gate takes part in, or else one of the agent's.
+pub fn answer_both(
+    word: &[u8],
+    text: &[u8],
+    nums: &mut [[u64; 6]],
+    numbers: &mut [[u8; 30]],
+    dates: &mut [[u8; 19]],
+    table: &mut [[u64; 6]],
+    owners: &mut [[u8; 30]],
+    times: &mut [[[u8; 19]; 3]],
+    d: Desk,
+) -> Desk {
+    if scan::same_bytes(word, b"gate") {
+        return ends::start(text, d);
+    }
+    if scan::same_bytes(word, b"open") {
+        return ends::open(text, table, owners, times, d);
+    }
+    if scan::same_bytes(word, b"draw") {
+        return ends::draw(text, table, owners, times, d);
+    }
+    if scan::same_bytes(word, b"ask") {
+        return ends::exchange(true, text, nums, numbers, dates, table, owners, times, d);
+    }
+    if scan::same_bytes(word, b"lose") {
+        return ends::exchange(false, text, nums, numbers, dates, table, owners, times, d);
+    }
+    if scan::same_bytes(word, b"settle") {
+        return ends::settle_day(text, nums, numbers, dates, table, owners, times, d);
+    }
+    if scan::same_bytes(word, b"record") {
+        ends::record(text, table, owners, times);
+        return d;
+    }
+    answer(word, text, nums, numbers, dates, d)
 }

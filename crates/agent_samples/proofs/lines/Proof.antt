@@ -7,11 +7,12 @@ use Rattle.agent_samples.proofs.lines.Statement.{statement}
 use Rattle.agent_samples.proofs.lines.Tie as tie
 
 abbrev Inv-loop : tie.InvT-loop
-Inv-loop s nums₀ numbers₀ dates₀ d₀ at₀ nums numbers dates d at =
+Inv-loop s nums₀ numbers₀ dates₀ table₀ owners₀ times₀ d₀ at₀ nums numbers dates table owners times d at =
     (at ≤ length s + 1) × (length nums ≡ length nums₀) × (length numbers ≡ length numbers₀) × (length dates ≡ length dates₀)
+    × (length table ≡ length table₀) × (length owners ≡ length owners₀) × (length times ≡ length times₀)
 
 abbrev μ-loop : tie.MeasureT-loop
-μ-loop s nums₀ numbers₀ dates₀ d₀ at₀ nums numbers dates d at = length s + 1 - at
+μ-loop s nums₀ numbers₀ dates₀ table₀ owners₀ times₀ d₀ at₀ nums numbers dates table owners times d at = length s + 1 - at
 
 ruleset laws = (line-fits, next-fits, next-inside, next-falls, needs)
 

@@ -1,0 +1,237 @@
+// Both ends: what the agent writes goes to the gate, and what the gate writes goes back to the agent, each by its size.
+use crate::desk;
+use crate::desk::Desk;
+use crate::given;
+use agent::answering;
+use daybook::listing;
+use fields::calendar::Day;
+use fields::number::Number;
+use fields::scan;
+use gate::Reply;
+use gate::deliver;
+use gate::opening;
+use message::action;
+use message::action::Action;
+use message::action::ActionRead;
+use reporting::taking;
+use settlement::settle;
+use table::Account;
+use table::Gate;
+use table::rows;
+
+// A gate without accounts, closed on a day.
+pub fn no_gate(closed: Day) -> Gate {
+    let number = Number {
+        bytes: [0u8; 30],
+        len: 0,
+    };
+    let a = Account {
+        number,
+        kind: 0,
+        balance: 0,
+    };
+    Gate {
+        accounts: [a; 256],
+        count: 0,
+        closed,
+        used: 0,
+    }
+}
+
+// A gate closed on the book's frozen day, with a table of so many records.
+pub fn start(s: &[u8], d: Desk) -> Desk {
+    let b = d.book;
+    let closed = b.frozen;
+    Desk {
+        book: b,
+        lent: d.lent,
+        gate: no_gate(closed),
+        places: given::value(s) as usize,
+    }
+}
+
+fn with_gate(d: Desk, g: Gate) -> Desk {
+    let b = d.book;
+    Desk {
+        book: b,
+        lent: d.lent,
+        gate: g,
+        places: d.places,
+    }
+}
+
+// Shows a code behind a space.
+fn show_next(code: u64) {
+    io::write_all(1, b" ");
+    io::print_decimal(1, code);
+}
+
+// An opening or a draw: its code.
+fn called(d: Desk, r: Reply) -> Desk {
+    io::print_decimal(1, r.code);
+    let g = r.gate;
+    with_gate(d, g)
+}
+
+// An account opened, from number and type.
+pub fn open(
+    s: &[u8],
+    nums: &[[u64; 6]],
+    numbers: &[[u8; 30]],
+    dates: &[[[u8; 19]; 3]],
+    d: Desk,
+) -> Desk {
+    let r = opening::open_call(
+        nums,
+        numbers,
+        dates,
+        d.gate,
+        given::account(s),
+        given::value(given::second(s)),
+    );
+    called(d, r)
+}
+
+// A draw, from number, type and kopecks.
+pub fn draw(
+    s: &[u8],
+    nums: &[[u64; 6]],
+    numbers: &[[u8; 30]],
+    dates: &[[[u8; 19]; 3]],
+    d: Desk,
+) -> Desk {
+    let r = opening::draw_call(
+        nums,
+        numbers,
+        dates,
+        d.gate,
+        given::account(s),
+        given::value(given::second(s)),
+        given::value(given::third(s)),
+    );
+    called(d, r)
+}
+
+// A request of the agent at the gate, from receipt, reason and clock, with its answer in `out`: the codes of writing and delivery.
+fn ask(
+    a: Action,
+    s: &[u8],
+    nums: &mut [[u64; 6]],
+    numbers: &mut [[u8; 30]],
+    dates: &mut [[u8; 19]],
+    table: &mut [[u64; 6]],
+    owners: &mut [[u8; 30]],
+    times: &mut [[[u8; 19]; 3]],
+    d: Desk,
+    out: &mut [u8],
+) -> Reply {
+    let mut request = [46u8; 512];
+    let w = desk::write_into(a, s, nums, numbers, dates, d.book, &mut request);
+    io::print_decimal(1, w.code);
+    let r = deliver::deliver(
+        table,
+        owners,
+        times,
+        d.gate,
+        given::written(given::third(s)),
+        scan::first_bytes(&request, w.size),
+        out,
+    );
+    show_next(r.code);
+    r
+}
+
+// A request whose answer comes back, or is lost on the way.
+pub fn exchange(
+    heard: bool,
+    s: &[u8],
+    nums: &mut [[u64; 6]],
+    numbers: &mut [[u8; 30]],
+    dates: &mut [[u8; 19]],
+    table: &mut [[u64; 6]],
+    owners: &mut [[u8; 30]],
+    times: &mut [[[u8; 19]; 3]],
+    d: Desk,
+) -> Desk {
+    let ActionRead::Known(a) = action::read_action(scan::before_byte(s, 32)) else {
+        io::write_all(1, b"unknown action");
+        return d;
+    };
+    let mut out = [46u8; 512];
+    let rest = given::second(s);
+    let r = ask(
+        a,
+        rest,
+        nums,
+        numbers,
+        dates,
+        table,
+        owners,
+        times,
+        d,
+        &mut out,
+    );
+    if heard {
+        let text = scan::first_bytes(&out, r.size);
+        show_next(answering::take_answer(
+            nums,
+            numbers,
+            dates,
+            d.book,
+            a,
+            given::value(rest),
+            text,
+        ));
+    }
+    let g = r.gate;
+    with_gate(d, g)
+}
+
+// A day settled at both ends, from day and clock: the codes of registry, settlement and report, and the report.
+pub fn settle_day(
+    s: &[u8],
+    nums: &mut [[u64; 6]],
+    numbers: &mut [[u8; 30]],
+    dates: &mut [[u8; 19]],
+    table: &mut [[u64; 6]],
+    owners: &mut [[u8; 30]],
+    times: &mut [[[u8; 19]; 3]],
+    d: Desk,
+) -> Desk {
+    let mut registry = io::large_buffer();
+    let day = given::day(s);
+    let w = listing::write_registry(nums, numbers, dates, d.book, day, &mut registry);
+    io::print_decimal(1, w.code);
+    let mut out = [46u8; 512];
+    let r = settle::settle(
+        table,
+        owners,
+        times,
+        d.gate,
+        given::written(given::second(s)),
+        day,
+        scan::first_bytes(&registry, w.size),
+        &mut out,
+    );
+    show_next(r.code);
+    let report = scan::first_bytes(&out, r.size);
+    let t = taking::take_report(nums, numbers, dates, d.book, day, report);
+    show_next(t.code);
+    io::write_all(1, b" ");
+    io::write_all(1, report);
+    let b = t.book;
+    let g = r.gate;
+    with_gate(desk::with_book(d, b), g)
+}
+
+// A record's receipt, state and authcode.
+pub fn record(s: &[u8], nums: &[[u64; 6]], numbers: &[[u8; 30]], dates: &[[[u8; 19]; 3]]) {
+    let i = given::value(s) as usize;
+    if nums.len() <= i || numbers.len() <= i || dates.len() <= i {
+        return;
+    }
+    let r = rows::load(nums, numbers, dates, i);
+    io::print_decimal(1, r.receipt);
+    show_next(r.state);
+    show_next(r.authcode);
+}
