@@ -4,3 +4,4 @@ pub mod Flag
 pub mod SafeOf
 pub mod Safety
 pub mod Refused
+pub mod Sent

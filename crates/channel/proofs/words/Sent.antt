@@ -1,0 +1,378 @@
+-- What is sent is what was written: all of its bytes and no byte more, of every world. A step that sends adds one message at the end, any other adds none.
+use Prim.Native.Nat.{ℕ, _<_, _≤_}
+use native.Mathlib.Omega.{arith}
+use mathlib.Core.Path.{_≡_, refl, sym, ap, _∙_}
+use mathlib.Core.Bool.{Bool, true, false, cond, not, _&&_}
+use mathlib.Core.List.{List, [], _∷_, _++_}
+use mathlib.Core.Option.{Option, none, some}
+use lib.Dec.{eqb, leb}
+use lib.ListN.{length, take, getD, getElem?}
+use borrow.Author.Tests.{leb-true, eq-eqb, ne-eqb}
+use Rattle.fields.specs.declared.calendar.Day.{Day}
+use Rattle.fields.specs.Lists.{written, cursorAfter}
+use Rattle.fields.specs.Amount.{isAmount}
+use Rattle.fields.specs.Calendar.{isDay, dayBefore}
+use Rattle.fields.specs.Codes.{isReceipt, isKind}
+use Rattle.fields.specs.Date.{isWritten, emptyDate}
+use Rattle.fields.specs.Number.{isNumber}
+use Rattle.fields.proofs.Tests.{and-left, and-right, both, cond-elim}
+use Rattle.fields.proofs.DateLaws.{written-parts}
+use Rattle.fields.proofs.ScanLaws.{eqList-true}
+use Rattle.message.specs.declared.action.Action.{Action}
+use Rattle.message.specs.declared.action.Action.the-variants.{Check, Payment, Status, Cancel}
+use Rattle.message.specs.declared.request.Asked.{Asked}
+use Rattle.message.specs.declared.request.RequestRead.{RequestRead}
+use Rattle.message.specs.Request.{requestRead}
+use Rattle.message.specs.RequestText.{isAsked, requestText}
+use Rattle.message.proofs.RequestAgain.{request-fits}
+use Rattle.answers.specs.declared.answer.Answer.{Answer}
+use Rattle.answers.specs.Answer.{answerBytes}
+use Rattle.answers.proofs.AnswerTextLaws.{answer-length-512}
+use Rattle.registry.specs.Registry.{registryLines}
+use Rattle.registry.proofs.LinesGood.{lines-good}
+use Rattle.lists.specs.declared.Found.{Found}
+use Rattle.lists.specs.declared.Found.the-variants.{At, Nothing}
+use Rattle.lists.proofs.ListLaws.{all-at}
+use Rattle.table.specs.declared.Record.{Record}
+use Rattle.table.specs.declared.Gate.{Gate}
+use Rattle.table.specs.Table.{Rows, recordsOf, findRecord}
+use Rattle.table.specs.Valid.{stateGood, rangesGood, accountKnown, authcodeGood, recordGood, gateGood, lentGood, tableGood}
+use Rattle.table.proofs.TableLaws.{length-records, receipt-within}
+use Rattle.gate.specs.declared.decision.Standing.{Standing}
+use Rattle.gate.specs.declared.decision.Standing.the-variants.{Unrecorded, Done, Cancelled}
+use Rattle.gate.specs.declared.decision.View.{View}
+use Rattle.gate.specs.declared.decision.Change.{Change}
+use Rattle.gate.specs.declared.decision.Change.the-variants.{Keep, Append, Revoke}
+use Rattle.gate.specs.declared.decision.Decided.{Decided}
+use Rattle.gate.specs.declared.plan.Plan.{Plan}
+use Rattle.gate.specs.Decision.{checkCode, paymentNew, cancelDone, decision}
+use Rattle.gate.specs.Deliver.{noRecord, recordFound, planWith, planOf, makeRecord, revoked, Changed, changed, answersDate, answerDate, isCancel, answerOf, Delivered, undelivered, respond, faultAnswered, deliverRead, deliver}
+use Rattle.settlement.specs.Settle.{reportOf, Settled, settleDay, settle}
+use Rattle.settlement.proofs.SettleLaws.{report-length, settled-by, fault-keeps, report-now}
+use Rattle.book.specs.Entries.{findEntry}
+use Rattle.book.specs.BookValid.{bookGood}
+use Rattle.daybook.specs.Freezing.{registryOf, Listed, listOn, writeRegistry}
+use Rattle.daybook.proofs.RegistryLaws.{registry-few}
+use Rattle.agent.specs.Writing.{Wrote, requestOf, checkOf, writeCheck}
+use Rattle.agent.proofs.MovedLaws.{same-place, found-fields, entry-parts}
+use Rattle.agent.proofs.WritingTheorems.{write-cases}
+use Rattle.channel.specs.World.{Sent, sentRequest, sentAnswer, sentRegistry, sentReport, World, Named, Step, opens, draws, accepts, writesCheck, writesPayment, writesStatus, writesCancel, freezes, writesRegistry, delivers, sentIf, atGate, isAnswered, requestArrives, registryArrives, answerArrives, reportArrives, delivered, opening, drawing, accepting, checking, writing, freezing, listing, step, codeOf}
+use Rattle.channel.specs.Claim.{recordsIn, entryIn, entriesIn}
+use Rattle.channel.proofs.steps.AskSims.{answer-back, text-back}
+
+-- ---- what a call that wrote hands on
+grown : (z : Bool) (m m′ : Sent) (s : List Sent) → z ≡ true → m ≡ m′ → sentIf z m s ≡ s ++ (m′ ∷ [])
+grown z m m′ s e q = rw (e, q) refl
+
+same-sent : (z : Bool) (m : Sent) (s : List Sent) → z ≡ false → sentIf z m s ≡ s
+same-sent z m s e = rw e refl
+
+no-claim : {A : Type 0} (z : Bool) → z ≡ true → z ≡ false → A
+no-claim z t f = let y : true ≡ false = sym t ∙ f in let x : _≡_ {A = ℕ} 0 1 = cc in absurd (omega arith)
+
+-- ---- a request
+-- malformed fields give no text, others a short one
+text-fits : (q : Asked) → length (q .date) ≡ 19 → length (q .number .bytes) ≡ 30 → length (requestText q) ≤ 512
+unfolding requestText
+text-fits q dated sized = cond-elim (λ (xs : List ℕ). length xs ≤ 512) (isAsked q) _ _ (λ good. request-fits q dated sized good) (λ _. omega arith)
+
+module _ (w : World) (a : Action) (receipt reason : ℕ) (out : List ℕ) where
+  -- a writing that gave 0 found the receipt in the book
+  pub request-found : (writing w a receipt reason out) .code ≡ 0 → (i : ℕ) × (findEntry receipt (entriesIn w) ≡ At i)
+  unfolding writing
+  request-found =
+      write-cases (w .book) (w .bookRows) a receipt reason out (λ (k : Wrote). k .code ≡ 0 → (i : ℕ) × (findEntry receipt (entriesIn w) ≡ At i)) (λ code n z. absurd (n z))
+      (λ i good room forms e free z. (i, e))
+
+  -- a payment, a status or a cancel is the text of its entry; an entry's number has its thirty bytes, as an array has
+  pub request-sent : (i : ℕ) → findEntry receipt (entriesIn w) ≡ At i → length ((entryIn w i) .number .bytes) ≡ 30 → (writing w a receipt reason out) .code ≡ 0
+      → (writing w a receipt reason out) .world .sent ≡ w .sent ++ (sentRequest a receipt (requestText (requestOf a (entryIn w i) reason)) ∷ [])
+  unfolding writing requestOf
+  request-sent i found sized =
+      write-cases (w .book) (w .bookRows) a receipt reason out
+      (λ (k : Wrote). k .code ≡ 0 → sentIf (eqb (k .code) 0) (sentRequest a receipt (take (k .size) (k .out))) (w .sent) ≡ w .sent ++ (sentRequest a receipt (requestText (requestOf a (entryIn w i) reason)) ∷ []))
+      (λ code n z. absurd (n z))
+      (λ j good room forms e free z.
+      let same : j ≡ i = same-place j i (sym e ∙ found) in
+      let dated = written-parts ((entryIn w i) .date) (entry-parts (entryIn w i) (found-fields (w .book) (w .bookRows) receipt i good found) .date) .size in
+      let fits : length (requestText (requestOf a (entryIn w i) reason)) ≤ length out = omega (arith, room, text-fits (requestOf a (entryIn w i) reason) dated sized) in
+      ap (λ (n : ℕ). w .sent ++ (sentRequest a receipt (take (cursorAfter out 0 (requestText (requestOf a (entryIn w n) reason))) (written out 0 (requestText (requestOf a (entryIn w n) reason)))) ∷ [])) same
+      ∙ ap (λ (s : List ℕ). w .sent ++ (sentRequest a receipt s ∷ [])) (text-back out (requestText (requestOf a (entryIn w i) reason)) fits))
+
+-- a check is the text of its own fields, and has no receipt
+pub check-sent : (w : World) (n : Named) (k kopecks : ℕ) (out : List ℕ) → (checking w (n .number) k kopecks out) .code ≡ 0
+    → (checking w (n .number) k kopecks out) .world .sent ≡ w .sent ++ (sentRequest Check 0 (requestText (checkOf (n .number) k kopecks)) ∷ [])
+unfolding checking writeCheck checkOf
+check-sent w n k kopecks out =
+    cond-elim P (bookGood (w .book) (w .bookRows)) _ _
+    (λ _. cond-elim P (leb 512 (length out)) _ _
+    (λ room. cond-elim P (isNumber (n .number) && (isKind k && isAmount kopecks)) _ _
+    (λ _ _.
+    let fits : length text ≤ length out = omega (arith, leb-true 512 (length out) room, text-fits (checkOf (n .number) k kopecks) refl (n .size)) in
+    ap (λ (s : List ℕ). w .sent ++ (sentRequest Check 0 s ∷ [])) (text-back out text fits))
+    (λ _ z. absurd (omega arith)))
+    (λ _ z. absurd (omega arith)))
+    (λ _ z. absurd (omega arith))
+  where
+    text : List ℕ
+    text = requestText (checkOf (n .number) k kopecks)
+
+    P : Wrote → Type 0
+    P d = d .code ≡ 0 → sentIf (eqb (d .code) 0) (sentRequest Check 0 (take (d .size) (d .out))) (w .sent) ≡ w .sent ++ (sentRequest Check 0 text ∷ [])
+
+-- ---- an answer
+-- the dates of a record that an answer may tell have nineteen bytes, in a table that is good
+record Dated (r : Record) : Type 0 where
+  credit : length (r .credit) ≡ 19
+  cancel : length (r .cancel) ≡ 19
+
+cancel-size : (r : Record) → stateGood r ≡ true → length (r .cancel) ≡ 19
+unfolding stateGood
+cancel-size r h = go (eqb (r .state) 1) refl
+  where
+    go : (z : Bool) → eqb (r .state) 1 ≡ z → length (r .cancel) ≡ 19
+    go true e = ap length (eqList-true (r .cancel) emptyDate (rw e at h))
+    go false e = written-parts (r .cancel) (and-right (eqb (r .state) 2) (isWritten (r .cancel)) (rw e at h)) .size
+
+good-dated : (g : Gate) (i : ℕ) (r : Record) → recordGood g i r ≡ true → Dated r
+unfolding recordGood rangesGood
+good-dated g i r h =
+    let x = and-left _ (accountKnown g r) (and-right (authcodeGood i r) _ h) in
+    let d = and-right (isWritten (r .date)) _ (and-right (isAmount (r .amount)) _ (and-right (isReceipt (r .receipt)) _ x)) in
+    let e = both (isWritten (r .credit)) _ d in
+    record { credit = written-parts (r .credit) (e .0) .size; cancel = cancel-size r (e .1) }
+
+record-dated : (g : Gate) (t : Rows) → tableGood g t ≡ true → (i : ℕ) → i < g .used → Dated (getD (recordsOf t (g .used)) i noRecord)
+unfolding tableGood
+record-dated g t good i l =
+    good-dated g i _
+    (all-at (recordGood g) (recordsOf t (g .used)) noRecord i (and-right (gateGood g) _ (and-right (lentGood g t) _ good)) (omega (arith, length-records t (g .used))))
+
+found-dated : (g : Gate) (t : Rows) → tableGood g t ≡ true → (receipt : ℕ) (f : Found) → findRecord receipt (recordsOf t (g .used)) ≡ f → Dated (recordFound (recordsOf t (g .used)) f)
+found-dated g t good receipt Nothing e = record { credit = refl; cancel = refl }
+found-dated g t good receipt (At i) e = record-dated g t good i (receipt-within t (g .used) receipt i (findRecord receipt (recordsOf t (g .used))) refl e)
+
+change-dated : (c : Change) (g : Gate) (rs : List Record) (clock : List ℕ) (q : Asked) (p : Plan) → length clock ≡ 19 → Dated (p .payment) → Dated ((changed c g rs clock q p) .subject)
+unfolding changed makeRecord revoked
+change-dated Keep g rs clock q p l d = d
+change-dated Append g rs clock q p l d = record { credit = l; cancel = refl }
+change-dated Revoke g rs clock q p l d = record { credit = d .credit; cancel = l }
+
+one-size : (z : Bool) (a b : List ℕ) → length a ≡ 19 → length b ≡ 19 → length (cond z a b) ≡ 19
+one-size true a b x y = x
+one-size false a b x y = y
+
+answer-fits : (a : Action) (code : ℕ) (r : Record) (clock : List ℕ) → length clock ≡ 19 → Dated r → length (answerBytes (answerOf a code r clock)) ≤ 512
+answer-fits a code r clock l d = answer-length-512 (answerOf a code r clock) dated
+  where
+    dated : length ((answerOf a code r clock) .date) ≡ 19
+    dated =
+        unfold answerOf answerDate in
+        one-size (answersDate a code) _ emptyDate
+        (one-size (eqb code 7) (r .cancel) _ (d .cancel) (one-size (eqb code 0) _ clock (one-size (isCancel a) (r .cancel) (r .credit) (d .cancel) (d .credit)) l)) refl
+
+-- what is decided is always answered
+decision-told : (a : Action) (s : Standing) (v : View) → isAnswered ((decision a s v) .code) ≡ true
+unfolding decision checkCode paymentNew cancelDone
+decision-told Check s v =
+    cond-elim (λ (c : ℕ). isAnswered c ≡ true) (v .known) _ _ (λ _. cond-elim (λ (c : ℕ). isAnswered c ≡ true) (v .full) _ _ (λ _. refl) (λ _. refl)) (λ _. refl)
+decision-told Payment Unrecorded v =
+    cond-elim (λ (d : Decided). isAnswered (d .code) ≡ true) (v .closed) _ _ (λ _. refl)
+    (λ _. cond-elim (λ (d : Decided). isAnswered (d .code) ≡ true) (v .known) _ _
+    (λ _. cond-elim (λ (d : Decided). isAnswered (d .code) ≡ true) (v .full) _ _ (λ _. refl) (λ _. refl)) (λ _. refl))
+decision-told Payment Done v = refl
+decision-told Payment Cancelled v = refl
+decision-told Status Unrecorded v = refl
+decision-told Status Done v = refl
+decision-told Status Cancelled v = refl
+decision-told Cancel Unrecorded v = refl
+decision-told Cancel Done v =
+    cond-elim (λ (d : Decided). isAnswered (d .code) ≡ true) (v .closed) _ _ (λ _. refl)
+    (λ _. cond-elim (λ (d : Decided). isAnswered (d .code) ≡ true) (v .short) _ _ (λ _. refl) (λ _. refl))
+decision-told Cancel Cancelled v = refl
+
+module _ (w : World) (text clock : List ℕ) where
+  abbrev request : RequestRead
+  request = requestRead text
+
+  abbrev plan : Plan
+  plan = planOf (w .gate) (recordsIn w) (length (w .table .nums)) (request .asked)
+
+  abbrev change : Changed
+  change = changed (plan .decided .change) (w .gate) (recordsIn w) clock (request .asked) plan
+
+  abbrev decided : Answer
+  decided = answerOf (request .asked .action) (plan .decided .code) (change .subject) clock
+
+  abbrev faulted : Answer
+  faulted = answerOf (request .asked .action) (request .fault) noRecord clock
+
+  -- the answer to a request: of its own action, with its fault, or else with what is decided and the record that this concerns
+  abbrev pub answerTo : Answer
+  answerTo = cond (eqb (request .fault) 0) decided faulted
+
+  plan-told : isAnswered (plan .decided .code) ≡ true
+  unfolding planOf planWith
+  plan-told = decision-told (request .asked .action) _ _
+
+  decided-fits : tableGood (w .gate) (w .table) ≡ true → isWritten clock ≡ true → length (answerBytes decided) ≤ 512
+  decided-fits good dated =
+      answer-fits (request .asked .action) (plan .decided .code) (change .subject) clock (written-parts clock dated .size)
+      (change-dated (plan .decided .change) (w .gate) (recordsIn w) clock (request .asked) plan (written-parts clock dated .size)
+      (unfold planOf planWith in found-dated (w .gate) (w .table) good (request .asked .receipt) (findRecord (request .asked .receipt) (recordsIn w)) refl))
+
+  faulted-fits : isWritten clock ≡ true → length (answerBytes faulted) ≤ 512
+  faulted-fits dated =
+      answer-fits (request .asked .action) (request .fault) noRecord clock (written-parts clock dated .size) (record { credit = refl; cancel = refl })
+
+  module _ (a : Action) (receipt : ℕ) (out : List ℕ) where
+    -- 68, 50 and 51 keep all; else it is decided, or its fault answered
+    answer-cases : (P : Delivered → Type 0) → ((c : ℕ) → isAnswered c ≡ false → P (undelivered c (w .gate) (w .table) out))
+        → (512 ≤ length out → length (answerBytes decided) ≤ 512 → answerTo ≡ decided → P (respond (w .gate) (w .table) clock (request .asked) out))
+        → (512 ≤ length out → length (answerBytes faulted) ≤ 512 → answerTo ≡ faulted → P (faultAnswered (w .gate) (w .table) out (request .asked .action) (request .fault) clock))
+        → P (deliver (w .gate) (w .table) clock text out)
+    unfolding deliver deliverRead
+    answer-cases P keeps responds faults =
+        cond-elim P (tableGood (w .gate) (w .table)) _ _
+        (λ good. cond-elim P (leb 512 (length out)) _ _
+        (λ room. cond-elim P (isWritten clock) _ _
+        (λ dated. cond-elim P (eqb (request .fault) 0) _ _
+        (λ z. responds (leb-true 512 (length out) room) (decided-fits good dated) (ap (λ (t : Bool). cond t decided faulted) z))
+        (λ z. faults (leb-true 512 (length out) room) (faulted-fits dated) (ap (λ (t : Bool). cond t decided faulted) z)))
+        (λ _. keeps 51 refl))
+        (λ _. keeps 50 refl))
+        (λ _. keeps 68 refl)
+
+    abbrev goes : Delivered → Sent
+    goes d = sentAnswer a receipt (take (d .size) (d .out))
+
+    -- it has the code that the gate returns
+    pub answer-code : isAnswered ((requestArrives w a receipt text clock out) .code) ≡ true → answerTo .code ≡ (requestArrives w a receipt text clock out) .code
+    unfolding requestArrives
+    answer-code =
+        answer-cases (λ (d : Delivered). isAnswered (d .code) ≡ true → answerTo .code ≡ d .code) (λ c n h. no-claim (isAnswered c) h n)
+        (λ room fits e h. unfold respond answerOf in ap (λ (x : Answer). x .code) e) (λ room fits e h. unfold answerOf in ap (λ (x : Answer). x .code) e)
+
+    -- and it is sent, with the action and the receipt that the request was sent with
+    pub answer-sent : isAnswered ((requestArrives w a receipt text clock out) .code) ≡ true
+        → (requestArrives w a receipt text clock out) .world .sent ≡ w .sent ++ (sentAnswer a receipt (answerBytes answerTo) ∷ [])
+    unfolding requestArrives
+    answer-sent =
+        answer-cases (λ (d : Delivered). isAnswered (d .code) ≡ true → sentIf (isAnswered (d .code)) (goes d) (w .sent) ≡ w .sent ++ (sentAnswer a receipt (answerBytes answerTo) ∷ []))
+        (λ c n h. no-claim (isAnswered c) h n)
+        (λ room fits e h. grown _ _ _ (w .sent) h (ap (sentAnswer a receipt) (unfold respond in text-back out (answerBytes decided) (omega (arith, room, fits)) ∙ ap answerBytes (sym e))))
+        (λ room fits e h. grown _ _ _ (w .sent) h (ap (sentAnswer a receipt) (text-back out (answerBytes faulted) (omega (arith, room, fits)) ∙ ap answerBytes (sym e))))
+
+    -- where none is written, nothing is sent and nothing moves
+    pub answer-none : isAnswered ((requestArrives w a receipt text clock out) .code) ≡ false → (requestArrives w a receipt text clock out) .world ≡ w
+    unfolding requestArrives
+    answer-none =
+        answer-cases (λ (d : Delivered). isAnswered (d .code) ≡ false → atGate w (d .gate) (d .rows) (sentIf (isAnswered (d .code)) (goes d) (w .sent)) ≡ w)
+        (λ c n h. ap (atGate w (w .gate) (w .table)) (same-sent (isAnswered c) _ (w .sent) h))
+        (λ room fits e h. no-claim (isAnswered (plan .decided .code)) plan-told (unfold respond in h))
+        (λ room fits e h. ap (atGate w (w .gate) (w .table)) (same-sent (isAnswered (request .fault)) _ (w .sent) h))
+
+-- ---- a registry
+pub registry-sent : (w : World) (day : Day) (out : List ℕ) → (listing w day out) .code ≡ 0
+    → (listing w day out) .world .sent ≡ w .sent ++ (sentRegistry day (registryOf day (entriesIn w)) ∷ [])
+unfolding listing writeRegistry listOn
+registry-sent w day out =
+    cond-elim P (bookGood (w .book) (w .bookRows)) _ _
+    (λ good. cond-elim P (leb 65536 (length out)) _ _
+    (λ room. cond-elim P (isDay day && not (dayBefore (w .book .frozen) day)) _ _
+    (λ _ _.
+    let fits : length text ≤ length out = omega (arith, leb-true 65536 (length out) room, registry-few (w .book) (w .bookRows) day good) in
+    ap (λ (s : List ℕ). w .sent ++ (sentRegistry day s ∷ [])) (text-back out text fits))
+    (λ _ z. absurd (omega arith)))
+    (λ _ z. absurd (omega arith)))
+    (λ _ z. absurd (omega arith))
+  where
+    text : List ℕ
+    text = registryOf day (entriesIn w)
+
+    P : Listed → Type 0
+    P d = d .code ≡ 0 → sentIf (eqb (d .code) 0) (sentRegistry day (take (d .size) (d .out))) (w .sent) ≡ w .sent ++ (sentRegistry day text ∷ [])
+
+-- ---- a report
+module _ (w : World) (day : Day) (text clock out : List ℕ) where
+  -- of the table as the settlement leaves it
+  abbrev pub reportText : List ℕ
+  reportText = reportOf (registryLines text) (recordsIn ((registryArrives w day text clock out) .world))
+
+  -- a byte for each line
+  pub report-size : length reportText ≡ length (registryLines text)
+  report-size = report-length (registryLines text) (recordsIn ((registryArrives w day text clock out) .world))
+
+  -- what a settlement that gave 0 has counted
+  report-room : (settle (w .gate) (w .table) clock day text out) .code ≡ 0
+      → ((settle (w .gate) (w .table) clock day text out) .size ≡ length (registryLines text)) × (length (registryLines text) ≤ length out)
+  report-room =
+      settled-by (w .gate) (w .table) clock day text out (λ (d : Settled). d .code ≡ 0 → (d .size ≡ length (registryLines text)) × (length (registryLines text) ≤ length out))
+      (λ code n z. absurd (n z))
+      (λ p off z. (refl, omega (arith, p .room, lines-good day text (p .faultless) .few)))
+      (λ p next z. (unfold settleDay in refl, omega (arith, p .room, lines-good day text (p .faultless) .few)))
+
+  pub report-sent : (registryArrives w day text clock out) .code ≡ 0
+      → (registryArrives w day text clock out) .world .sent ≡ w .sent ++ (sentReport day reportText ∷ [])
+  unfolding registryArrives
+  report-sent z =
+      let d : Settled = settle (w .gate) (w .table) clock day text out in
+      let r = report-room z in
+      let s : List ℕ = reportOf (registryLines text) (recordsOf (d .rows) (d .gate .used)) in
+      let l : length s ≡ length (registryLines text) = report-length (registryLines text) (recordsOf (d .rows) (d .gate .used)) in
+      let fits : length s ≤ length out = omega (arith, l, r .1) in
+      grown (eqb (d .code) 0) _ _ (w .sent) (eq-eqb (d .code) 0 z)
+      (ap (sentReport day)
+      (ap (λ (n : ℕ). take n (d .report)) (r .0 ∙ sym l)
+      ∙ ap (take (length s)) (report-now (w .gate) (w .table) clock day text out z)
+      ∙ answer-back out s fits))
+
+  -- with any other code nothing is sent and nothing moves
+  pub report-none : ((registryArrives w day text clock out) .code ≡ 0 → ⊥) → (registryArrives w day text clock out) .world ≡ w
+  unfolding registryArrives
+  report-none n =
+      let k = fault-keeps (w .gate) (w .table) clock day text out n in
+      let d : Settled = settle (w .gate) (w .table) clock day text out in
+      let e = same-sent (eqb (d .code) 0) (sentReport day (take (d .size) (d .report))) (w .sent) (ne-eqb (d .code) 0 n) in
+      λ i. atGate w (k .gates i) (k .tables i) (e i)
+
+-- ---- which steps send: a writing that gives 0, a request that is answered, a registry that is settled or reported
+abbrev pub sendsBack : Option Sent → ℕ → Bool
+sendsBack none code = false
+sendsBack (some (sentRequest a receipt text)) code = isAnswered code
+sendsBack (some (sentAnswer a receipt text)) code = false
+sendsBack (some (sentRegistry day text)) code = eqb code 0
+sendsBack (some (sentReport day text)) code = false
+
+abbrev pub sends : Step → World → Bool
+sends (opens n k) w = false
+sends (draws n k kopecks) w = false
+sends (accepts n k kopecks date) w = false
+sends (writesCheck n k kopecks out) w = eqb (codeOf (writesCheck n k kopecks out) w) 0
+sends (writesPayment receipt out) w = eqb (codeOf (writesPayment receipt out) w) 0
+sends (writesStatus receipt out) w = eqb (codeOf (writesStatus receipt out) w) 0
+sends (writesCancel receipt reason out) w = eqb (codeOf (writesCancel receipt reason out) w) 0
+sends (freezes day) w = false
+sends (writesRegistry day out) w = eqb (codeOf (writesRegistry day out) w) 0
+sends (delivers i clock out) w = sendsBack (getElem? (w .sent) i) (codeOf (delivers i clock out) w)
+
+-- no other step sends anything
+pub sent-only : (s : Step) (w : World) → sends s w ≡ false → (step s w) .sent ≡ w .sent
+unfolding opening drawing accepting checking writing freezing listing
+sent-only (opens n k) w h = refl
+sent-only (draws n k kopecks) w h = refl
+sent-only (accepts n k kopecks date) w h = refl
+sent-only (writesCheck n k kopecks out) w h = same-sent _ _ (w .sent) h
+sent-only (writesPayment receipt out) w h = same-sent _ _ (w .sent) h
+sent-only (writesStatus receipt out) w h = same-sent _ _ (w .sent) h
+sent-only (writesCancel receipt reason out) w h = same-sent _ _ (w .sent) h
+sent-only (freezes day) w h = refl
+sent-only (writesRegistry day out) w h = same-sent _ _ (w .sent) h
+sent-only (delivers i clock out) w h = go (getElem? (w .sent) i) h
+  where
+    go : (m : Option Sent) → sendsBack m ((delivered w m clock out) .code) ≡ false → (delivered w m clock out) .world .sent ≡ w .sent
+    go none h = refl
+    go (some (sentRequest a receipt text)) h = unfold requestArrives in same-sent _ _ (w .sent) h
+    go (some (sentAnswer a receipt text)) h = unfold answerArrives in refl
+    go (some (sentRegistry day text)) h = unfold registryArrives in same-sent _ _ (w .sent) h
+    go (some (sentReport day text)) h = unfold reportArrives in refl
