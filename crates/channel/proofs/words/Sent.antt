@@ -1,4 +1,4 @@
--- What is sent is what was written: all of its bytes and no byte more, of every world. A step that sends adds one message at the end, any other adds none.
+-- What is sent is what was written: all of its bytes and no byte more, in every world. What was sent before stays before it, and no other step sends.
 use Prim.Native.Nat.{ℕ, _<_, _≤_}
 use native.Mathlib.Omega.{arith}
 use mathlib.Core.Path.{_≡_, refl, sym, ap, _∙_}
