@@ -13,12 +13,15 @@ use Rattle.fields.proofs.ScanLaws.{find-le}
 pub rows-size : {A : Type 0} (d : List A) (n : ℕ) → n ≤ length d → n ≡ length (take n d)
 rows-size d n h = sym (length-take-le n d h)
 
-module _ (s : List ℕ) (at : ℕ) (r : List ℕ) (er : r ≡ drop at s) (l : List ℕ) (el : l ≡ take (find 10 r) r) (h : at < length s) where
+pub line-is : (s : List ℕ) (at : ℕ) (r l : List ℕ) → r ≡ drop at s → l ≡ take (find 10 r) r → l ≡ take (find 10 (drop at s)) (drop at s)
+line-is s at r l er el = el ∙ ap (λ (x : List ℕ). take (find 10 x) x) er
+
+-- a line that begins inside the text, and the place behind it
+module _ (s : List ℕ) (at : ℕ) (l : List ℕ) (el : l ≡ take (find 10 (drop at s)) (drop at s)) (h : at < length s) where
   line-size : at + length l ≤ length s
   line-size =
-      let rest : length r ≡ length s - at = ap length er ∙ length-drop at s in
-      let part : length l ≡ find 10 r = ap length el ∙ length-take-le (find 10 r) r (find-le 10 r) in
-      omega (arith, rest, part, find-le 10 r)
+      let part : length l ≡ find 10 (drop at s) = ap length el ∙ length-take-le (find 10 (drop at s)) (drop at s) (find-le 10 (drop at s)) in
+      omega (arith, length-drop at s, part, find-le 10 (drop at s))
 
   pub line-fits : length s * 1 < 2 ^ 63 → Fits w64 (length l + 1)
   line-fits b = omega (arith, line-size)
@@ -26,8 +29,8 @@ module _ (s : List ℕ) (at : ℕ) (r : List ℕ) (er : r ≡ drop at s) (l : Li
   pub next-fits : length s * 1 < 2 ^ 63 → Fits w64 (at + (length l + 1))
   next-fits b = omega (arith, line-size)
 
+  pub next-past : at < at + (length l + 1)
+  next-past = omega arith
+
   pub next-inside : at + (length l + 1) ≤ length s + 1
   next-inside = omega (arith, line-size)
-
-  pub next-falls : (length s + 1) - (at + (length l + 1)) < (length s + 1) - at
-  next-falls = omega (arith, line-size)

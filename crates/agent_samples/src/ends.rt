@@ -141,7 +141,65 @@ fn ask(
     r
 }
 
-// A request whose answer comes back, or is lost on the way.
+// Its answer at the agent.
+fn hear(
+    a: Action,
+    s: &[u8],
+    answer: &[u8],
+    nums: &mut [[u64; 6]],
+    numbers: &mut [[u8; 30]],
+    dates: &mut [[u8; 19]],
+    d: Desk,
+) {
+    show_next(answering::take_answer(nums, numbers, dates, d.book, a, given::value(s), answer));
+}
+
+// A request whose answer comes back.
+fn ask_heard(
+    a: Action,
+    s: &[u8],
+    nums: &mut [[u64; 6]],
+    numbers: &mut [[u8; 30]],
+    dates: &mut [[u8; 19]],
+    table: &mut [[u64; 6]],
+    owners: &mut [[u8; 30]],
+    times: &mut [[[u8; 19]; 3]],
+    d: Desk,
+    out: &mut [u8],
+) -> Desk {
+    let r = ask(a, s, nums, numbers, dates, table, owners, times, d, out);
+    hear(
+        a,
+        s,
+        scan::first_bytes(out, r.size),
+        nums,
+        numbers,
+        dates,
+        d,
+    );
+    let g = r.gate;
+    with_gate(d, g)
+}
+
+// A request whose answer is lost on the way.
+fn ask_lost(
+    a: Action,
+    s: &[u8],
+    nums: &mut [[u64; 6]],
+    numbers: &mut [[u8; 30]],
+    dates: &mut [[u8; 19]],
+    table: &mut [[u64; 6]],
+    owners: &mut [[u8; 30]],
+    times: &mut [[[u8; 19]; 3]],
+    d: Desk,
+    out: &mut [u8],
+) -> Desk {
+    let r = ask(a, s, nums, numbers, dates, table, owners, times, d, out);
+    let g = r.gate;
+    with_gate(d, g)
+}
+
+// A request at the gate, from action, receipt, reason and clock.
 pub fn exchange(
     heard: bool,
     s: &[u8],
@@ -159,7 +217,21 @@ pub fn exchange(
     };
     let mut out = [46u8; 512];
     let rest = given::second(s);
-    let r = ask(
+    if heard {
+        return ask_heard(
+            a,
+            rest,
+            nums,
+            numbers,
+            dates,
+            table,
+            owners,
+            times,
+            d,
+            &mut out,
+        );
+    }
+    ask_lost(
         a,
         rest,
         nums,
@@ -170,21 +242,91 @@ pub fn exchange(
         times,
         d,
         &mut out,
+    )
+}
+
+// The registry of a day in `out`, and its length.
+fn list(
+    s: &[u8],
+    nums: &[[u64; 6]],
+    numbers: &[[u8; 30]],
+    dates: &[[u8; 19]],
+    d: Desk,
+    out: &mut [u8],
+) -> usize {
+    let w = listing::write_registry(nums, numbers, dates, d.book, given::day(s), out);
+    io::print_decimal(1, w.code);
+    w.size
+}
+
+// A registry at the gate, with its report in `out`.
+fn deliver_registry(
+    s: &[u8],
+    registry: &[u8],
+    table: &mut [[u64; 6]],
+    owners: &mut [[u8; 30]],
+    times: &mut [[[u8; 19]; 3]],
+    d: Desk,
+    out: &mut [u8],
+) -> Reply {
+    let clock = given::written(given::second(s));
+    let r = settle::settle(
+        table,
+        owners,
+        times,
+        d.gate,
+        clock,
+        given::day(s),
+        registry,
+        out,
     );
-    if heard {
-        let text = scan::first_bytes(&out, r.size);
-        show_next(answering::take_answer(
-            nums,
-            numbers,
-            dates,
-            d.book,
-            a,
-            given::value(rest),
-            text,
-        ));
-    }
+    show_next(r.code);
+    r
+}
+
+// A report at the agent.
+fn take_report(
+    s: &[u8],
+    report: &[u8],
+    nums: &mut [[u64; 6]],
+    numbers: &mut [[u8; 30]],
+    dates: &mut [[u8; 19]],
+    d: Desk,
+) -> Desk {
+    let t = taking::take_report(nums, numbers, dates, d.book, given::day(s), report);
+    show_next(t.code);
+    io::write_all(1, b" ");
+    io::write_all(1, report);
+    let b = t.book;
+    desk::with_book(d, b)
+}
+
+// A day settled at both ends, over these two buffers.
+fn settle_over(
+    s: &[u8],
+    nums: &mut [[u64; 6]],
+    numbers: &mut [[u8; 30]],
+    dates: &mut [[u8; 19]],
+    table: &mut [[u64; 6]],
+    owners: &mut [[u8; 30]],
+    times: &mut [[[u8; 19]; 3]],
+    d: Desk,
+    registry: &mut [u8],
+    out: &mut [u8],
+) -> Desk {
+    let n = list(s, nums, numbers, dates, d, registry);
+    let r = deliver_registry(
+        s,
+        scan::first_bytes(registry, n),
+        table,
+        owners,
+        times,
+        d,
+        out,
+    );
+    let next = take_report(s, scan::first_bytes(out, r.size), nums, numbers, dates, d);
     let g = r.gate;
-    with_gate(d, g)
+    with_gate(next, g)
 }
 
 // A day settled at both ends, from day and clock: the codes of registry, settlement and report, and the report.
@@ -199,29 +341,19 @@ pub fn settle_day(
     d: Desk,
 ) -> Desk {
     let mut registry = io::large_buffer();
-    let day = given::day(s);
-    let w = listing::write_registry(nums, numbers, dates, d.book, day, &mut registry);
-    io::print_decimal(1, w.code);
     let mut out = [46u8; 512];
-    let r = settle::settle(
+    settle_over(
+        s,
+        nums,
+        numbers,
+        dates,
         table,
         owners,
         times,
-        d.gate,
-        given::written(given::second(s)),
-        day,
-        scan::first_bytes(&registry, w.size),
+        d,
+        &mut registry,
         &mut out,
-    );
-    show_next(r.code);
-    let report = scan::first_bytes(&out, r.size);
-    let t = taking::take_report(nums, numbers, dates, d.book, day, report);
-    show_next(t.code);
-    io::write_all(1, b" ");
-    io::write_all(1, report);
-    let b = t.book;
-    let g = r.gate;
-    with_gate(desk::with_book(d, b), g)
+    )
 }
 
 // A record's receipt, state and authcode.

@@ -7,8 +7,9 @@ mod words;
 use desk::Desk;
 use fields::scan;
 ghost use mathlib.Core.Path.{_≡_};
-ghost use Prim.Native.Nat.{_≤_};
-ghost use lib.ListN.{length};
+ghost use Prim.Native.Nat.{_≤_, _<_, _+_};
+ghost use lib.ListN.{length, take, drop};
+ghost use Rattle.fields.specs.Lists.{find};
 
 // The rows that are lent at most: 600 entries.
 fn empty_nums() -> [[u64; 6]; 600]
@@ -82,6 +83,21 @@ fn answer_line(
     next
 }
 
+// The line that begins at a place.
+fn line_at(s: &[u8], at: usize) -> &[u8]
+    ensures { λ r. ⌜ now r ≡ take (find 10 (drop at (now (s .entry)))) (drop at (now (s .entry))) ⌝ }
+{
+    scan::before_byte(scan::bytes_from(s, at), 10)
+}
+
+// Where the next line begins.
+fn next_line(s: &[u8], at: usize) -> usize
+    requires { ⌜ at < length (now s) ⌝ }
+    ensures { λ r. ⌜ (at < r) × (r ≤ length (now (s .entry)) + 1) ⌝ }
+{
+    at + (line_at(s, at).len() + 1)
+}
+
 // Answers each line.
 fn lines(
     s: &[u8],
@@ -95,9 +111,10 @@ fn lines(
     let mut d = desk::start(b"", ends::no_gate(given::day(b"")));
     let mut at: usize = 0;
     while at < s.len() {
-        let line = scan::before_byte(scan::bytes_from(s, at), 10);
+        let next = next_line(s, at);
+        let line = line_at(s, at);
         d = answer_line(line, nums, numbers, dates, table, owners, times, d);
-        at += line.len() + 1;
+        at = next;
     }
 }
 

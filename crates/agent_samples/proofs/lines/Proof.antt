@@ -1,6 +1,6 @@
-use Rattle.agent_samples.proofs.PartLaws.{line-fits, next-fits, next-inside, next-falls}
-use mathlib.Core.Path.{_≡_, _∙_}
 use Prim.Native.Nat.{_≤_, _-_, _+_}
+use native.Mathlib.Omega.{arith}
+use mathlib.Core.Path.{_≡_}
 use lib.ListN.{length}
 use borrow.Author.Needs.{needs}
 use Rattle.agent_samples.proofs.lines.Statement.{statement}
@@ -14,7 +14,11 @@ Inv-loop s nums₀ numbers₀ dates₀ table₀ owners₀ times₀ d₀ at₀ nu
 abbrev μ-loop : tie.MeasureT-loop
 μ-loop s nums₀ numbers₀ dates₀ table₀ owners₀ times₀ d₀ at₀ nums numbers dates table owners times d at = length s + 1 - at
 
-ruleset laws = (line-fits, next-fits, next-inside, next-falls, needs)
+loop-less : tie.Need-loop-less Inv-loop μ-loop
+loop-less c = let n = c .before .before .before .before .before .before .before .before .before .before .before .before .before .before .next-line .ensures in omega (arith, n .0, n .1)
+
+loop-again : tie.Need-loop-again Inv-loop μ-loop
+loop-again c = (c .before .before .before .before .before .before .before .before .before .before .before .before .before .before .next-line .ensures .1, search needs, search needs, search needs, search needs, search needs, search needs)
 
 pub lines-spec : {M : Type 1} → statement M
 lines-spec =
@@ -22,17 +26,21 @@ lines-spec =
     (tie.spec
     Inv-loop
     μ-loop
-    (λ c. search laws)
-    (λ c κs. search laws)
-    (λ c. search laws)
-    (λ c κs. search laws)
-    (λ c κs. search laws)
-    (λ c κs. search laws)
-    (λ c. search laws)
-    (λ c. search laws)
-    (λ c. search laws)
-    (λ c. (search (next-inside, needs), search needs, search needs, search needs))
-    (λ c. search laws)
-    (λ c. search laws)
-    (λ c. search laws)
-    (λ c. search laws))
+    (λ c. search needs)
+    (λ c. search needs)
+    (λ c κs. search needs)
+    (λ c κs. search needs)
+    (λ c κs. search needs)
+    (λ c. search needs)
+    (λ c κs. search needs)
+    (λ c κs. search needs)
+    (λ c κs. search needs)
+    loop-less
+    loop-again
+    (λ c. search needs)
+    (λ c. search needs)
+    (λ c. search needs)
+    (λ c. search needs)
+    (λ c. search needs)
+    (λ c. search needs)
+    (λ c. search needs))
