@@ -13,7 +13,7 @@ use Rattle.fields.specs.Codes.{isReceipt, isKind}
 use Rattle.fields.specs.Date.{isWritten}
 use Rattle.fields.specs.Digits.{within}
 use Rattle.fields.specs.Number.{isNumber}
-use Rattle.fields.proofs.Tests.{both}
+use Rattle.fields.proofs.Tests.{both, no-claim}
 use Rattle.lists.specs.declared.Found.{Found}
 use Rattle.lists.specs.declared.Found.the-variants.{At}
 use Rattle.book.specs.declared.Book.{Book}
@@ -25,7 +25,6 @@ use Rattle.book.specs.BookValid.{entryFields, bookGood, ReadyBook}
 use Rattle.book.proofs.EntryLaws.{EntryRoom, entry-other, entry-same, getD-entries, book-kept}
 use Rattle.lists.proofs.LentLaws.{lent-facts}
 use Rattle.book.proofs.BookLaws.{good-book, good-lent, good-room, put-good, entry-within}
-use Rattle.book.proofs.CountLaws.{no-claim}
 use Rattle.daybook.specs.Acceptance.{isFrozen}
 
 -- ---- what every call finds

@@ -8,10 +8,6 @@ use borrow.Author.Tests.{le-leb, lt-leb, eq-eqb, ne-eqb, leb-true, eqb-true, not
 use Rattle.fields.proofs.Tests.{both}
 use Rattle.lists.specs.Lent.{lentWell, Lent}
 
--- nothing follows from a test that failed
-pub no-claim : {A : Type 0} → false ≡ true → A
-no-claim e = let z : _≡_ {A = ℕ} 0 1 = cc in absurd (omega arith)
-
 module _ (used n m k : ℕ) where
   pub lent-facts : lentWell used n m k ≡ true → Lent used n m k
   unfolding lentWell

@@ -20,8 +20,8 @@ use Rattle.table.specs.declared.Record.{Record}
 use Rattle.lists.specs.declared.Found.{Found}
 use Rattle.lists.specs.declared.Found.the-variants.{At, Nothing}
 use Rattle.lists.specs.Lists.{firstFrom}
-use Rattle.table.specs.Table.{Rows, recordAt, recordsOf, rowsFrom, rowsWith, numsOf, datesOf, findRecord, Whole}
-use Rattle.table.specs.Accounts.{accountsOf, findAccount, noAccount, withBalance, balanceAt, gateBalance, credited, debited, withUsed}
+use Rattle.table.specs.Table.{Rows, recordAt, recordsOf, rowsFrom, rowsWith, numsOf, datesOf, findRecord}
+use Rattle.table.specs.Accounts.{accountsOf, findAccount, noAccount, withBalance, balanceAt, gateBalance, credited, debited}
 use Rattle.table.proofs.SignedLaws.{mag-up, mag-down}
 use Rattle.table.proofs.AccountLaws.{holder-within}
 use Rattle.table.proofs.TableLaws.{length-records, getD-records, from-at, from-whole, whole-from, records-from, rows-kept, rows-set}
@@ -89,6 +89,10 @@ post-room (At i) k full a e = other e refl
 post-room Nothing Nothing full a e = other e refl
 post-room Nothing (At c) true a e = other e refl
 post-room Nothing (At c) false a e = let q : c ≡ a = cc in (refl, ap At q)
+
+pub post-new : (f k : Found) (full : Bool) (a : ℕ) → postVerdict f k full ≡ Posts a → f ≡ Nothing
+post-new (At i) k full a e = other e refl
+post-new Nothing k full a e = refl
 
 pub verdict-post : (rs : List Record) (f : Found) (v : Verdict) (a : ℕ) → matchVerdict rs f v ≡ Posts a → v ≡ Posts a
 verdict-post rs Nothing v a e = e
