@@ -25,6 +25,10 @@ and-right false u h = no-claim h
 pub both : (t u : Bool) → t && u ≡ true → (t ≡ true) × (u ≡ true)
 both t u h = (and-left t u h, and-right t u h)
 
+-- two tests that hold
+pub and-both : (t u : Bool) → t ≡ true → u ≡ true → t && u ≡ true
+and-both t u p q = rw (p, q)
+
 pub and-then : (t : Bool) {u w : Bool} → (u ≡ true → w ≡ true) → t && u ≡ true → t && w ≡ true
 and-then true f k = f k
 and-then false f k = k

@@ -17,7 +17,7 @@ use Rattle.fields.specs.declared.number.Number.{Number}
 use Rattle.fields.specs.Amount.{isAmount}
 use Rattle.fields.specs.Codes.{isKind}
 use Rattle.fields.specs.Number.{isNumber}
-use Rattle.fields.proofs.Tests.{and-left, and-right, cond-elim, no-claim}
+use Rattle.fields.proofs.Tests.{and-left, and-right, cond-elim, no-claim, and-both}
 use Rattle.table.specs.declared.Account.{Account}
 use Rattle.table.specs.declared.Gate.{Gate}
 use Rattle.table.specs.declared.Record.{Record}
@@ -36,7 +36,7 @@ use Rattle.gate.specs.Deliver.{isShort, debitedAt, respond, deliver, Del
 use Rattle.gate.specs.Opening.{replies, openTo, openCall, drawOn, drawFrom, drawCall}
 use Rattle.gate.proofs.OutcomeLaws.{Outcome, stays, appends, revokes, outcome}
 use Rattle.gate.proofs.KeepsLaws.{delivered-by}
-use Rattle.gate.proofs.GoodLaws.{Good, Near, and-both, good-table, near-table, table-again, ready-again}
+use Rattle.gate.proofs.GoodLaws.{Good, Near, good-table, near-table, table-again, ready-again}
 use Rattle.gate.proofs.RowsLaws.{SameNames, names-same, names-debited, good-there, delivered-good, delivered-ready}
 
 -- ---- a balance that is drawn on stays in its bound

@@ -14,7 +14,7 @@ use Rattle.fields.specs.Lists.{eqList}
 use Rattle.fields.specs.Amount.{isAmount}
 use Rattle.fields.specs.Codes.{isReceipt}
 use Rattle.fields.specs.Date.{isWritten}
-use Rattle.fields.proofs.Tests.{and-left, and-right}
+use Rattle.fields.proofs.Tests.{and-left, and-right, and-both}
 use Rattle.message.specs.declared.request.Asked.{Asked}
 use Rattle.message.specs.Names.{hasAccount, hasReceipt, hasDate}
 use Rattle.message.specs.Request.{requestRead}
@@ -33,7 +33,7 @@ use Rattle.gate.specs.Deliver.{noRecord, nextAuthcode, makeRecord, revok
 use Rattle.gate.proofs.OutcomeLaws.{Outcome, stays, appends, revokes, outcome}
 use Rattle.gate.proofs.KeepsLaws.{delivered-by}
 use Rattle.gate.proofs.RecordsLaws.{debit-used}
-use Rattle.gate.proofs.GoodLaws.{Good, Near, and-both, good-table, table-again, ready-again}
+use Rattle.gate.proofs.GoodLaws.{Good, Near, good-table, table-again, ready-again}
 
 -- ---- the accounts keep their names
 -- the same accounts by number and type, found at the same places, and the same closed day

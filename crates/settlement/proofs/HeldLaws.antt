@@ -26,6 +26,7 @@ use Rattle.table.proofs.SignedLaws.{mag-up, mag-down}
 use Rattle.table.proofs.AccountLaws.{holder-within}
 use Rattle.table.proofs.TableLaws.{length-records, getD-records, from-at, from-whole, whole-from, records-from, rows-kept, rows-set}
 use Rattle.gate.specs.Deliver.{noRecord, makeRecord, revoked, creditedAt, debitedAt, isFull}
+use Rattle.gate.proofs.RecordsLaws.{debit-used}
 use Rattle.settlement.specs.Settle.{matches, isDone, postVerdict, matchVerdict, verdictOf, restored, postedRecord, Ledger, Verdict, Keeps, Restores, Posts, Unposted, applied, settleLine, isStray, sweptRecord, sweptGate}
 use Rattle.settlement.specs.Steps.{Funds, Held, Left, ledgerOf, sweptAt}
 
@@ -102,7 +103,7 @@ verdict-post rs (At i) v a e = go (isDone (getD rs i noRecord)) e
     go true q = let z : _≡_ {A = ℕ} 0 1 = cc in absurd (omega arith)
     go false q = let z : _≡_ {A = ℕ} 0 1 = cc in absurd (omega arith)
 
-credit-used : (g : Gate) (k : Found) (n : ℕ) → (creditedAt g k n) .used ≡ g .used
+pub credit-used : (g : Gate) (k : Found) (n : ℕ) → (creditedAt g k n) .used ≡ g .used
 unfolding credited
 credit-used g Nothing n = refl
 credit-used g (At a) n = refl
@@ -220,11 +221,6 @@ set-same : (rs : List Record) (i : ℕ) (z : Record) → set rs i (getD rs i z) 
 set-same [] i z = refl
 set-same (r ∷ rs) zero z = refl
 set-same (r ∷ rs) (suc i) z = ap (λ (l : List Record). r ∷ l) (set-same rs i z)
-
-debit-used : (g : Gate) (k : Found) (n : ℕ) → (debitedAt g k n) .used ≡ g .used
-unfolding debited
-debit-used g Nothing n = refl
-debit-used g (At a) n = refl
 
 module _ (g : Gate) (t : Rows) (b : ℕ) (held : Held g t b) (clock : List ℕ) (day : Day) (xs : List Line) (i : ℕ) (h : i < g .used) where
   pub sweep-step : Step t (g .used) (b + 1000000000) (sweptAt clock day xs i (ledgerOf g t))

@@ -28,13 +28,14 @@ use Rattle.lists.specs.declared.Found.the-variants.{At, Nothing}
 use Rattle.lists.specs.Lists.{firstFrom}
 use Rattle.table.specs.Table.{Rows, recordAt, recordsOf, rowsFrom, findRecord}
 use Rattle.lists.proofs.ListLaws.{found-fits}
-use Rattle.table.specs.Accounts.{accountsOf, findAccount, credited}
+use Rattle.table.specs.Accounts.{accountsOf, findAccount}
 use Rattle.table.specs.Valid.{tableGood}
 use Rattle.table.proofs.TableLaws.{length-records, getD-records, from-at, records-from}
 use borrow.Author.Tests.{leb-true, eqb-true, eqb-false, not-true}
-use Rattle.gate.specs.Deliver.{noRecord, revoked, creditedAt, debitedAt, isFull}
+use Rattle.gate.specs.Deliver.{noRecord, revoked, debitedAt, isFull}
 use Rattle.gate.proofs.RecordsLaws.{debit-used}
 use Rattle.settlement.specs.Settle.{matches, isDone, Verdict, Keeps, Restores, Posts, Unposted, postVerdict, matchVerdict, verdictOf, restored, postedRecord, Ledger, applied, settleLine, settleLines, anyMatches, isStray, sweptRecord, sweptGate, sweepGates, swept, anyDone, reportOf, Settled, unsettled, reported, settleDay, settleText, settle}
+use Rattle.settlement.proofs.HeldLaws.{credit-used}
 
 true-not-false : true ≡ false → ⊥
 true-not-false e = let z : _≡_ {A = ℕ} 0 1 = cc in absurd (omega arith)
@@ -154,11 +155,6 @@ onward-after l m n a b =
       size = omega (arith, a .size, b .size);
       keys = λ i h. key-after (getD (l .records) i noRecord) (getD (m .records) i noRecord) (getD (n .records) i noRecord) (a .keys i h) (b .keys i (omega (arith, a .size)));
     }
-
-credit-used : (g : Gate) (f : Found) (n : ℕ) → (creditedAt g f n) .used ≡ g .used
-unfolding credited
-credit-used g Nothing n = refl
-credit-used g (At a) n = refl
 
 pub applied-onward : (clock : List ℕ) (x : Line) (v : Verdict) (l : Ledger) → Onward l (applied clock x v l)
 unfolding applied
