@@ -8,7 +8,7 @@ use lib.ListN.{set}
 use borrow.Author.Tests.{le-leb}
 use Rattle.fields.specs.Codes.{isReceipt}
 use Rattle.fields.specs.Digits.{within}
-use Rattle.fields.proofs.Tests.{cond-elim, cond-le}
+use Rattle.fields.proofs.Tests.{cond-elim, cond-le, no-claim}
 use Rattle.fields.proofs.DigitLaws.{within-high}
 use Rattle.message.specs.declared.action.Action.{Action}
 use Rattle.message.specs.declared.action.Action.the-variants.{Check, Payment, Status, Cancel}
@@ -25,7 +25,6 @@ use Rattle.book.specs.Entries.{BookRows, stateOf, noEntry, entryAt, entriesOf, 
 use Rattle.book.specs.BookValid.{entryFields, bookGood, ReadyBook}
 use Rattle.book.proofs.EntryLaws.{getD-entries, book-set}
 use Rattle.book.proofs.BookLaws.{entry-within, number-again}
-use Rattle.book.proofs.CountLaws.{no-claim}
 use Rattle.book.proofs.PaymentLaws.{entry-parts, SamePayment, fields-kept, state-range, waits}
 use Rattle.agent.specs.declared.meaning.Meaning.{Meaning}
 use Rattle.agent.specs.declared.meaning.Meaning.the-variants.{Paid, Revoked, Silent}

@@ -8,6 +8,7 @@ use mathlib.Core.List.{[]}
 use lib.ListN.{length, getD, set, length-set}
 use lib.Seq.{getD-set-same, getD-set-other, set-getD}
 use borrow.Author.Tests.{not-false}
+use Rattle.fields.proofs.Tests.{no-claim}
 use Rattle.lists.specs.declared.Found.{Found}
 use Rattle.lists.specs.declared.Found.the-variants.{At}
 use Rattle.book.specs.declared.Book.{Book}
@@ -17,8 +18,7 @@ use Rattle.book.specs.BookValid.{entryFields, bookGood, ReadyBook}
 use Rattle.book.proofs.EntryLaws.{EntryRoom, entry-other, entry-same, getD-entries, book-kept}
 use Rattle.lists.proofs.LentLaws.{lent-facts}
 use Rattle.book.proofs.BookLaws.{good-book, good-lent, good-room, put-good, entry-within}
-use Rattle.book.proofs.CountLaws.{no-claim}
-pub use Rattle.book.proofs.PaymentLaws.{EntryParts, entry-parts, SamePayment, same-payment, fields-kept}
+use Rattle.book.proofs.PaymentLaws.{SamePayment, same-payment}
 use Rattle.daybook.specs.Acceptance.{isFrozen}
 
 -- ---- what every call finds

@@ -1,21 +1,20 @@
 -- What a writing may do to the book, and what a reader makes of the request that it wrote.
 use Prim.Native.Nat.{ℕ, _+_, _<_, _≤_}
-use native.Mathlib.Nat.{zero-add}
 use native.Mathlib.Omega.{arith}
 use mathlib.Core.Path.{_≡_, refl, sym, ap, _∙_}
 use mathlib.Core.Bool.{Bool, true, false, not, _&&_}
 use mathlib.Core.List.{List}
 use lib.Dec.{leb}
-use lib.ListN.{length, take, drop, getD, set, length-set}
-use lib.Seq.{take-append-seam, getD-set-same}
+use lib.ListN.{length, take, getD, set, length-set}
+use lib.Seq.{getD-set-same}
 use borrow.Author.Tests.{leb-true, leb-false, not-true}
 use Rattle.fields.specs.declared.number.Number.{Number}
 use Rattle.fields.specs.Lists.{written, cursorAfter}
 use Rattle.fields.specs.Amount.{isAmount}
 use Rattle.fields.specs.Codes.{isReceipt, isKind, isReason}
 use Rattle.fields.specs.Number.{isNumber}
-use Rattle.fields.proofs.Tests.{and-right, cond-elim}
-use Rattle.fields.proofs.OutLaws.{buffer-stays, cursor-moves, written-over, bytes-past}
+use Rattle.fields.proofs.Tests.{and-right, cond-elim, no-claim}
+use Rattle.fields.proofs.OutLaws.{buffer-stays, cursor-moves, bytes-past, text-back}
 use Rattle.fields.proofs.DateLaws.{written-parts}
 use Rattle.message.specs.declared.action.Action.{Action}
 use Rattle.message.specs.declared.action.Action.the-variants.{Check, Payment, Status, Cancel}
@@ -33,7 +32,6 @@ use Rattle.book.specs.Entries.{BookRows, stateOf, noEntry, entryAt, entriesOf, 
 use Rattle.book.specs.BookValid.{entryFields, bookGood, ReadyBook}
 use Rattle.book.proofs.EntryLaws.{getD-entries, length-entries, entry-from, book-set}
 use Rattle.book.proofs.BookLaws.{entry-within}
-use Rattle.book.proofs.CountLaws.{no-claim}
 use Rattle.book.proofs.PaymentLaws.{entry-parts, SamePayment, same-payment, fields-kept, state-range}
 use Rattle.daybook.specs.Acceptance.{isFrozen}
 use Rattle.agent.specs.Writing.{Wrote, unwritten, wrote, mayWrite, writtenEntry, requestOf, formsGood, isOpen, writeAt, writeRequest, checkOf, writeCheck}
@@ -73,13 +71,7 @@ asked-good Payment e receipt reason h f = let p = entry-parts e h in rw (p .rece
 asked-good Status e receipt reason h f = let p = entry-parts e h in rw (p .receipt)
 asked-good Cancel e receipt reason h f = let p = entry-parts e h in rw (p .receipt, and-right (isReceipt receipt) (isReason reason) f)
 
--- ---- a text that has room is in the bytes that the writer counts
-text-back : (out xs : List ℕ) → length xs ≤ length out → take (cursorAfter out 0 xs) (written out 0 xs) ≡ xs
-text-back out xs fit =
-    let f : 0 + length xs ≤ length out = omega arith in
-    rw (← cursor-moves out 0 xs f, ← written-over out 0 xs f, zero-add) (take-append-seam xs (drop (length xs) out))
-
--- and the bytes past them stay
+-- ---- the bytes past a text stay
 rest-kept : (out xs : List ℕ) (j : ℕ) → cursorAfter out 0 xs ≤ j → getD (written out 0 xs) j 0 ≡ getD out j 0
 rest-kept out xs j h = go (leb (0 + length xs) (length out)) refl
   where

@@ -15,7 +15,7 @@ use Rattle.fields.specs.Calendar.{isDay}
 use Rattle.fields.specs.Codes.{isReceipt}
 use Rattle.fields.specs.Date.{dateDay}
 use Rattle.fields.specs.Digits.{within}
-use Rattle.fields.proofs.Tests.{and-left, and-right, both}
+use Rattle.fields.proofs.Tests.{and-left, and-right, both, no-claim}
 use Rattle.lists.specs.declared.Found.{Found}
 use Rattle.lists.specs.declared.Found.the-variants.{At, Nothing}
 use Rattle.lists.specs.Lists.{allFrom}
@@ -29,7 +29,7 @@ use Rattle.book.specs.declared.State.the-variants.{Asked, Credited, Canc
 use Rattle.book.specs.Entries.{BookRows, entryAt, entriesOf, entryNums, bookWith, isEntry, findEntry, stateNumber, stateOf}
 use Rattle.book.specs.BookValid.{entryFields, inTurn, entryGood, dayCount, daysGood, bookLent, bookHead, bookGood}
 use Rattle.book.proofs.EntryLaws.{EntryRoom, entry-other, entry-same, entries-set, entries-more, length-entries, getD-entries}
-use Rattle.book.proofs.CountLaws.{no-claim, count-set, days-few, days-kept, days-more}
+use Rattle.book.proofs.CountLaws.{count-set, days-few, days-kept, days-more}
 
 -- ---- a good book, as facts
 pub record GoodBook (b : Book) (t : BookRows) : Type 0 where

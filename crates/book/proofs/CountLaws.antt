@@ -17,7 +17,7 @@ use Rattle.fields.specs.declared.calendar.DayRead.{DayRead}
 use Rattle.fields.specs.declared.calendar.DayRead.the-variants.{Good, NoDate}
 use Rattle.fields.specs.Calendar.{isDay, sameDay, onDay}
 use Rattle.fields.specs.Date.{dateDay}
-use Rattle.fields.proofs.Tests.{and-left, and-right}
+use Rattle.fields.proofs.Tests.{and-left, and-right, no-claim}
 use Rattle.fields.proofs.DayLaws.{IsDate, is-date, days-high, same-day, same-day-refl}
 use Rattle.fields.proofs.DateLaws.{DayOf, date-day}
 use Rattle.lists.specs.Lists.{tab, allFrom}
@@ -26,10 +26,6 @@ use Rattle.book.specs.Entries.{BookRows, entryAt, entriesOf}
 use Rattle.book.specs.BookValid.{dayCount, dayFits, daysGood}
 use Rattle.book.specs.BookWalk.{daySlot}
 use Rattle.book.proofs.EntryLaws.{length-entries}
-
--- a test that failed shows nothing
-pub no-claim : {A : Type 0} → false ≡ true → A
-no-claim q = let z : _≡_ {A = ℕ} 0 1 = cc in absurd (omega arith)
 
 -- ---- one entry more, one replaced
 abbrev isOn : Day → Entry → Bool

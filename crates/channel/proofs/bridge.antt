@@ -1,8 +1,4 @@
--- The bridge: a real world seen as one of the byte-free model (`Shape`, `WorldOf`: `worldOf` is a function), accounts and dates as numbers (`Keys`, `DaysOf`),
--- lent rows as lists (`RowsOf`, `AccountsOf`, `BookOf`, `GateOf`), and when a registry's line matches (`MatchOf`).
-pub mod Each
-pub mod Keys
-pub mod DaysOf
+-- The bridge: a real world seen as one of the byte-free model (`Shape`, `WorldOf`: `worldOf` is a function), lent rows as lists (`RowsOf`, `AccountsOf`, `BookOf`, `GateOf`), and when a registry's line matches (`MatchOf`).
 pub mod Shape
 pub mod RowsOf
 pub mod AccountsOf

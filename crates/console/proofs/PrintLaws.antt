@@ -15,13 +15,12 @@ use mir.Val.{Fits, SFits, toZ, ofZ}
 use borrow.Author.Tests.{eq-eqb, ne-eqb, le-ltb, ltb-true}
 use Rattle.fields.specs.Digits.{fixed, leadZeros, decimal}
 use Rattle.fields.specs.Lists.{written, cursorAfter}
-use Rattle.fields.proofs.Tests.{cond-elim}
+use Rattle.fields.proofs.Tests.{cond-elim, no-claim}
 use Rattle.fields.proofs.OutLaws.{cursor-moves, written-over, cursor-then, written-then}
 use Rattle.fields.proofs.DecimalLaws.{decimal-size}
 use Rattle.table.specs.declared.Gate.{Gate}
 use Rattle.table.specs.Accounts.{accountsOf}
 use Rattle.table.proofs.SignedLaws.{small, back}
-use Rattle.table.proofs.RangeLaws.{no-claim}
 use Rattle.console.specs.Order.{Turn, sumBalances, signedText, figures, turnText}
 use Rattle.console.specs.Sums.{countsText}
 

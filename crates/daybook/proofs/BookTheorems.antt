@@ -17,7 +17,7 @@ use Rattle.fields.specs.Calendar.{isDay, dayBefore, nextDay, onDay}
 use Rattle.fields.specs.Codes.{isReceipt, isKind}
 use Rattle.fields.specs.Date.{dateDay, isWritten}
 use Rattle.fields.specs.Number.{isNumber}
-use Rattle.fields.proofs.Tests.{and-left, and-right, cond-elim}
+use Rattle.fields.proofs.Tests.{and-left, and-right, cond-elim, no-claim}
 use Rattle.fields.proofs.DayLaws.{same-day, before-trans, next-after}
 use Rattle.fields.proofs.DateLaws.{date-day}
 use Rattle.lists.proofs.ColumnLaws.{column-at, column-size}
@@ -26,7 +26,6 @@ use Rattle.book.specs.declared.Entry.{Entry}
 use Rattle.book.specs.Entries.{BookRows, entryAt, entriesOf, entryNums, bookWith, bookFrom}
 use Rattle.book.specs.BookValid.{entryFields, dayCount, bookLent, bookGood, ReadyBook}
 use Rattle.book.proofs.EntryLaws.{length-entries, getD-entries, entries-more, entry-from, entries-from}
-use Rattle.book.proofs.CountLaws.{no-claim}
 use Rattle.lists.specs.Lent.{Lent}
 use Rattle.lists.proofs.LentLaws.{lent-facts, facts-lent}
 use Rattle.book.proofs.BookLaws.{good-lent, good-book, good-room, added-good, frozen-good}
@@ -128,7 +127,7 @@ module _ (b : Book) (t : BookRows) (n : Number) (kind amount : ℕ) (date : List
   fault c = record { code = c; book = b; rows = t; receipt = 0 }
 
   -- a property of what is answered and left, which a fault has and a success has
-  accept-elim : (P : Accepted → Type 0) → ((c : ℕ) → 0 < c → P (fault c))
+  pub accept-elim : (P : Accepted → Type 0) → ((c : ℕ) → 0 < c → P (fault c))
       → (bookGood b t ≡ true → mayAccept b n kind amount date ≡ true → hasPlace b t date ≡ true → P success) → P after
   unfolding accept acceptTo
   accept-elim P f s =
@@ -192,20 +191,20 @@ module _ (b : Book) (t : BookRows) (n : Number) (kind amount : ℕ) (date : List
     unfolding mayAccept
     may-number = and-left (isNumber n) tail₁ may
 
-    may-amount : isAmount amount ≡ true
+    pub may-amount : isAmount amount ≡ true
     may-amount = and-left (isAmount amount) tail₃ (and-right (isKind kind) tail₂ may-tail)
 
-    may-written : isWritten date ≡ true
+    pub may-written : isWritten date ≡ true
     may-written = and-left (isWritten date) (not (isFrozen b date)) (and-right (isAmount amount) tail₃ (and-right (isKind kind) tail₂ may-tail))
 
-    may-unfrozen : not (isFrozen b date) ≡ true
+    pub may-unfrozen : not (isFrozen b date) ≡ true
     may-unfrozen = and-right (isWritten date) (not (isFrozen b date)) (and-right (isAmount amount) tail₃ (and-right (isKind kind) tail₂ may-tail))
 
     module _ (place : hasPlace b t date ≡ true) where
       abbrev places : Bool
       places = dayOpen (entriesOf t (b .used)) (dateDay date) && isReceipt (nextReceipt b)
 
-      place-room : b .used < length (t .nums)
+      pub place-room : b .used < length (t .nums)
       unfolding hasPlace
       place-room = ltb-true _ _ (and-left (ltb (b .used) (length (t .nums))) places place)
 
@@ -213,7 +212,7 @@ module _ (b : Book) (t : BookRows) (n : Number) (kind amount : ℕ) (date : List
       unfolding hasPlace
       place-rest = and-right (ltb (b .used) (length (t .nums))) places place
 
-      place-day : (x : Day) → dateDay date ≡ Good x → dayCount x (entriesOf t (b .used)) < 512
+      pub place-day : (x : Day) → dateDay date ≡ Good x → dayCount x (entriesOf t (b .used)) < 512
       place-day x q =
           ltb-true _ _ (ap (dayOpen (entriesOf t (b .used))) (sym q) ∙ and-left (dayOpen (entriesOf t (b .used)) (dateDay date)) (isReceipt (nextReceipt b)) place-rest)
 
@@ -274,7 +273,7 @@ module _ (b : Book) (t : BookRows) (n : Number) (kind amount : ℕ) (date : List
 
 -- ---- freezing
 module _ (b : Book) (t : BookRows) (day : Day) where
-  freeze-elim : (P : Froze → Type 0) → ((c : ℕ) → 0 < c → P (froze c b))
+  pub freeze-elim : (P : Froze → Type 0) → ((c : ℕ) → 0 < c → P (froze c b))
       → (bookGood b t ≡ true → isDay day ≡ true → onDay day (nextDay (b .frozen)) && b .settled ≡ true → P (froze 0 (frozenOn b day))) → P (freeze b t day)
   unfolding freeze freezeOn
   freeze-elim P f s =

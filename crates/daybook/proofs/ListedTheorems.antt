@@ -4,15 +4,16 @@ use native.Mathlib.Omega.{arith}
 use mathlib.Core.Path.{_≡_, refl, sym, ap, _∙_}
 use mathlib.Core.Bool.{Bool, true, false, cond, not, _&&_}
 use mathlib.Core.List.{List, [], _∷_, _++_, map}
-use lib.Dec.{eqb}
+use lib.Dec.{eqb, leb}
 use lib.ListN.{length, getD, set}
-use borrow.Author.Tests.{lt-ltb, eq-eqb, eqb-true}
+use borrow.Author.Tests.{lt-ltb, eq-eqb, eqb-true, leb-true, not-true}
 use Rattle.fields.specs.declared.calendar.Day.{Day}
 use Rattle.fields.specs.declared.calendar.DayRead.{DayRead}
 use Rattle.fields.specs.declared.calendar.DayRead.the-variants.{Good, NoDate}
-use Rattle.fields.specs.Calendar.{dayBefore, sameDay, onDay, upTo}
+use Rattle.fields.specs.Lists.{written, cursorAfter}
+use Rattle.fields.specs.Calendar.{isDay, dayBefore, sameDay, onDay, upTo}
 use Rattle.fields.specs.Date.{dateDay}
-use Rattle.fields.proofs.Tests.{both, and-left, and-right}
+use Rattle.fields.proofs.Tests.{both, and-left, and-right, cond-elim, no-claim}
 use Rattle.fields.proofs.DayLaws.{same-day}
 use Rattle.fields.proofs.DigitLaws.{within-low}
 use Rattle.lists.specs.Lists.{allFrom}
@@ -27,10 +28,9 @@ use Rattle.book.specs.declared.Entry.{Entry}
 use Rattle.book.specs.Entries.{BookRows, entryAt, entriesOf}
 use Rattle.book.specs.BookValid.{entryFields, inTurn, entryGood, dayCount, bookGood}
 use Rattle.book.proofs.EntryLaws.{length-entries, getD-entries}
-use Rattle.book.proofs.CountLaws.{no-claim}
 use Rattle.book.proofs.BookLaws.{good-book}
 use Rattle.daybook.specs.Acceptance.{isFrozen}
-use Rattle.daybook.specs.Freezing.{isListed, listed, entryLine, registryOf, listOn, writeRegistry}
+use Rattle.daybook.specs.Freezing.{isListed, listed, entryLine, registryOf, Listed, unlisted, listOn, writeRegistry}
 use Rattle.daybook.proofs.RegistryLaws.{entry-line, entries-all}
 
 -- ---- it reads back
@@ -107,6 +107,24 @@ module _ (b : Book) (t : BookRows) (day : Day) (good : bookGood b t ≡ true) (n
   pub registry-holds : registryLines (registryOf day entries) ≡ map lineAgain (map entryLine (listed day entries))
   unfolding registryOf
   registry-holds = lines-again day (map entryLine (listed day entries)) all-lines
+
+-- ---- the call
+module _ (b : Book) (t : BookRows) (day : Day) (out : List ℕ) where
+  -- what a writing that gives 0 leaves
+  abbrev pub wrote : Listed
+  wrote = record { code = 0; out = written out 0 (registryOf day (entriesOf t (b .used))); size = cursorAfter out 0 (registryOf day (entriesOf t (b .used))) }
+
+  -- a property of what a writing gives, which a fault has and a success has
+  pub list-elim : (P : Listed → Type 0) → ((c : ℕ) → 0 < c → P (unlisted c out))
+      → (65536 ≤ length out → isDay day ≡ true → dayBefore (b .frozen) day ≡ false → P wrote) → P (writeRegistry b t day out)
+  unfolding writeRegistry listOn
+  list-elim P f s =
+      cond-elim P (bookGood b t) _ _
+      (λ g. cond-elim P (leb 65536 (length out)) _ _
+      (λ r. cond-elim P (isDay day && not (dayBefore (b .frozen) day)) _ _
+      (λ d. s (leb-true _ _ r) (and-left (isDay day) _ d) (not-true _ (and-right (isDay day) _ d))) (λ _. f 55 (omega arith)))
+      (λ _. f 50 (omega arith)))
+      (λ _. f 68 (omega arith))
 
 -- ---- it is alike at each writing
 -- a registry depends on the entries that it lists alone

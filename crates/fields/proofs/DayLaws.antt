@@ -185,12 +185,12 @@ before-total x y p q h i =
     let m = days-high (y .year) (y .month) in
     same-fields x y (omega arith) (omega arith) (omega arith)
 
-not-before : (x y : Day) → isDay x ≡ true → isDay y ≡ true → dayNumber x ≡ dayNumber y → dayBefore x y ≡ false
-not-before x y p q e = before-number x y p q ∙ le-ltb (dayNumber x) (dayNumber y) (omega arith)
+same-not-before : (x y : Day) → isDay x ≡ true → isDay y ≡ true → dayNumber x ≡ dayNumber y → dayBefore x y ≡ false
+same-not-before x y p q e = before-number x y p q ∙ le-ltb (dayNumber x) (dayNumber y) (omega arith)
 
 -- a day is known by its number
 pub number-same : (x y : Day) → isDay x ≡ true → isDay y ≡ true → dayNumber x ≡ dayNumber y → x ≡ y
-number-same x y p q e = before-total x y p q (not-before x y p q e) (not-before y x q p (sym e))
+number-same x y p q e = before-total x y p q (same-not-before x y p q e) (same-not-before y x q p (sym e))
 
 -- ---- the next day
 -- what a test lets through was tested

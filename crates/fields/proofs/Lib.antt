@@ -10,4 +10,6 @@ pub mod NumberLaws
 pub mod CalendarLaws
 pub mod DayLaws
 pub mod DateLaws
+pub mod DayTests
+pub mod KeyLaws
 pub mod Samples

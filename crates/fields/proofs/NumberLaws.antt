@@ -127,6 +127,14 @@ same-sym x y h = text-same y x (sym (same-length x y h)) (sym (same-text x y h))
 pub same-trans : (x y z : Number) → sameNumber x y ≡ true → sameNumber y z ≡ true → sameNumber x z ≡ true
 same-trans x y z h g = text-same x z (same-length x y h ∙ same-length y z g) (same-text x y h ∙ same-text y z g)
 
+-- what is the same as a number is one
+pub same-is-number : (x y : Number) → sameNumber x y ≡ true → isNumber x ≡ true → isNumber y ≡ true
+unfolding isNumber
+same-is-number x y s h =
+    ap (λ (l : ℕ). leb 1 l && (leb l 30 && every numberByte (numberText y))) (sym (same-length x y s))
+    ∙ ap (λ (t : List ℕ). leb 1 (x .len) && (leb (x .len) 30 && every numberByte t)) (sym (same-text x y s))
+    ∙ h
+
 -- ---- what is written is read back
 pub text-of : (s : List ℕ) → numberText (numberOf s) ≡ s
 text-of s = take-append-seam s (drop (length s) (replicate 30 0))

@@ -1,12 +1,12 @@
 -- Laws of texts written into a lent buffer.
 use Prim.Native.Nat.{ℕ, zero, suc, _+_, _-_, _≤_, _<_}
 use native.Mathlib.Numerals.{add-one}
-use native.Mathlib.Nat.{add-suc, suc-add, add-zero, add-assoc}
+use native.Mathlib.Nat.{add-suc, suc-add, add-zero, zero-add, add-assoc}
 use native.Mathlib.Omega.{arith}
 use mathlib.Core.Path.{_≡_, refl, ap, sym, _∙_}
 use mathlib.Core.List.{List, [], _∷_, _++_, append-assoc}
 use lib.ListN.{length, getD, take, drop, set, length-append, length-drop, take-append-drop, drop-of-length-le, List·getD-append}
-use lib.Seq.{take-suc-set, drop-set-lt, length-take-le, take-at, drop-append-add, drop-drop, getD-take, getD-drop, getD-append-add}
+use lib.Seq.{take-suc-set, drop-set-lt, length-take-le, take-at, take-append-seam, drop-append-add, drop-drop, getD-take, getD-drop, getD-append-add}
 use borrow.Author.Tests.{le-leb, lt-leb, leb-true}
 use lib.Dec.{leb}
 use mathlib.Core.Bool.{Bool, true, false, cond}
@@ -107,6 +107,17 @@ module _ (d : List ℕ) (at : ℕ) (xs ys : List ℕ) (fit : at + (length xs + l
       let q : at + length (xs ++ ys) ≤ length d = rw length-append (omega arith) in
       rw (← cursor-moves d at xs first-fits, ← written-over d at xs first-fits, ← written-over (over d at xs) (at + length xs) ys p, ← written-over d at (xs ++ ys) q)
       (over-over d at xs first-fits ys)
+
+-- ---- a text written at the start is what the buffer begins with: read back by its length, and by the cursor that is handed back
+pub text-first : (out xs : List ℕ) → length xs ≤ length out → take (length xs) (written out 0 xs) ≡ xs
+text-first out xs fit =
+    let f : 0 + length xs ≤ length out = omega arith in
+    rw (← written-over out 0 xs f, zero-add) (take-append-seam xs (drop (length xs) out))
+
+pub text-back : (out xs : List ℕ) → length xs ≤ length out → take (cursorAfter out 0 xs) (written out 0 xs) ≡ xs
+text-back out xs fit =
+    let f : 0 + length xs ≤ length out = omega arith in
+    rw (← cursor-moves out 0 xs f, zero-add) (text-first out xs fit)
 
 -- ---- every byte outside the text stays: before the cursor, and from the cursor that is handed back on
 module _ (d : List ℕ) (at : ℕ) (xs : List ℕ) where

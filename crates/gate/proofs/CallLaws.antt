@@ -10,14 +10,14 @@ use mathlib.Core.List.{List, [], _∷_, _++_}
 use lib.Dec.{leb, ltb}
 use lib.IntN.{ℤ, pos, negsuc, _+ℤ_, _-ℤ_}
 use lib.Signed.{ltZ}
-use lib.ListN.{length, take, getD, set, length-set}
+use lib.ListN.{length, getD, set, length-set}
 use lib.Seq.{getD-set-same, getD-set-other, take-suc-set}
 use borrow.Author.Tests.{leb-true, leb-false, le-leb, not-true}
 use Rattle.fields.specs.declared.number.Number.{Number}
 use Rattle.fields.specs.Amount.{isAmount}
 use Rattle.fields.specs.Codes.{isKind}
 use Rattle.fields.specs.Number.{isNumber}
-use Rattle.fields.proofs.Tests.{and-left, and-right, cond-elim}
+use Rattle.fields.proofs.Tests.{and-left, and-right, cond-elim, no-claim, and-both}
 use Rattle.table.specs.declared.Account.{Account}
 use Rattle.table.specs.declared.Gate.{Gate}
 use Rattle.table.specs.declared.Record.{Record}
@@ -28,7 +28,6 @@ use Rattle.table.specs.Table.{Rows, recordAt, recordsOf, findRecord}
 use Rattle.table.specs.Accounts.{isAccount, accountsOf, findAccount, noAccount, withBalance, balanceAt, credited, debited, withUsed, opened}
 use Rattle.table.specs.Valid.{near, rangesGood, accountKnown, authcodeGood, recordGood, tableGood, Ready}
 use Rattle.table.proofs.AccountLaws.{holder-within}
-use Rattle.table.proofs.RangeLaws.{no-claim}
 use Rattle.gate.specs.declared.Reply.{Reply}
 use Rattle.message.specs.declared.action.Action.the-variants.{Payment}
 use Rattle.message.specs.declared.request.Asked.{Asked}
@@ -37,7 +36,7 @@ use Rattle.gate.specs.Deliver.{isShort, debitedAt, respond, deliver, Del
 use Rattle.gate.specs.Opening.{replies, openTo, openCall, drawOn, drawFrom, drawCall}
 use Rattle.gate.proofs.OutcomeLaws.{Outcome, stays, appends, revokes, outcome}
 use Rattle.gate.proofs.KeepsLaws.{delivered-by}
-use Rattle.gate.proofs.GoodLaws.{Good, Near, and-both, good-table, near-table, table-again, ready-again}
+use Rattle.gate.proofs.GoodLaws.{Good, Near, good-table, near-table, table-again, ready-again}
 use Rattle.gate.proofs.RowsLaws.{SameNames, names-same, names-debited, good-there, delivered-good, delivered-ready}
 
 -- ---- a balance that is drawn on stays in its bound
@@ -111,11 +110,11 @@ found-more p i (y ∷ l) m h = go (p y) (λ q. found-more p (i + 1) l m q) h
     go false up q = up q
 
 module _ (g : Gate) (n : Number) (k : ℕ) where
-  abbrev newAccount : Account
+  abbrev pub newAccount : Account
   newAccount = record { number = n; kind = k; balance = pos 0 }
 
   module _ (room : g .count < length (g .accounts)) where
-    accounts-more : accountsOf (opened g n k) ≡ accountsOf g ++ (newAccount ∷ [])
+    pub accounts-more : accountsOf (opened g n k) ≡ accountsOf g ++ (newAccount ∷ [])
     unfolding opened
     accounts-more = rw add-one (take-suc-set (g .accounts) (g .count) newAccount room)
 
@@ -166,6 +165,30 @@ module _ (g : Gate) (n : Number) (k : ℕ) where
     opened-near bound = record { balances = opened-each (λ (a : Account). near (a .balance) ≡ true) refl (bound .balances) }
 
 -- ---- the calls
+-- a property of what a call gives, which a fault has and a success has
+module _ (g : Gate) (t : Rows) (n : Number) (k : ℕ) (P : Reply → Type 0) (fault : (c : ℕ) → (c ≡ 0 → ⊥) → P (replies c g)) where
+  pub open-elim : (isNumber n && isKind k ≡ true → isFound (findAccount n k (accountsOf g)) ≡ false → g .count < 256 → P (replies 0 (opened g n k))) → P (openCall g t n k)
+  unfolding openCall openTo
+  open-elim s =
+      cond-elim P (tableGood g t) _ _
+      (λ _. cond-elim P (isNumber n && isKind k) _ _
+      (λ v. cond-elim P (isFound (findAccount n k (accountsOf g))) _ _ (λ _. fault 56 (λ z. omega arith))
+      (λ u. cond-elim P (leb 256 (g .count)) _ _ (λ _. fault 57 (λ z. omega arith)) (λ l. s v u (leb-false _ _ l))))
+      (λ _. fault 59 (λ z. omega arith)))
+      (λ _. fault 68 (λ z. omega arith))
+
+  pub draw-elim : (m : ℕ) → ((a : ℕ) → isNumber n && isKind k ≡ true → findAccount n k (accountsOf g) ≡ At a → ltZ (balanceAt g a) (pos m) ≡ false → P (replies 0 (debited g a m))) → P (drawCall g t n k m)
+  unfolding drawCall drawFrom drawOn
+  draw-elim m s =
+      cond-elim P (tableGood g t) _ _
+      (λ _. cond-elim P (isNumber n && isKind k) _ _ (λ v. on v (findAccount n k (accountsOf g)) refl) (λ _. fault 59 (λ z. omega arith)))
+      (λ _. fault 68 (λ z. omega arith))
+    where
+      on : isNumber n && isKind k ≡ true → (f : Found) → findAccount n k (accountsOf g) ≡ f → P (drawOn g f m)
+      on v Nothing e = fault 59 (λ z. omega arith)
+      on v (At a) e =
+          cond-elim P (isAmount m && not (ltZ (balanceAt g a) (pos m))) _ _ (λ h. s a v e (not-true _ (and-right (isAmount m) (not (ltZ (balanceAt g a) (pos m))) h))) (λ _. fault 58 (λ z. omega arith))
+
 -- row 68 holds again, and the number of records and the closed day are as they were
 pub record Stands (g : Gate) (t : Rows) (g′ : Gate) : Type 0 where
   pub table : tableGood g′ t ≡ true
@@ -190,10 +213,9 @@ module _ (g : Gate) (t : Rows) (ready : Ready g t) (good : tableGood g t ≡ tru
   abbrev StandsReply : Reply → Type 0
   StandsReply r = Stands g t (r .gate)
 
-  opened-stands : (n : Number) (k : ℕ) → isNumber n && isKind k ≡ true → leb 256 (g .count) ≡ false → Stands g t (opened g n k)
+  opened-stands : (n : Number) (k : ℕ) → isNumber n && isKind k ≡ true → g .count < 256 → Stands g t (opened g n k)
   unfolding opened
-  opened-stands n k named few =
-      let l : g .count < 256 = leb-false 256 (g .count) few in
+  opened-stands n k named l =
       let room : g .count < length (g .accounts) = omega (arith, ready .sound .places) in
       stands (opened g n k) (length-set (g .accounts) (g .count) _ ∙ ready .sound .places)
       (opened-good g n k room t (and-left (isNumber n) (isKind k) named) (and-right (isNumber n) (isKind k) named) l facts)
@@ -201,14 +223,7 @@ module _ (g : Gate) (t : Rows) (ready : Ready g t) (good : tableGood g t ≡ tru
 
   -- ---- 5: an opening keeps row 68
   pub open-good : (n : Number) (k : ℕ) → Stands g t ((openCall g t n k) .gate)
-  unfolding openCall openTo
-  open-good n k =
-      cond-elim StandsReply (tableGood g t) _ _
-      (λ _. cond-elim StandsReply (isNumber n && isKind k) _ _
-      (λ named. cond-elim StandsReply (isFound (findAccount n k (accountsOf g))) _ _ (λ _. same 56)
-      (λ _. cond-elim StandsReply (leb 256 (g .count)) _ _ (λ _. same 57) (λ few. opened-stands n k named few)))
-      (λ _. same 59))
-      (λ _. same 68)
+  open-good n k = open-elim g t n k StandsReply (λ c _. same c) (λ named _ few. opened-stands n k named few)
 
   debited-stands : (a m : ℕ) → a < g .count → ltZ (balanceAt g a) (pos m) ≡ false → Stands g t (debited g a m)
   unfolding debited
@@ -216,40 +231,15 @@ module _ (g : Gate) (t : Rows) (ready : Ready g t) (good : tableGood g t ≡ tru
       let names : SameNames g (debited g a m) = names-debited g (At a) m in
       stands (debited g a m) (names .places ∙ ready .sound .places) (good-names g (debited g a m) t names refl facts) (near-debited g a m bound h funds) refl (names .closed)
 
-  draw-on-stands : (f : Found) (m : ℕ) → ((a : ℕ) → f ≡ At a → a < g .count) → Stands g t ((drawOn g f m) .gate)
-  unfolding drawOn
-  draw-on-stands Nothing m within = same 59
-  draw-on-stands (At a) m within =
-      cond-elim StandsReply (isAmount m && not (ltZ (balanceAt g a) (pos m))) _ _
-      (λ covered. debited-stands a m (within a refl) (not-true _ (and-right (isAmount m) _ covered)))
-      (λ _. same 58)
-
   -- a draw keeps row 68
   pub draw-good : (n : Number) (k m : ℕ) → Stands g t ((drawCall g t n k m) .gate)
-  unfolding drawCall drawFrom
   draw-good n k m =
-      cond-elim StandsReply (tableGood g t) _ _
-      (λ _. cond-elim StandsReply (isNumber n && isKind k) _ _
-      (λ _. draw-on-stands (findAccount n k (accountsOf g)) m (λ a e. holder-within g n k a (findAccount n k (accountsOf g)) refl e))
-      (λ _. same 59))
-      (λ _. same 68)
+      draw-elim g t n k StandsReply (λ c _. same c) m
+      (λ a _ found funds. debited-stands a m (holder-within g n k a (findAccount n k (accountsOf g)) refl found) funds)
 
-  draw-on-names : (f : Found) (m : ℕ) → SameNames g ((drawOn g f m) .gate)
-  unfolding drawOn
-  draw-on-names Nothing m = names-same g g refl
-  draw-on-names (At a) m =
-      cond-elim (λ (r : Reply). SameNames g (r .gate)) (isAmount m && not (ltZ (balanceAt g a) (pos m))) _ _
-      (λ _. names-debited g (At a) m)
-      (λ _. names-same g g refl)
-
-  -- a draw keeps the accounts' names
+  -- and the accounts' names
   pub draw-names : (n : Number) (k m : ℕ) → SameNames g ((drawCall g t n k m) .gate)
-  unfolding drawCall drawFrom
-  draw-names n k m =
-      cond-elim (λ (r : Reply). SameNames g (r .gate)) (tableGood g t) _ _
-      (λ _. cond-elim (λ (r : Reply). SameNames g (r .gate)) (isNumber n && isKind k) _ _ (λ _. draw-on-names (findAccount n k (accountsOf g)) m)
-      (λ _. names-same g g refl))
-      (λ _. names-same g g refl)
+  draw-names n k m = draw-elim g t n k (λ (r : Reply). SameNames g (r .gate)) (λ _ _. names-same g g refl) m (λ a _ _ _. names-debited g (At a) m)
 
   -- ---- only a payment that is credited may take a balance past its bound
   short-near : (f : Found) (n : Number) (k m : ℕ) → f ≡ findAccount n k (accountsOf g) → isShort g f m ≡ false → Near (debitedAt g f m)

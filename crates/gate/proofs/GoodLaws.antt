@@ -12,7 +12,7 @@ use borrow.Author.Tests.{eq-eqb, eqb-true, le-leb, leb-true}
 use Rattle.fields.specs.Calendar.{isDay}
 use Rattle.fields.specs.Codes.{isKind}
 use Rattle.fields.specs.Number.{isNumber}
-use Rattle.fields.proofs.Tests.{and-left, and-right}
+use Rattle.fields.proofs.Tests.{and-left, and-right, and-both}
 use Rattle.table.specs.declared.Gate.{Gate}
 use Rattle.lists.specs.Lists.{allFrom}
 use Rattle.table.specs.Table.{Rows, recordAt, recordsOf, Whole}
@@ -41,11 +41,6 @@ pub record Good (g : Gate) (t : Rows) : Type 0 where
 -- the balance bound
 pub record Near (g : Gate) : Type 0 where
   pub balances : (i : ℕ) → i < g .count → near (balanceAt g i) ≡ true
-
--- ---- tests joined, and tests of every element
--- two tests that hold
-pub and-both : (t u : Bool) → t ≡ true → u ≡ true → t && u ≡ true
-and-both t u p q = rw (p, q)
 
 -- ---- from the test to the facts
 module _ (g : Gate) (t : Rows) (places : length (g .accounts) ≡ 256) (good : tableGood g t ≡ true) where

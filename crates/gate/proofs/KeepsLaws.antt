@@ -9,16 +9,14 @@ use lib.Signed.{ltZ}
 use lib.ListN.{length}
 use borrow.Author.Tests.{lt-leb, le-leb, eqb-true}
 use Rattle.fields.specs.declared.number.Number.{Number}
-use Rattle.fields.specs.Lists.{written}
 use Rattle.fields.specs.Amount.{isAmount}
 use Rattle.fields.specs.Codes.{isKind}
 use Rattle.fields.specs.Number.{isNumber}
 use Rattle.fields.specs.Date.{isWritten}
-use Rattle.fields.proofs.Tests.{cond-elim}
+use Rattle.fields.proofs.Tests.{cond-elim, no-claim}
 use Rattle.message.specs.declared.request.Asked.{Asked}
 use Rattle.message.specs.declared.request.RequestRead.{RequestRead}
 use Rattle.message.specs.Request.{requestRead}
-use Rattle.answers.specs.Answer.{answerBytes}
 use Rattle.table.specs.declared.Gate.{Gate}
 use Rattle.lists.specs.declared.Found.{Found}
 use Rattle.lists.specs.declared.Found.the-variants.{At, Nothing}
@@ -27,7 +25,6 @@ use Rattle.table.specs.Table.{Rows}
 use Rattle.table.specs.Accounts.{accountsOf, findAccount, balanceAt, debited, opened}
 use Rattle.table.specs.Valid.{tableGood, Ready}
 use Rattle.table.proofs.TableLaws.{rows-kept}
-use Rattle.table.proofs.RangeLaws.{no-claim}
 use Rattle.gate.specs.declared.Reply.{Reply}
 use Rattle.gate.specs.Deliver.{Delivered, undelivered, respond, deliverRead, deliver}
 use Rattle.gate.specs.Opening.{replies, openTo, openCall, drawOn, drawFrom, drawCall}

@@ -11,4 +11,5 @@ pub mod OnceLaws
 pub mod GoodLaws
 pub mod RowsLaws
 pub mod CallLaws
+pub mod KeptLaws
 pub mod AnswerGood

@@ -7,6 +7,7 @@ use mathlib.Core.Bool.{true}
 use mathlib.Core.List.{List, [], _∷_, _++_}
 use lib.ListN.{length, getD, set, length-append, length-set, List·getD-append}
 use lib.Seq.{getD-at, getD-set-same, getD-set-other}
+use Rattle.fields.proofs.Tests.{no-claim}
 use Rattle.message.specs.declared.request.Asked.{Asked}
 use Rattle.message.specs.Request.{requestRead}
 use Rattle.table.specs.declared.Record.{Record}
@@ -18,7 +19,6 @@ use Rattle.table.specs.Accounts.{debited}
 use borrow.Author.Tests.{eqb-false}
 use Rattle.table.specs.Table.{findRecord, hasReceipt}
 use Rattle.lists.proofs.ListLaws.{found-none}
-use Rattle.table.proofs.RangeLaws.{no-claim}
 use Rattle.table.proofs.TableLaws.{length-records, getD-records, from-at}
 use Rattle.gate.specs.Deliver.{noRecord, dateClosed, makeRecord, revoked, debitedAt, respond, deliver, Delivered}
 use Rattle.gate.proofs.OutcomeLaws.{Outcome, stays, appends, revokes, outcome}

@@ -5,7 +5,6 @@ use native.Mathlib.Omega.{arith}
 use mathlib.Core.Path.{_≡_, refl, ap, _∙_}
 use mathlib.Core.Bool.{true, cond}
 use mathlib.Core.List.{List, [], _∷_, _++_}
-use lib.Dec.{eqb}
 use lib.IntN.{ℤ}
 use lib.ListN.{length, take, getD, set, length-append, length-set, List·getD-append}
 use lib.Seq.{getD-at, getD-set-same, getD-set-other}
@@ -15,8 +14,7 @@ use Rattle.fields.specs.Lists.{eqList}
 use Rattle.fields.specs.Amount.{isAmount}
 use Rattle.fields.specs.Codes.{isReceipt}
 use Rattle.fields.specs.Date.{isWritten}
-use Rattle.fields.proofs.Tests.{and-left, and-right}
-use Rattle.message.specs.declared.action.Action.the-variants.{Payment}
+use Rattle.fields.proofs.Tests.{and-left, and-right, and-both}
 use Rattle.message.specs.declared.request.Asked.{Asked}
 use Rattle.message.specs.Names.{hasAccount, hasReceipt, hasDate}
 use Rattle.message.specs.Request.{requestRead}
@@ -26,7 +24,7 @@ use Rattle.table.specs.declared.Gate.{Gate}
 use Rattle.table.specs.declared.Record.{Record}
 use Rattle.lists.specs.declared.Found.{Found}
 use Rattle.lists.specs.declared.Found.the-variants.{At, Nothing}
-use Rattle.lists.specs.Lists.{firstFrom, isFound}
+use Rattle.lists.specs.Lists.{firstFrom}
 use Rattle.table.specs.Table.{Rows, recordAt, recordsOf, rowsFrom, Whole}
 use Rattle.table.specs.Accounts.{isAccount, accountsOf, findAccount, noAccount, withBalance, gateBalance, credited, debited, withUsed}
 use Rattle.table.specs.Valid.{stateGood, rangesGood, accountKnown, authcodeGood, recordGood, tableGood, Ready}
@@ -35,7 +33,7 @@ use Rattle.gate.specs.Deliver.{noRecord, nextAuthcode, makeRecord, revok
 use Rattle.gate.proofs.OutcomeLaws.{Outcome, stays, appends, revokes, outcome}
 use Rattle.gate.proofs.KeepsLaws.{delivered-by}
 use Rattle.gate.proofs.RecordsLaws.{debit-used}
-use Rattle.gate.proofs.GoodLaws.{Good, Near, and-both, good-table, table-again, ready-again}
+use Rattle.gate.proofs.GoodLaws.{Good, Near, good-table, table-again, ready-again}
 
 -- ---- the accounts keep their names
 -- the same accounts by number and type, found at the same places, and the same closed day
@@ -103,31 +101,32 @@ names-debited g Nothing n = names-same g g refl
 names-debited g (At a) n = names-moved _ g a
 
 -- ---- a record that is made or revoked is good
-made-good : (g : Gate) (clock : List ℕ) (q : Asked) (a : ℕ) → AskedGood q → q .action ≡ Payment → isWritten clock ≡ true
+pub made-good : (g : Gate) (clock : List ℕ) (q : Asked) (a : ℕ) → isReceipt (q .receipt) ≡ true → isAmount (q .amount) ≡ true → isWritten (q .date) ≡ true → isWritten clock ≡ true
     → findAccount (q .number) (q .kind) (accountsOf g) ≡ At a → recordGood g (g .used) (makeRecord g clock q) ≡ true
 unfolding recordGood authcodeGood rangesGood stateGood accountKnown makeRecord nextAuthcode eqList
-made-good g clock q a asked pay dated known =
-    and-both (eqb (g .used + 1) (g .used + 1)) _ (eq-eqb (g .used + 1) (g .used + 1) refl)
-    (and-both _ (isFound (findAccount (q .number) (q .kind) (accountsOf g)))
-    (and-both (isReceipt (q .receipt)) _ (asked .receipt (ap hasReceipt pay))
-    (and-both (isAmount (q .amount)) _ (asked .amount (ap hasAccount pay))
-    (and-both (isWritten (q .date)) _ (asked .date (ap hasDate pay)) (and-both (isWritten clock) _ dated refl))))
-    (ap isFound known))
+made-good g clock q a receipt amount date dated known = rw (eq-eqb (g .used + 1) (g .used + 1) refl, receipt, amount, date, dated, known) refl
 
-revoked-good : (g : Gate) (clock : List ℕ) (i : ℕ) (r : Record) → isWritten clock ≡ true → recordGood g i r ≡ true → recordGood g i (revoked clock r) ≡ true
-unfolding recordGood authcodeGood rangesGood stateGood accountKnown revoked
-revoked-good g clock i r dated h =
+-- another state and cancel date: a good record stays good where the two agree
+pub state-good : (g : Gate) (i : ℕ) (r s : Record) → s .authcode ≡ r .authcode → s .receipt ≡ r .receipt → s .amount ≡ r .amount → s .date ≡ r .date → s .credit ≡ r .credit → s .number ≡ r .number → s .kind ≡ r .kind
+    → stateGood s ≡ true → recordGood g i r ≡ true → recordGood g i s ≡ true
+unfolding recordGood authcodeGood rangesGood accountKnown
+state-good g i r s ea er em ed ec en ek st h =
     let rest = and-right (authcodeGood i r) _ h in
     let ranges = and-left (rangesGood r) _ rest in
     let amount = and-right (isReceipt (r .receipt)) _ ranges in
     let date = and-right (isAmount (r .amount)) _ amount in
     let credit = and-right (isWritten (r .date)) _ date in
-    and-both (authcodeGood i r) _ (and-left (authcodeGood i r) _ h)
+    rw (st, ea, er, em, ed, ec, en, ek)
+    (and-both (authcodeGood i r) _ (and-left (authcodeGood i r) _ h)
     (and-both _ (accountKnown g r)
     (and-both (isReceipt (r .receipt)) _ (and-left (isReceipt (r .receipt)) _ ranges)
     (and-both (isAmount (r .amount)) _ (and-left (isAmount (r .amount)) _ amount)
-    (and-both (isWritten (r .date)) _ (and-left (isWritten (r .date)) _ date) (and-both (isWritten (r .credit)) _ (and-left (isWritten (r .credit)) _ credit) dated))))
-    (and-right (rangesGood r) _ rest))
+    (and-both (isWritten (r .date)) _ (and-left (isWritten (r .date)) _ date) (and-both (isWritten (r .credit)) _ (and-left (isWritten (r .credit)) _ credit) refl))))
+    (and-right (rangesGood r) _ rest)))
+
+pub revoked-good : (g : Gate) (clock : List ℕ) (i : ℕ) (r : Record) → isWritten clock ≡ true → recordGood g i r ≡ true → recordGood g i (revoked clock r) ≡ true
+unfolding revoked stateGood
+revoked-good g clock i r dated h = state-good g i r (revoked clock r) refl refl refl refl refl refl refl dated h
 
 -- a record is good at a gate with the same names
 pub good-there : (g g′ : Gate) → SameNames g g′ → (i : ℕ) (r : Record) → recordGood g i r ≡ true → recordGood g′ i r ≡ true
@@ -197,7 +196,7 @@ module _ (g : Gate) (t : Rows) (good : Good g t) (clock : List ℕ) (dated : isW
           pick : Dec (i ≡ g .used) → recordGood g i (getD (recordsOf t (g .used) ++ (makeRecord g clock q ∷ [])) i noRecord) ≡ true
           pick (yes e) =
               rw (e, getD-at (recordsOf t (g .used)) (makeRecord g clock q) [] noRecord (g .used) (length-records t (g .used)))
-              (made-good g clock q a asked ea dated ef)
+              (made-good g clock q a (asked .receipt (ap hasReceipt ea)) (asked .amount (ap hasAccount ea)) (asked .date (ap hasDate ea)) dated ef)
           pick (no n) =
               let l : i < length (recordsOf t (g .used)) = omega (arith, length-records t (g .used)) in
               ap (recordGood g i) (List·getD-append (recordsOf t (g .used)) (makeRecord g clock q ∷ []) noRecord i l) ∙ each-used i (omega arith)

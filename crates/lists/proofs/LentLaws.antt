@@ -1,16 +1,11 @@
 -- Laws of rows that are lent: the test at each of its ways out, its facts, and what a caller has of them.
 use Prim.Native.Nat.{ℕ, _≤_, _<_}
-use native.Mathlib.Omega.{arith}
-use mathlib.Core.Path.{_≡_, sym}
+use mathlib.Core.Path.{_≡_}
 use mathlib.Core.Bool.{Bool, true, false, not, _&&_, and-false}
 use lib.Dec.{eqb, leb}
 use borrow.Author.Tests.{le-leb, lt-leb, eq-eqb, ne-eqb, leb-true, eqb-true, not-false}
 use Rattle.fields.proofs.Tests.{both}
 use Rattle.lists.specs.Lent.{lentWell, Lent}
-
--- nothing follows from a test that failed
-pub no-claim : {A : Type 0} → false ≡ true → A
-no-claim e = let z : _≡_ {A = ℕ} 0 1 = cc in absurd (omega arith)
 
 module _ (used n m k : ℕ) where
   pub lent-facts : lentWell used n m k ≡ true → Lent used n m k

@@ -1,3 +1,4 @@
 pub mod ListLaws
 pub mod ColumnLaws
 pub mod LentLaws
+pub mod EachLaws

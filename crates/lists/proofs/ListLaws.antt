@@ -13,7 +13,7 @@ use lib.Seq.{append-snoc, set-at, length-take-le, take-all, take-suc, drop-cons,
 use Rattle.lists.specs.declared.Found.{Found}
 use Rattle.lists.specs.declared.Found.the-variants.{At, Nothing}
 use Rattle.lists.specs.Lists.{tab, firstFrom, isFound, allFrom}
-use Rattle.fields.proofs.Tests.{and-left, and-right}
+use Rattle.fields.proofs.Tests.{and-left, and-right, no-claim}
 
 -- ---- tables of a function's values
 
@@ -111,12 +111,21 @@ module _ {A : Type 0} (p : A → Bool) (i : ℕ) (l : List A) (z : A) where
   unfolding firstFrom
   search-end h = rw (drop-of-length-le l h)
 
+-- ---- what a search gives
 -- nothing is no place
-nowhere : {k : ℕ} {A : Type 0} → Nothing ≡ At k → A
+pub nowhere : {k : ℕ} {A : Type 0} → Nothing ≡ At k → A
 nowhere q = let z : _≡_ {A = ℕ} 0 1 = cc in absurd (omega arith)
 
-place : {i k : ℕ} → At i ≡ At k → i ≡ k
+pub place : {i k : ℕ} → At i ≡ At k → i ≡ k
 place q = cc
+
+pub found-at : (f : Found) → isFound f ≡ true → (a : ℕ) × (f ≡ At a)
+found-at (At a) h = (a, refl)
+found-at Nothing h = no-claim h
+
+pub is-nothing : (f : Found) → isFound f ≡ false → f ≡ Nothing
+is-nothing Nothing h = refl
+is-nothing (At a) h = no-claim (sym h)
 
 module _ {A : Type 0} (p : A → Bool) where
   -- what a search finds is within the list
@@ -129,7 +138,7 @@ module _ {A : Type 0} (p : A → Bool) where
       go true up q = omega (arith, place q)
       go false up q = omega (arith, up q)
 
-  search-from : (i : ℕ) (l : List A) (k : ℕ) → firstFrom p i l ≡ At k → i ≤ k
+  pub search-from : (i : ℕ) (l : List A) (k : ℕ) → firstFrom p i l ≡ At k → i ≤ k
   unfolding firstFrom
   search-from i [] k e = nowhere e
   search-from i (y ∷ ys) k e = go (p y) (λ q. search-from (i + 1) ys k q) e
@@ -180,6 +189,38 @@ module _ {A : Type 0} (p : A → Bool) where
         go : (f : Found) → firstFrom p 0 l ≡ f → isFound f ≡ true
         go (At k) e = refl
         go Nothing e = let q : true ≡ false = sym y ∙ found-none e i h in sym q
+
+  -- what is found is the first that fits
+  pub search-least : (i : ℕ) (l : List A) (z : A) (k : ℕ) → firstFrom p i l ≡ At k → (j : ℕ) → j < length l → p (getD l j z) ≡ true → k ≤ i + j
+  unfolding firstFrom
+  search-least i [] z k e j h y = absurd (omega arith)
+  search-least i (x ∷ xs) z k e j h y = go (p x) refl (λ q n b t. search-least (i + 1) xs z k q n b t) e j h y
+    where
+      go : (b : Bool) → p x ≡ b → (firstFrom p (i + 1) xs ≡ At k → (n : ℕ) → n < length xs → p (getD xs n z) ≡ true → k ≤ i + 1 + n)
+          → cond b (At i) (firstFrom p (i + 1) xs) ≡ At k → (j : ℕ) → j < suc (length xs) → p (getD (x ∷ xs) j z) ≡ true → k ≤ i + j
+      go true s up q j h y = omega (arith, place q)
+      go false s up q zero h y = no-claim (sym s ∙ y)
+      go false s up q (suc j) h y = omega (arith, up q j (omega arith) y)
+
+  -- elements behind those searched: what was found stays, and what was not may be the one more
+  pub search-more : (i : ℕ) (l m : List A) (k : ℕ) → firstFrom p i l ≡ At k → firstFrom p i (l ++ m) ≡ At k
+  unfolding firstFrom
+  search-more i [] m k e = nowhere e
+  search-more i (y ∷ ys) m k e = go (p y) (λ q. search-more (i + 1) ys m k q) e
+    where
+      go : (b : Bool) → (firstFrom p (i + 1) ys ≡ At k → firstFrom p (i + 1) (ys ++ m) ≡ At k) → cond b (At i) (firstFrom p (i + 1) ys) ≡ At k → cond b (At i) (firstFrom p (i + 1) (ys ++ m)) ≡ At k
+      go true up q = q
+      go false up q = up q
+
+  pub search-last : (i : ℕ) (l : List A) (x : A) → firstFrom p i l ≡ Nothing → p x ≡ true → firstFrom p i (l ++ (x ∷ [])) ≡ At (i + length l)
+  unfolding firstFrom
+  search-last i [] x e h = rw h (ap At (sym (add-zero i)))
+  search-last i (y ∷ ys) x e h = go (p y) (λ q. search-last (i + 1) ys x q h) e
+    where
+      go : (b : Bool) → (firstFrom p (i + 1) ys ≡ Nothing → firstFrom p (i + 1) (ys ++ (x ∷ [])) ≡ At (i + 1 + length ys))
+          → cond b (At i) (firstFrom p (i + 1) ys) ≡ Nothing → cond b (At i) (firstFrom p (i + 1) (ys ++ (x ∷ []))) ≡ At (i + suc (length ys))
+      go true up q = nowhere (sym q)
+      go false up q = up q ∙ ap At (omega arith)
 
 -- ---- a test of every element: a loop that has passed i elements
 module _ {A : Type 0} (p : ℕ → A → Bool) (i : ℕ) (l : List A) (z : A) where

@@ -17,7 +17,7 @@ use Rattle.fields.specs.Amount.{isAmount, amountRead}
 use Rattle.fields.specs.Codes.{isReceipt, isKind, isReason, receiptRead, kindRead, reasonRead}
 use Rattle.fields.specs.Number.{numberByte, isNumber, isNumberText, numberOf, noNumber, numberRead}
 use Rattle.fields.specs.Date.{isWritten, emptyDate, noDate, dateRead}
-use Rattle.fields.proofs.Tests.{and-left, and-right, cond-elim}
+use Rattle.fields.proofs.Tests.{and-left, and-right, cond-elim, no-claim}
 use Rattle.fields.proofs.DigitLaws.{range-within}
 use Rattle.fields.proofs.AmountLaws.{amount-within}
 use Rattle.fields.proofs.NumberLaws.{text-of}
@@ -70,9 +70,6 @@ ok-true : (b : Bool) (code : ℕ) → cond b 0 (suc code) ≡ 0 → b ≡ true
 ok-true true code e = refl
 ok-true false code e = absurd (omega arith)
 
-not-ok : {A : Type 0} → false ≡ true → A
-not-ok e = let z : _≡_ {A = ℕ} 0 1 = cc in absurd (omega arith)
-
 text-number : (s : List ℕ) → isNumberText s ≡ true → isNumber (numberOf s) ≡ true
 unfolding isNumber isNumberText
 text-number s h = rw (text-of s) h
@@ -86,7 +83,7 @@ text-thirty s h =
 number-reads : (s : List ℕ) → (numberRead s) .ok ≡ true → isNumber ((numberRead s) .number) ≡ true
 unfolding numberRead
 number-reads s =
-    cond-elim (λ (r : NumberRead). r .ok ≡ true → isNumber (r .number) ≡ true) (isNumberText s) _ _ (λ h _. text-number s h) (λ _ e. not-ok e)
+    cond-elim (λ (r : NumberRead). r .ok ≡ true → isNumber (r .number) ≡ true) (isNumberText s) _ _ (λ h _. text-number s h) (λ _ e. no-claim e)
 
 number-thirty : (s : List ℕ) → length ((numberRead s) .number .bytes) ≡ 30
 unfolding numberRead
@@ -94,7 +91,7 @@ number-thirty s = cond-elim (λ (r : NumberRead). length (r .number .bytes) ≡ 
 
 date-reads : (s : List ℕ) → (dateRead s) .ok ≡ true → isWritten ((dateRead s) .date) ≡ true
 unfolding dateRead
-date-reads s = cond-elim (λ (r : DateRead). r .ok ≡ true → isWritten (r .date) ≡ true) (isWritten s) _ _ (λ h _. h) (λ _ e. not-ok e)
+date-reads s = cond-elim (λ (r : DateRead). r .ok ≡ true → isWritten (r .date) ≡ true) (isWritten s) _ _ (λ h _. h) (λ _ e. no-claim e)
 
 date-nineteen : (s : List ℕ) → length ((dateRead s) .date) ≡ 19
 unfolding dateRead
@@ -109,8 +106,8 @@ module _ (used : Bool) (k : Slot) where
 
 number-good : (used : Bool) (k : Slot) → (numberIn used k) .ok ≡ true → used ≡ true → isNumber ((numberIn used k) .number) ≡ true
 unfolding fieldOf held
-number-good false k e u = not-ok u
-number-good true Absent e u = not-ok e
+number-good false k e u = no-claim u
+number-good true Absent e u = no-claim e
 number-good true (Holds v) e u = number-reads (decoded v) e
 
 number-sized : (used : Bool) (k : Slot) → length ((numberIn used k) .number .bytes) ≡ 30
@@ -121,8 +118,8 @@ number-sized true (Holds v) = number-thirty (decoded v)
 
 date-good : (used : Bool) (k : Slot) → (dateIn used k) .ok ≡ true → used ≡ true → isWritten ((dateIn used k) .date) ≡ true
 unfolding fieldOf held
-date-good false k e u = not-ok u
-date-good true Absent e u = not-ok e
+date-good false k e u = no-claim u
+date-good true Absent e u = no-claim e
 date-good true (Holds v) e u = date-reads (decoded v) e
 
 date-sized : (used : Bool) (k : Slot) → length ((dateIn used k) .date) ≡ 19

@@ -16,7 +16,7 @@ use Rattle.fields.specs.Amount.{isAmount, amountRead}
 use Rattle.fields.specs.Codes.{isReceipt, receiptRead, isKind, kindRead}
 use Rattle.fields.specs.Number.{isNumber, isNumberText, padded, numberOf, noNumber, numberRead}
 use Rattle.fields.specs.Date.{isWritten, noDate, dateRead}
-use Rattle.fields.proofs.Tests.{both, cond-elim}
+use Rattle.fields.proofs.Tests.{both, cond-elim, no-claim}
 use Rattle.fields.proofs.DigitLaws.{range-within}
 use Rattle.fields.proofs.AmountLaws.{amount-within}
 use Rattle.fields.proofs.NumberLaws.{text-of}
@@ -27,9 +27,6 @@ use Rattle.registry.specs.RegistryText.{lineOn, everyLine}
 use Rattle.registry.proofs.LineParts.{line-is}
 use Rattle.registry.proofs.SplitLaws.{count-more, good-more}
 use Rattle.registry.proofs.TextAgain.{on-line}
-
-no : {A : Type 0} → false ≡ true → A
-no e = let z : _≡_ {A = ℕ} 0 1 = cc in absurd (omega arith)
 
 -- ---- fields that were read
 module _ (f : List ℕ) (good : isNumberText f ≡ true) where
@@ -50,11 +47,11 @@ NumberGood r = r .ok ≡ true → (isNumber (r .number) ≡ true) × (length (r 
 
 number-good : (f : List ℕ) → NumberGood (numberRead f)
 unfolding numberRead
-number-good f = cond-elim NumberGood (isNumberText f) _ noNumber (λ e _. (number-is f e, number-size f e)) (λ _ h. no h)
+number-good f = cond-elim NumberGood (isNumberText f) _ noNumber (λ e _. (number-is f e, number-size f e)) (λ _ h. no-claim h)
 
 date-good : (f : List ℕ) → (dateRead f) .ok ≡ true → isWritten ((dateRead f) .date) ≡ true
 unfolding dateRead
-date-good f = cond-elim (λ r. r .ok ≡ true → isWritten (r .date) ≡ true) (isWritten f) _ noDate (λ e _. e) (λ _ h. no h)
+date-good f = cond-elim (λ r. r .ok ≡ true → isWritten (r .date) ≡ true) (isWritten f) _ noDate (λ e _. e) (λ _ h. no-claim h)
 
 -- ---- a line that was read
 abbrev LineGood : LineRead → Type 0
@@ -63,15 +60,15 @@ LineGood r = r .ok ≡ true → (isLine (r .line) ≡ true) × (length (r .line 
 of-good : (n : NumberRead) (k : Digits) (d : DateRead) (a r : Digits) → NumberGood n → ((v : ℕ) → Value v ≡ k → isKind v ≡ true)
     → (d .ok ≡ true → isWritten (d .date) ≡ true) → ((v : ℕ) → Value v ≡ a → isAmount v ≡ true) → ((v : ℕ) → Value v ≡ r → isReceipt v ≡ true)
     → LineGood (lineOf n k d a r)
-of-good n Malformed d a r gn gk gd ga gr h = no h
-of-good n (Value k) d Malformed r gn gk gd ga gr h = no h
-of-good n (Value k) d (Value a) Malformed gn gk gd ga gr h = no h
+of-good n Malformed d a r gn gk gd ga gr h = no-claim h
+of-good n (Value k) d Malformed r gn gk gd ga gr h = no-claim h
+of-good n (Value k) d (Value a) Malformed gn gk gd ga gr h = no-claim h
 of-good n (Value k) d (Value a) (Value r) gn gk gd ga gr h =
     cond-elim LineGood (n .ok && d .ok) _ noLine
     (λ t _.
     let p = both (n .ok) (d .ok) t in
     (line-is _ (record { number = gn (p .0) .0; kind = gk k refl; date = gd (p .1); amount = ga a refl; receipt = gr r refl }), gn (p .0) .1))
-    (λ _ e. no e)
+    (λ _ e. no-claim e)
     h
 
 line-good : (l : List ℕ) → LineGood (lineRead l)
@@ -108,7 +105,7 @@ module _ (day : Day) where
   unfolding goodLines heldLines countOf
   held-count [] h = refl
   held-count ([] ∷ []) h = refl
-  held-count ((b ∷ l) ∷ []) h = no h
+  held-count ((b ∷ l) ∷ []) h = no-claim h
   held-count (l ∷ (m ∷ ls)) h =
       let p = both (goodLine day l) _ (sym (good-more day l m ls) ∙ h) in
       rw (count-more l m ls) (ap suc (held-count (m ∷ ls) (p .1)))

@@ -13,7 +13,7 @@ use borrow.Author.Tests.{eq-eqb, ne-eqb}
 use Rattle.fields.specs.declared.calendar.Day.{Day}
 use Rattle.fields.specs.declared.number.Number.{Number}
 use Rattle.fields.specs.Calendar.{nextDay, onDay}
-use Rattle.fields.proofs.Tests.{cond-elim}
+use Rattle.fields.proofs.Tests.{cond-elim, no-claim}
 use Rattle.registry.specs.declared.line.Line.{Line}
 use Rattle.registry.specs.Registry.{registryLines}
 use Rattle.table.specs.declared.Account.{Account}
@@ -25,7 +25,6 @@ use Rattle.lists.specs.Lists.{firstFrom}
 use Rattle.lists.proofs.ListLaws.{search-within}
 use Rattle.table.specs.Table.{Rows, findRecord}
 use Rattle.table.specs.Accounts.{isAccount, accountsOf, findAccount, noAccount, withBalance, balanceAt, gateBalance, credited, debited, withClosed}
-use Rattle.table.proofs.RangeLaws.{no-claim}
 use Rattle.gate.specs.Deliver.{creditedAt, debitedAt, isFull}
 use Rattle.gate.proofs.RowsLaws.{SameNames, names-same, names-used, names-credited, names-debited}
 use Rattle.settlement.specs.Settle.{matches, Verdict, Keeps, Restores, Posts, Unposted, verdictOf, Ledger, applied, settleLine, settleLines, isStray, sweptGate, sweepGates, swept, Settled, settleDay, settle}
@@ -46,7 +45,7 @@ names-after g h k a b =
       finds = λ n m. b .finds n m ∙ a .finds n m;
     }
 
-names-credited-at : (g : Gate) (f : Found) (n : ℕ) → SameNames g (creditedAt g f n)
+pub names-credited-at : (g : Gate) (f : Found) (n : ℕ) → SameNames g (creditedAt g f n)
 names-credited-at g Nothing n = names-same g g refl
 names-credited-at g (At a) n = names-credited g a n
 

@@ -20,12 +20,13 @@ use Rattle.table.specs.declared.Record.{Record}
 use Rattle.lists.specs.declared.Found.{Found}
 use Rattle.lists.specs.declared.Found.the-variants.{At, Nothing}
 use Rattle.lists.specs.Lists.{firstFrom}
-use Rattle.table.specs.Table.{Rows, recordAt, recordsOf, rowsFrom, rowsWith, numsOf, datesOf, findRecord, Whole}
-use Rattle.table.specs.Accounts.{accountsOf, findAccount, noAccount, withBalance, balanceAt, gateBalance, credited, debited, withUsed}
+use Rattle.table.specs.Table.{Rows, recordAt, recordsOf, rowsFrom, rowsWith, numsOf, datesOf, findRecord}
+use Rattle.table.specs.Accounts.{accountsOf, findAccount, noAccount, withBalance, balanceAt, gateBalance, credited, debited}
 use Rattle.table.proofs.SignedLaws.{mag-up, mag-down}
 use Rattle.table.proofs.AccountLaws.{holder-within}
 use Rattle.table.proofs.TableLaws.{length-records, getD-records, from-at, from-whole, whole-from, records-from, rows-kept, rows-set}
 use Rattle.gate.specs.Deliver.{noRecord, makeRecord, revoked, creditedAt, debitedAt, isFull}
+use Rattle.gate.proofs.RecordsLaws.{debit-used}
 use Rattle.settlement.specs.Settle.{matches, isDone, postVerdict, matchVerdict, verdictOf, restored, postedRecord, Ledger, Verdict, Keeps, Restores, Posts, Unposted, applied, settleLine, isStray, sweptRecord, sweptGate}
 use Rattle.settlement.specs.Steps.{Funds, Held, Left, ledgerOf, sweptAt}
 
@@ -90,6 +91,10 @@ post-room Nothing Nothing full a e = other e refl
 post-room Nothing (At c) true a e = other e refl
 post-room Nothing (At c) false a e = let q : c ≡ a = cc in (refl, ap At q)
 
+pub post-new : (f k : Found) (full : Bool) (a : ℕ) → postVerdict f k full ≡ Posts a → f ≡ Nothing
+post-new (At i) k full a e = other e refl
+post-new Nothing k full a e = refl
+
 pub verdict-post : (rs : List Record) (f : Found) (v : Verdict) (a : ℕ) → matchVerdict rs f v ≡ Posts a → v ≡ Posts a
 verdict-post rs Nothing v a e = e
 verdict-post rs (At i) v a e = go (isDone (getD rs i noRecord)) e
@@ -98,7 +103,7 @@ verdict-post rs (At i) v a e = go (isDone (getD rs i noRecord)) e
     go true q = let z : _≡_ {A = ℕ} 0 1 = cc in absurd (omega arith)
     go false q = let z : _≡_ {A = ℕ} 0 1 = cc in absurd (omega arith)
 
-credit-used : (g : Gate) (k : Found) (n : ℕ) → (creditedAt g k n) .used ≡ g .used
+pub credit-used : (g : Gate) (k : Found) (n : ℕ) → (creditedAt g k n) .used ≡ g .used
 unfolding credited
 credit-used g Nothing n = refl
 credit-used g (At a) n = refl
@@ -216,11 +221,6 @@ set-same : (rs : List Record) (i : ℕ) (z : Record) → set rs i (getD rs i z) 
 set-same [] i z = refl
 set-same (r ∷ rs) zero z = refl
 set-same (r ∷ rs) (suc i) z = ap (λ (l : List Record). r ∷ l) (set-same rs i z)
-
-debit-used : (g : Gate) (k : Found) (n : ℕ) → (debitedAt g k n) .used ≡ g .used
-unfolding debited
-debit-used g Nothing n = refl
-debit-used g (At a) n = refl
 
 module _ (g : Gate) (t : Rows) (b : ℕ) (held : Held g t b) (clock : List ℕ) (day : Day) (xs : List Line) (i : ℕ) (h : i < g .used) where
   pub sweep-step : Step t (g .used) (b + 1000000000) (sweptAt clock day xs i (ledgerOf g t))

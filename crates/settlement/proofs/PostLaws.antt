@@ -2,11 +2,10 @@
 use Prim.Native.Nat.{ℕ, _+_, _≤_, _<_}
 use native.Mathlib.Omega.{arith}
 use mathlib.Core.Path.{_≡_, refl, sym, ap, _∙_}
-use mathlib.Core.Bool.{Bool, true, false, cond, not, _&&_}
-use mathlib.Core.List.{List, [], _∷_, _++_}
-use lib.Dec.{eqb, leb}
+use mathlib.Core.Bool.{Bool, true, false, cond}
+use mathlib.Core.List.{List, []}
 use lib.Signed.{mag}
-use lib.ListN.{length, getD, set}
+use lib.ListN.{length, getD}
 use borrow.Author.Tests.{eq-eqb, ne-eqb, le-leb, lt-leb}
 use Rattle.registry.specs.declared.line.Line.{Line}
 use Rattle.table.specs.declared.Gate.{Gate}
@@ -14,12 +13,13 @@ use Rattle.table.specs.declared.Record.{Record}
 use Rattle.lists.specs.declared.Found.{Found}
 use Rattle.lists.specs.declared.Found.the-variants.{At, Nothing}
 use Rattle.lists.specs.Lists.{firstFrom, isFound}
-use Rattle.table.specs.Table.{Rows, recordAt, recordsOf, rowsFrom, rowsWith, findRecord, Whole}
+use Rattle.lists.proofs.ListLaws.{is-nothing}
+use Rattle.table.specs.Table.{Rows, recordAt, recordsOf, rowsWith, findRecord}
 use Rattle.table.specs.Accounts.{accountsOf, findAccount, balanceAt, credited, withUsed}
-use Rattle.table.proofs.TableLaws.{length-records, getD-records, rows-set, rows-more, rows-kept}
+use Rattle.table.proofs.TableLaws.{getD-records, rows-set, rows-more, rows-kept}
 use Rattle.table.proofs.AccountLaws.{holder-within}
-use Rattle.gate.specs.Deliver.{noRecord, creditedAt, isFull, nextAuthcode}
-use Rattle.settlement.specs.Settle.{matches, isDone, postVerdict, matchVerdict, verdictOf, restored, postedRecord, Ledger, Verdict, Keeps, Restores, Posts, Unposted, applied, settleLine}
+use Rattle.gate.specs.Deliver.{noRecord, creditedAt, isFull}
+use Rattle.settlement.specs.Settle.{matches, isDone, postVerdict, verdictOf, restored, postedRecord, Ledger, Keeps, Restores, Posts, Unposted, applied, settleLine}
 use Rattle.settlement.specs.Steps.{Funds, Held, Left, ledgerOf, matchedLine, newLine}
 
 -- ---- what the gate and the rows allow
@@ -117,10 +117,6 @@ module _ (g : Gate) (t : Rows) (b : ℕ) (held : Held g t b) (clock : List ℕ) 
   recorded-verdict (At i) a full e = refl
   recorded-verdict Nothing a full e = let z : _≡_ {A = ℕ} 0 1 = cc in absurd (omega arith)
 
-  no-place : (f : Found) → isFound f ≡ false → f ≡ Nothing
-  no-place (At i) e = let z : _≡_ {A = ℕ} 0 1 = cc in absurd (omega arith)
-  no-place Nothing e = refl
-
   pub new-full : length (t .nums) ≤ g .used → (t′ : Rows) → t′ ≡ t → Left t (newLine clock (length (t .nums)) x (ledgerOf g t)) g t′
   unfolding newLine isFull applied
   new-full h t′ et = stays g t b held _ (rw (le-leb _ _ h, full-verdict (findRecord (x .receipt) (recordsOf t (g .used))) (findAccount (x .number) (x .kind) (accountsOf g)))) t′ et
@@ -134,12 +130,12 @@ module _ (g : Gate) (t : Rows) (b : ℕ) (held : Held g t b) (clock : List ℕ) 
     module _ (e : s ≡ false) (k : Found) (ek : k ≡ findAccount (x .number) (x .kind) (accountsOf g)) where
       pub new-unknown : k ≡ Nothing → (t′ : Rows) → t′ ≡ t → Left t (newLine clock (length (t .nums)) x (ledgerOf g t)) g t′
       unfolding newLine applied
-      new-unknown u t′ et = stays g t b held _ (rw (← ef, no-place f (sym es ∙ e), ← ek, u)) t′ et
+      new-unknown u t′ et = stays g t b held _ (rw (← ef, is-nothing f (sym es ∙ e), ← ek, u)) t′ et
 
       pub new-posted : (a : ℕ) → k ≡ At a → g .used < length (t .nums) → (g′ : Gate) (t′ : Rows) → Left t (applied clock x (Posts a) (ledgerOf g t)) g′ t′
           → Left t (newLine clock (length (t .nums)) x (ledgerOf g t)) g′ t′
       unfolding newLine isFull
-      new-posted a u room g′ t′ done = rw (← ef, no-place f (sym es ∙ e), ← ek, u, lt-leb _ _ room) done
+      new-posted a u room g′ t′ done = rw (← ef, is-nothing f (sym es ∙ e), ← ek, u, lt-leb _ _ room) done
 
 -- ---- one line
 module _ (g : Gate) (t : Rows) (clock : List ℕ) (x : Line) (lent : ℕ) (f : Found) (ef : f ≡ firstFrom (matches x) 0 (recordsOf t (g .used))) (g′ : Gate) (t′ : Rows) where

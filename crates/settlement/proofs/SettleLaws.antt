@@ -28,13 +28,14 @@ use Rattle.lists.specs.declared.Found.the-variants.{At, Nothing}
 use Rattle.lists.specs.Lists.{firstFrom}
 use Rattle.table.specs.Table.{Rows, recordAt, recordsOf, rowsFrom, findRecord}
 use Rattle.lists.proofs.ListLaws.{found-fits}
-use Rattle.table.specs.Accounts.{accountsOf, findAccount, credited}
+use Rattle.table.specs.Accounts.{accountsOf, findAccount}
 use Rattle.table.specs.Valid.{tableGood}
 use Rattle.table.proofs.TableLaws.{length-records, getD-records, from-at, records-from}
-use borrow.Author.Tests.{leb-true, eqb-true, eqb-false}
-use Rattle.gate.specs.Deliver.{noRecord, revoked, creditedAt, debitedAt, isFull}
+use borrow.Author.Tests.{leb-true, eqb-true, eqb-false, not-true}
+use Rattle.gate.specs.Deliver.{noRecord, revoked, debitedAt, isFull}
 use Rattle.gate.proofs.RecordsLaws.{debit-used}
 use Rattle.settlement.specs.Settle.{matches, isDone, Verdict, Keeps, Restores, Posts, Unposted, postVerdict, matchVerdict, verdictOf, restored, postedRecord, Ledger, applied, settleLine, settleLines, anyMatches, isStray, sweptRecord, sweptGate, sweepGates, swept, anyDone, reportOf, Settled, unsettled, reported, settleDay, settleText, settle}
+use Rattle.settlement.proofs.HeldLaws.{credit-used}
 
 true-not-false : true ≡ false → ⊥
 true-not-false e = let z : _≡_ {A = ℕ} 0 1 = cc in absurd (omega arith)
@@ -155,12 +156,7 @@ onward-after l m n a b =
       keys = λ i h. key-after (getD (l .records) i noRecord) (getD (m .records) i noRecord) (getD (n .records) i noRecord) (a .keys i h) (b .keys i (omega (arith, a .size)));
     }
 
-credit-used : (g : Gate) (f : Found) (n : ℕ) → (creditedAt g f n) .used ≡ g .used
-unfolding credited
-credit-used g Nothing n = refl
-credit-used g (At a) n = refl
-
-applied-onward : (clock : List ℕ) (x : Line) (v : Verdict) (l : Ledger) → Onward l (applied clock x v l)
+pub applied-onward : (clock : List ℕ) (x : Line) (v : Verdict) (l : Ledger) → Onward l (applied clock x v l)
 unfolding applied
 applied-onward clock x Keeps l = onward-same l
 applied-onward clock x Unposted l = onward-same l
@@ -186,7 +182,7 @@ applied-onward clock x (Posts a) l =
       keys = λ i h. key-equal _ _ (List·getD-append (l .records) (postedRecord (l .gate) clock x ∷ []) noRecord i h);
     }
 
-line-onward : (clock : List ℕ) (lent : ℕ) (x : Line) (l : Ledger) → Onward l (settleLine clock lent x l)
+pub line-onward : (clock : List ℕ) (lent : ℕ) (x : Line) (l : Ledger) → Onward l (settleLine clock lent x l)
 unfolding settleLine
 line-onward clock lent x l = applied-onward clock x (verdictOf (l .gate) (l .records) lent x) l
 
@@ -209,12 +205,12 @@ unfolding sweepGates
 sweep-used day xs [] g = refl
 sweep-used day xs (r ∷ rs) g = sweep-used day xs rs (sweptGate day xs r g) ∙ swept-used day xs r g
 
-map-at : (f : Record → Record) (rs : List Record) (i : ℕ) (z : Record) → i < length rs → getD (map f rs) i z ≡ f (getD rs i z)
+pub map-at : (f : Record → Record) (rs : List Record) (i : ℕ) (z : Record) → i < length rs → getD (map f rs) i z ≡ f (getD rs i z)
 map-at f [] i z h = absurd (omega arith)
 map-at f (r ∷ rs) zero z h = refl
 map-at f (r ∷ rs) (suc i) z h = map-at f rs i z (omega arith)
 
-swept-onward : (clock : List ℕ) (day : Day) (xs : List Line) (l : Ledger) → Onward l (swept clock day xs l)
+pub swept-onward : (clock : List ℕ) (day : Day) (xs : List Line) (l : Ledger) → Onward l (swept clock day xs l)
 unfolding swept
 swept-onward clock day xs l =
     let as-long : length (map (sweptRecord clock day xs) (l .records)) ≡ length (l .records) = length-map (l .records) (sweptRecord clock day xs) in
@@ -232,24 +228,31 @@ pub record Passed (g : Gate) (t : Rows) (day : Day) (text out : List ℕ) : Type
   pub faultless : registryFault day text ≡ 0
 
 module _ (g : Gate) (t : Rows) (clock : List ℕ) (day : Day) (text out : List ℕ) where
-  pub settled-by : (P : Settled → Type 0) → ((code : ℕ) → (code ≡ 0 → ⊥) → P (unsettled code g t out)) → (Passed g t day text out → onDay day (nextDay (g .closed)) ≡ false → P (reported g t (registryLines text) out))
-      → (Passed g t day text out → onDay day (nextDay (g .closed)) ≡ true → P (settleDay g t clock day (registryLines text) out))
+  pub settle-elim : (P : Settled → Type 0) → ((code : ℕ) → (code ≡ 0 → ⊥) → P (unsettled code g t out))
+      → (Passed g t day text out → onDay day (nextDay (g .closed)) ≡ false → dayBefore (g .closed) day ≡ false → P (reported g t (registryLines text) out))
+      → (Passed g t day text out → isWritten clock ≡ true → onDay day (nextDay (g .closed)) ≡ true → P (settleDay g t clock day (registryLines text) out))
       → P (settle g t clock day text out)
   unfolding settle settleText
-  settled-by P keep report settles =
+  settle-elim P keep report settles =
       cond-elim P (tableGood g t) _ _
       (λ good. cond-elim P (leb 512 (length out)) _ _
       (λ room. cond-elim P (isWritten clock) _ _
-      (λ _. cond-elim P (eqb (registryFault day text) 0) _ _
+      (λ dated. cond-elim P (eqb (registryFault day text) 0) _ _
       (λ none.
       let p : Passed g t day text out = record { good = good; room = leb-true 512 (length out) room; faultless = eqb-true (registryFault day text) 0 none } in
       cond-elim P (onDay day (nextDay (g .closed))) _ _
-      (λ next. settles p next)
-      (λ off. cond-elim P (isDay day && not (dayBefore (g .closed) day)) _ _ (λ _. report p off) (λ _. keep 55 (λ e. absurd (omega arith)))))
+      (λ next. settles p dated next)
+      (λ off. cond-elim P (isDay day && not (dayBefore (g .closed) day)) _ _ (λ b. report p off (not-true _ (and-right (isDay day) _ b))) (λ _. keep 55 (λ e. absurd (omega arith)))))
       (λ n. keep (registryFault day text) (eqb-false (registryFault day text) 0 n)))
       (λ _. keep 51 (λ e. absurd (omega arith))))
       (λ _. keep 50 (λ e. absurd (omega arith))))
       (λ _. keep 68 (λ e. absurd (omega arith)))
+
+  -- the same where the clock and the order of days do not matter
+  pub settled-by : (P : Settled → Type 0) → ((code : ℕ) → (code ≡ 0 → ⊥) → P (unsettled code g t out)) → (Passed g t day text out → onDay day (nextDay (g .closed)) ≡ false → P (reported g t (registryLines text) out))
+      → (Passed g t day text out → onDay day (nextDay (g .closed)) ≡ true → P (settleDay g t clock day (registryLines text) out))
+      → P (settle g t clock day text out)
+  settled-by P keep report settles = settle-elim P keep (λ p off _. report p off) (λ p _ next. settles p next)
 
   -- a fault keeps all
   pub record Kept (d : Settled) : Type 0 where
@@ -267,10 +270,10 @@ module _ (g : Gate) (t : Rows) (clock : List ℕ) (day : Day) (text out : List �
       (λ _ _ n. absurd (n refl))
 
   -- the ledger that the day's settlement makes
-  abbrev before : Ledger
+  abbrev pub before : Ledger
   before = record { gate = g; records = recordsOf t (g .used) }
 
-  abbrev after : Ledger
+  abbrev pub after : Ledger
   after = swept clock day (registryLines text) (settleLines clock (length (t .nums)) (registryLines text) before)
 
   after-onward : Onward before after
@@ -278,7 +281,7 @@ module _ (g : Gate) (t : Rows) (clock : List ℕ) (day : Day) (text out : List �
       let m : Ledger = settleLines clock (length (t .nums)) (registryLines text) before in
       onward-after before m after (lines-onward clock (length (t .nums)) (registryLines text) before) (swept-onward clock day (registryLines text) m)
 
-  after-used : length (after .records) ≡ after .gate .used
+  pub after-used : length (after .records) ≡ after .gate .used
   after-used = after-onward .step (length-records t (g .used))
 
   today-report : (settleDay g t clock day (registryLines text) out) .report
@@ -396,11 +399,12 @@ module _ (x : Line) (rs : List Record) (k : ℕ) where
       go true q = let z : _≡_ {A = ℕ} 0 1 = cc in absurd (omega arith)
       go false q = let z : i ≡ k = cc in ap At z
 
-  restores-fits : (g : Gate) (lent : ℕ) → verdictOf g rs lent x ≡ Restores k → matches x (getD rs k noRecord) ≡ true
+  pub restores-at : (g : Gate) (lent : ℕ) → verdictOf g rs lent x ≡ Restores k → firstFrom (matches x) 0 rs ≡ At k
   unfolding verdictOf
-  restores-fits g lent e =
-      found-fits (matches x) rs noRecord
-      (by-match (firstFrom (matches x) 0 rs) _ (no-post (findRecord (x .receipt) rs) (findAccount (x .number) (x .kind) (accountsOf g)) (isFull g lent)) e)
+  restores-at g lent e = by-match (firstFrom (matches x) 0 rs) _ (no-post (findRecord (x .receipt) rs) (findAccount (x .number) (x .kind) (accountsOf g)) (isFull g lent)) e
+
+  restores-fits : (g : Gate) (lent : ℕ) → verdictOf g rs lent x ≡ Restores k → matches x (getD rs k noRecord) ≡ true
+  restores-fits g lent e = found-fits (matches x) rs noRecord (restores-at g lent e)
 
 module _ (day : Day) where
   abbrev Other : Record → Type 0

@@ -17,7 +17,7 @@ use Rattle.fields.specs.Calendar.{isDay}
 use Rattle.fields.specs.Codes.{isReceipt, isKind}
 use Rattle.fields.specs.Date.{isWritten, emptyDate}
 use Rattle.fields.specs.Number.{isNumber}
-use Rattle.fields.proofs.Tests.{and-right}
+use Rattle.fields.proofs.Tests.{and-right, no-claim}
 use Rattle.table.specs.declared.Account.{Account}
 use Rattle.table.specs.declared.Gate.{Gate}
 use Rattle.table.specs.declared.Record.{Record}
@@ -27,10 +27,6 @@ use Rattle.table.specs.Valid.{near, accountGood, gateGood, stateGood, ra
 use Rattle.lists.proofs.ListLaws.{all-more, all-not, all-end, all-at}
 use Rattle.table.proofs.SignedLaws.{back}
 use Rattle.table.proofs.AccountLaws.{in-use}
-
--- a test that failed shows nothing
-pub no-claim : {A : Type 0} → false ≡ true → A
-no-claim q = let z : _≡_ {A = ℕ} 0 1 = cc in absurd (omega arith)
 
 -- ---- the range of a balance
 near-over : (z : ℤ) → ltZ (pos 10000000000000) z ≡ true → near z ≡ false

@@ -1,8 +1,8 @@
 -- Laws of the table's rows: what store leaves is the list of records with one of them set.
 use mathlib.Core.Path.{_≡_, refl, sym, ap, _∙_}
 use mathlib.Core.Logic.{_≢_}
-use mathlib.Core.List.{List, [], _∷_, _++_, map, map-append}
-use Prim.Native.Nat.{ℕ, suc, _+_, _-_, _<_, _≤_}
+use mathlib.Core.List.{List, [], _∷_, _++_, map}
+use Prim.Native.Nat.{ℕ, _+_, _-_, _<_, _≤_}
 use native.Mathlib.Omega.{arith}
 use borrow.Author.Count.{below-none, below-more}
 use borrow.Author.Tests.{eq-eqb, ne-eqb, eqb-true}
@@ -11,7 +11,7 @@ use lib.Seq.{getD-set-same, getD-set-other, ext-getD}
 use Rattle.table.specs.declared.Record.{Record}
 use Rattle.lists.specs.declared.Found.{Found}
 use Rattle.lists.specs.declared.Found.the-variants.{At, Nothing}
-use Rattle.lists.specs.Lists.{tab, firstFrom}
+use Rattle.lists.specs.Lists.{firstFrom}
 use Rattle.table.specs.Table.{Rows, recordAt, recordsOf, numsOf, datesOf, rowsWith, rowsFrom, Whole, hasReceipt, findRecord}
 use Rattle.lists.proofs.ListLaws.{length-tab, getD-tab, map-tab, tab-same, tab-take, list-six, list-three, search-hit, search-miss, search-end, search-within, found-fits}
 use Rattle.lists.proofs.ColumnLaws.{tab-put, tab-add, column-back, column-more, column-set, column-next, column-at, column-size}
@@ -179,6 +179,14 @@ records-from t rs z =
   where
     one : (i : ℕ) → i < length rs → getD (recordsOf (rowsFrom t rs) (length rs)) i z ≡ getD rs i z
     one i h = getD-records (rowsFrom t rs) (length rs) i z h ∙ from-at t rs i z h
+
+-- the same by the number of records in use
+pub rows-as : (t : Rows) (rs : List Record) (z : Record) (n : ℕ) → length rs ≡ n → recordsOf (rowsFrom t rs) n ≡ rs
+rows-as t rs z n e = ap (recordsOf (rowsFrom t rs)) (sym e) ∙ records-from t rs z
+
+-- and the rows lent stay as many
+pub rows-cap : (t : Rows) (rs : List Record) → length rs ≤ length (t .nums) → length ((rowsFrom t rs) .nums) ≡ length (t .nums)
+rows-cap t rs l = omega (arith, from-whole t rs .0)
 
 pub whole-from : (t : Rows) (rs : List Record) → Whole (rowsFrom t rs) (length rs)
 unfolding rowsFrom

@@ -1,5 +1,6 @@
 use borrow.Author.Needs.{needs}
-use Rattle.lists.proofs.LentLaws.{no-claim, lent-none, lent-many, lent-second, lent-third, lent-used, lent-all}
+use Rattle.fields.proofs.Tests.{no-claim}
+use Rattle.lists.proofs.LentLaws.{lent-none, lent-many, lent-second, lent-third, lent-used, lent-all}
 use Rattle.lists.proofs.is_lent.Statement.{statement}
 use Rattle.lists.proofs.is_lent.Tie as tie
 

@@ -1,5 +1,6 @@
 use borrow.Author.Needs.{needs}
-use Rattle.table.proofs.RangeLaws.{no-claim, gate-many, gate-no-day, gate-rest, gate-sound}
+use Rattle.fields.proofs.Tests.{no-claim}
+use Rattle.table.proofs.RangeLaws.{gate-many, gate-no-day, gate-rest, gate-sound}
 use Rattle.table.proofs.ranges.gate_good.Statement.{statement}
 use Rattle.table.proofs.ranges.gate_good.Tie as tie
 

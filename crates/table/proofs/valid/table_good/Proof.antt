@@ -1,5 +1,6 @@
 use native.Mathlib.Omega.{arith}
-use Rattle.lists.proofs.LentLaws.{no-claim, lent-is}
+use Rattle.fields.proofs.Tests.{no-claim}
+use Rattle.lists.proofs.LentLaws.{lent-is}
 use Rattle.table.proofs.ValidLaws.{table-lent, table-gate, sound-count, table-records, table-ready}
 use borrow.Author.Needs.{needs}
 use Rattle.table.proofs.valid.table_good.Statement.{statement}
