@@ -13,10 +13,10 @@ use Rattle.fields.specs.declared.calendar.Day.{Day}
 use Rattle.fields.specs.Calendar.{isDay, dayBefore, sameDay, onDay}
 use Rattle.fields.specs.Date.{dateDay}
 use Rattle.fields.specs.Lists.{every}
-use Rattle.fields.proofs.Tests.{and-left, and-right, cond-elim}
+use Rattle.fields.proofs.Tests.{and-left, and-right, cond-elim, no-claim}
 use Rattle.lists.specs.Lent.{Lent}
 use Rattle.lists.proofs.ColumnLaws.{column-size, column-at}
-use Rattle.lists.proofs.LentLaws.{no-claim, lent-facts, facts-lent}
+use Rattle.lists.proofs.LentLaws.{lent-facts, facts-lent}
 use Rattle.registry.specs.Report.{isMark, isReport}
 use Rattle.book.specs.declared.Book.{Book}
 use Rattle.book.specs.declared.Entry.{Entry}
