@@ -15,7 +15,8 @@ use Rattle.fields.specs.Calendar.{isDay, dayBefore}
 use Rattle.fields.specs.Codes.{isReceipt, isKind}
 use Rattle.fields.specs.Date.{isWritten, emptyDate}
 use Rattle.fields.specs.Number.{isNumber}
-use Rattle.fields.proofs.Tests.{and-left, and-right, both, cond-elim}
+use Rattle.fields.proofs.Tests.{and-left, and-right, both, cond-elim, no-claim}
+use Rattle.fields.proofs.OutLaws.{text-first, text-back}
 use Rattle.fields.proofs.DateLaws.{written-parts}
 use Rattle.fields.proofs.ScanLaws.{eqList-true}
 use Rattle.message.specs.declared.action.Action.{Action}
@@ -54,11 +55,11 @@ use Rattle.book.specs.BookValid.{bookGood}
 use Rattle.daybook.specs.Freezing.{registryOf, Listed, listOn, writeRegistry}
 use Rattle.daybook.proofs.RegistryLaws.{registry-few}
 use Rattle.agent.specs.Writing.{Wrote, requestOf, checkOf, writeCheck}
-use Rattle.agent.proofs.MovedLaws.{same-place, found-fields, entry-parts}
+use Rattle.book.proofs.PaymentLaws.{entry-parts}
+use Rattle.agent.proofs.MovedLaws.{same-place, found-fields}
 use Rattle.agent.proofs.WritingTheorems.{write-cases}
 use Rattle.channel.specs.World.{Sent, sentRequest, sentAnswer, sentRegistry, sentReport, World, Named, Step, opens, draws, accepts, writesCheck, writesPayment, writesStatus, writesCancel, freezes, writesRegistry, delivers, sentIf, atGate, isAnswered, requestArrives, registryArrives, answerArrives, reportArrives, delivered, opening, drawing, accepting, checking, writing, freezing, listing, step, codeOf}
 use Rattle.channel.specs.Claim.{recordsIn, entryIn, entriesIn}
-use Rattle.channel.proofs.steps.AskSims.{answer-back, text-back}
 
 -- ---- what a call that wrote hands on
 grown : (z : Bool) (m m′ : Sent) (s : List Sent) → z ≡ true → m ≡ m′ → sentIf z m s ≡ s ++ (m′ ∷ [])
@@ -66,9 +67,6 @@ grown z m m′ s e q = rw (e, q) refl
 
 same-sent : (z : Bool) (m : Sent) (s : List Sent) → z ≡ false → sentIf z m s ≡ s
 same-sent z m s e = rw e refl
-
-no-claim : {A : Type 0} (z : Bool) → z ≡ true → z ≡ false → A
-no-claim z t f = let y : true ≡ false = sym t ∙ f in let x : _≡_ {A = ℕ} 0 1 = cc in absurd (omega arith)
 
 -- ---- a request
 -- malformed fields give no text, others a short one
@@ -250,7 +248,7 @@ module _ (w : World) (text clock : List ℕ) where
     pub answer-code : isAnswered ((requestArrives w a receipt text clock out) .code) ≡ true → answerTo .code ≡ (requestArrives w a receipt text clock out) .code
     unfolding requestArrives
     answer-code =
-        answer-cases (λ (d : Delivered). isAnswered (d .code) ≡ true → answerTo .code ≡ d .code) (λ c n h. no-claim (isAnswered c) h n)
+        answer-cases (λ (d : Delivered). isAnswered (d .code) ≡ true → answerTo .code ≡ d .code) (λ c n h. no-claim (sym n ∙ h))
         (λ room fits e h. unfold respond answerOf in ap (λ (x : Answer). x .code) e) (λ room fits e h. unfold answerOf in ap (λ (x : Answer). x .code) e)
 
     -- and it is sent, with the action and the receipt that the request was sent with
@@ -259,7 +257,7 @@ module _ (w : World) (text clock : List ℕ) where
     unfolding requestArrives
     answer-sent =
         answer-cases (λ (d : Delivered). isAnswered (d .code) ≡ true → sentIf (isAnswered (d .code)) (goes d) (w .sent) ≡ w .sent ++ (sentAnswer a receipt (answerBytes answerTo) ∷ []))
-        (λ c n h. no-claim (isAnswered c) h n)
+        (λ c n h. no-claim (sym n ∙ h))
         (λ room fits e h. grown _ _ _ (w .sent) h (ap (sentAnswer a receipt) (unfold respond in text-back out (answerBytes decided) (omega (arith, room, fits)) ∙ ap answerBytes (sym e))))
         (λ room fits e h. grown _ _ _ (w .sent) h (ap (sentAnswer a receipt) (text-back out (answerBytes faulted) (omega (arith, room, fits)) ∙ ap answerBytes (sym e))))
 
@@ -269,7 +267,7 @@ module _ (w : World) (text clock : List ℕ) where
     answer-none =
         answer-cases (λ (d : Delivered). isAnswered (d .code) ≡ false → atGate w (d .gate) (d .rows) (sentIf (isAnswered (d .code)) (goes d) (w .sent)) ≡ w)
         (λ c n h. ap (atGate w (w .gate) (w .table)) (same-sent (isAnswered c) _ (w .sent) h))
-        (λ room fits e h. no-claim (isAnswered (plan .decided .code)) plan-told (unfold respond in h))
+        (λ room fits e h. let n : isAnswered (plan .decided .code) ≡ false = unfold respond in h in no-claim (sym n ∙ plan-told))
         (λ room fits e h. ap (atGate w (w .gate) (w .table)) (same-sent (isAnswered (request .fault)) _ (w .sent) h))
 
 -- ---- a registry
@@ -325,7 +323,7 @@ module _ (w : World) (day : Day) (text clock out : List ℕ) where
       (ap (sentReport day)
       (ap (λ (n : ℕ). take n (d .report)) (r .0 ∙ sym l)
       ∙ ap (take (length s)) (report-now (w .gate) (w .table) clock day text out z)
-      ∙ answer-back out s fits))
+      ∙ text-first out s fits))
 
   -- with any other code nothing is sent and nothing moves
   pub report-none : ((registryArrives w day text clock out) .code ≡ 0 → ⊥) → (registryArrives w day text clock out) .world ≡ w
