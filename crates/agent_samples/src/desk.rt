@@ -41,6 +41,7 @@ pub fn start(s: &[u8], g: Gate) -> Desk {
     }
 }
 
+// The desk with another book.
 pub fn with_book(d: Desk, b: Book) -> Desk {
     let g = d.gate;
     Desk {

@@ -1,4 +1,4 @@
--- Document 01, "Agent" and the rows 68, 50, 55, 65 and 66: a day is frozen, its registry written, its report taken.
+-- Document 01, "Agent" and the rows 68, 50, 55 and 66: a day is frozen, and its registry written.
 use Prim.Native.Nat.{ℕ}
 use mathlib.Core.List.{List, [], _∷_, map}
 use mathlib.Core.Bool.{Bool, true, false, cond, not, _&&_}
