@@ -19,7 +19,7 @@ amountMost = 57 ∷ 57 ∷ 57 ∷ 57 ∷ 57 ∷ 57 ∷ 57 ∷ 46 ∷ 57 ∷ 57 �
 abbrev pub amountOver : List ℕ
 amountOver = 49 ∷ 48 ∷ 48 ∷ 48 ∷ 48 ∷ 48 ∷ 48 ∷ 48 ∷ []
 
-pub k3 : (amountRead amountMost ≡ Value 999999999) × (amountFault amountOver ≡ 3)
+pub k3 : (amountRead amountMost ≡ Value 999999999) × (amountFault (amountRead amountOver) ≡ 3)
 unfolding every find digitsRead kopecksAfter amountRead
 k3 = (refl, refl)
 
@@ -43,8 +43,8 @@ threeDecimals = 49 ∷ 48 ∷ 46 ∷ 49 ∷ 50 ∷ 53 ∷ []
 abbrev pub oneDecimal : List ℕ
 oneDecimal = 55 ∷ 46 ∷ 53 ∷ []
 
-pub k4 : (amountRead oneKopeck ≡ Value 1) × (amountFault noKopecks ≡ 3) × (amountFault pointAlone ≡ 3)
-    × (amountFault threeDecimals ≡ 3) × (amountRead oneDecimal ≡ Value 750)
+pub k4 : (amountRead oneKopeck ≡ Value 1) × (amountFault (amountRead noKopecks) ≡ 3) × (amountFault (amountRead pointAlone) ≡ 3)
+    × (amountFault (amountRead threeDecimals) ≡ 3) × (amountRead oneDecimal ≡ Value 750)
 unfolding every find digitsRead kopecksAfter amountRead
 k4 = (refl, refl, refl, refl, refl)
 
@@ -60,7 +60,7 @@ receiptLong = 57 ∷ 57 ∷ 57 ∷ 57 ∷ 57 ∷ 57 ∷ 57 ∷ 57 ∷ 57 ∷ 57 
 abbrev pub receiptZero : List ℕ
 receiptZero = 48 ∷ []
 
-pub k5 : (receiptRead receiptMost ≡ Value 999999999999999) × (receiptFault receiptLong ≡ 4) × (receiptFault receiptZero ≡ 4)
+pub k5 : (receiptRead receiptMost ≡ Value 999999999999999) × (receiptFault (receiptRead receiptLong) ≡ 4) × (receiptFault (receiptRead receiptZero) ≡ 4)
 unfolding every digitsRead rangeRead
 k5 = (refl, refl, refl)
 
@@ -72,6 +72,6 @@ leapDate = 50 ∷ 48 ∷ 50 ∷ 52 ∷ 45 ∷ 48 ∷ 50 ∷ 45 ∷ 50 ∷ 57 ∷
 abbrev pub noLeapDate : List ℕ
 noLeapDate = 50 ∷ 48 ∷ 50 ∷ 51 ∷ 45 ∷ 48 ∷ 50 ∷ 45 ∷ 50 ∷ 57 ∷ 84 ∷ 48 ∷ 48 ∷ 58 ∷ 48 ∷ 48 ∷ 58 ∷ 48 ∷ 48 ∷ []
 
-pub k6 : (dateFault leapDate ≡ 0) × (dateRead leapDate ≡ record { ok = true; date = leapDate }) × (dateFault noLeapDate ≡ 5)
+pub k6 : (dateFault (dateRead leapDate) ≡ 0) × (dateRead leapDate ≡ record { ok = true; date = leapDate }) × (dateFault (dateRead noLeapDate) ≡ 5)
 unfolding leapYear daysIn isDate dayOf twoDigits dayPart clockTime dateDay dateRead
 k6 = (refl, refl, refl)

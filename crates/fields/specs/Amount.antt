@@ -37,8 +37,9 @@ amountOf (Value w) (Value v) = cond (eqb (w * 100 + v) 0) Malformed (Value (w * 
 unfoldable pub amountRead : List ℕ → Digits
 amountRead s = amountOf (digitsRead 7 (take (find 46 s) s)) (kopecksFrom (drop (find 46 s) s))
 
-abbrev pub amountFault : List ℕ → ℕ
-amountFault s = faultOf 3 (amountRead s)
+-- its number where it is malformed
+abbrev pub amountFault : Digits → ℕ
+amountFault d = faultOf 3 d
 
 -- an amount as writers give it, with two decimals
 unfoldable pub amountBytes : ℕ → List ℕ

@@ -38,5 +38,6 @@ noDate = record { ok = false; date = emptyDate }
 unfoldable pub dateRead : List ℕ → DateRead
 dateRead s = cond (isWritten s) (record { ok = true; date = s }) noDate
 
-abbrev pub dateFault : List ℕ → ℕ
-dateFault s = cond ((dateRead s) .ok) 0 5
+-- its number where it is none
+abbrev pub dateFault : DateRead → ℕ
+dateFault r = cond (r .ok) 0 5

@@ -36,8 +36,9 @@ noNumber = record { ok = false; number = record { bytes = replicate 30 0; len = 
 unfoldable pub numberRead : List ℕ → NumberRead
 numberRead s = cond (isNumberText s) (record { ok = true; number = numberOf s }) noNumber
 
-abbrev pub numberFault : List ℕ → ℕ
-numberFault s = cond ((numberRead s) .ok) 0 2
+-- its number where it is malformed
+abbrev pub numberFault : NumberRead → ℕ
+numberFault r = cond (r .ok) 0 2
 
 -- the one equality of numbers
 unfoldable pub sameNumber : Number → Number → Bool

@@ -9,11 +9,10 @@ use Rattle.fields.specs.declared.digits.Digits.the-variants.{Value, Malformed}
 use Rattle.fields.specs.declared.number.Number.{Number}
 use Rattle.fields.specs.declared.number.NumberRead.{NumberRead}
 use Rattle.fields.specs.declared.date.DateRead.{DateRead}
-use Rattle.fields.specs.Digits.{faultOf}
-use Rattle.fields.specs.Amount.{amountRead}
-use Rattle.fields.specs.Codes.{receiptRead, kindRead, reasonRead}
-use Rattle.fields.specs.Number.{noNumber, numberRead}
-use Rattle.fields.specs.Date.{emptyDate, noDate, dateRead}
+use Rattle.fields.specs.Amount.{amountRead, amountFault}
+use Rattle.fields.specs.Codes.{receiptRead, receiptFault, kindRead, kindFault, reasonRead, reasonFault}
+use Rattle.fields.specs.Number.{noNumber, numberRead, numberFault}
+use Rattle.fields.specs.Date.{emptyDate, noDate, dateRead, dateFault}
 use Rattle.coding.specs.Url.{decoded}
 use Rattle.message.specs.declared.action.Action.{Action}
 use Rattle.message.specs.declared.action.Action.the-variants.{Check, Payment, Status, Cancel}
@@ -77,12 +76,12 @@ firstFault (f ∷ fs) = cond (eqb f 0) (firstFault fs) f
 unfoldable pub fieldFault : Action → List Slot → ℕ
 fieldFault a t =
     firstFault
-    (faultOf 4 (receiptField a t)
-    ∷ cond ((numberField a t) .ok) 0 2
-    ∷ faultOf 2 (kindField a t)
-    ∷ faultOf 3 (amountField a t)
-    ∷ cond ((dateField a t) .ok) 0 5
-    ∷ faultOf 32 (reasonField a t)
+    (receiptFault (receiptField a t)
+    ∷ numberFault (numberField a t)
+    ∷ kindFault (kindField a t)
+    ∷ amountFault (amountField a t)
+    ∷ dateFault (dateField a t)
+    ∷ reasonFault (reasonField a t)
     ∷ [])
 
 unfoldable pub askedOf : Action → List Slot → Asked

@@ -4,14 +4,14 @@ use mathlib.Core.List.{List, [], _∷_}
 use mathlib.Core.Bool.{Bool, true, false, cond}
 use lib.Dec.{eqb}
 use Rattle.fields.specs.declared.number.Number.{Number}
-use Rattle.fields.specs.Digits.{faultOf}
 use Rattle.message.specs.declared.action.Action.{Action}
 use Rattle.message.specs.declared.request.RequestRead.{RequestRead}
 use Rattle.message.specs.declared.request.Reader.{Reader}
 use Rattle.message.specs.declared.request.Reader.the-variants.{Receipt, Kind, Amount, Reason}
 use Rattle.fields.specs.declared.digits.Digits.{Digits}
-use Rattle.fields.specs.Amount.{amountRead}
-use Rattle.fields.specs.Codes.{receiptRead, kindRead, reasonRead}
+use Rattle.fields.specs.Amount.{amountRead, amountFault}
+use Rattle.fields.specs.Date.{dateFault}
+use Rattle.fields.specs.Codes.{receiptRead, kindRead, reasonRead, reasonFault}
 use Rattle.message.specs.Slots.{Slot}
 use Rattle.message.specs.Request.{amountField, dateField, reasonField, valueIn, refused, firstFault}
 
@@ -24,7 +24,7 @@ readBy Reason s = reasonRead s
 
 -- amount, date and reason
 unfoldable pub laterFault : Action → List Slot → ℕ
-laterFault a t = firstFault (faultOf 3 (amountField a t) ∷ cond ((dateField a t) .ok) 0 5 ∷ faultOf 32 (reasonField a t) ∷ [])
+laterFault a t = firstFault (amountFault (amountField a t) ∷ dateFault (dateField a t) ∷ reasonFault (reasonField a t) ∷ [])
 
 -- the request, once receipt, number and type are read
 unfoldable pub laterRead : Action → List Slot → ℕ → Number → ℕ → RequestRead

@@ -56,24 +56,24 @@ pub record K : Type 0 where
   pub k2-bytes : paysAgain .out ≡ answer1 ++ replicate 378 0
   pub k2-balance : balanceAt (paysAgain .gate) 0 ≡ pos 1012
   -- K3: 9999999.99 is 999999999; 10000000 gives 3
-  pub k3 : (amountRead F.amountMost ≡ Value 999999999) × (amountFault F.amountOver ≡ 3)
+  pub k3 : (amountRead F.amountMost ≡ Value 999999999) × (amountFault (amountRead F.amountOver) ≡ 3)
   pub k3-most : balanceAt ((atStart amountMost) .gate) 0 ≡ pos 999999999
   pub k3-over : (atStart amountOver) .code ≡ 3
   -- K4: 0.01 is 1; 0.00, `10.` and 10.125 give 3; 7.5 is 750
-  pub k4 : (amountRead F.oneKopeck ≡ Value 1) × (amountFault F.noKopecks ≡ 3) × (amountFault F.pointAlone ≡ 3)
-      × (amountFault F.threeDecimals ≡ 3) × (amountRead F.oneDecimal ≡ Value 750)
+  pub k4 : (amountRead F.oneKopeck ≡ Value 1) × (amountFault (amountRead F.noKopecks) ≡ 3) × (amountFault (amountRead F.pointAlone) ≡ 3)
+      × (amountFault (amountRead F.threeDecimals) ≡ 3) × (amountRead F.oneDecimal ≡ Value 750)
   pub k4-one : balanceAt ((atStart oneKopeck) .gate) 0 ≡ pos 1
   pub k4-none : (atStart noKopecks) .code ≡ 3
   pub k4-point : (atStart pointAlone) .code ≡ 3
   pub k4-three : (atStart threeDecimals) .code ≡ 3
   pub k4-tens : balanceAt ((atStart oneDecimal) .gate) 0 ≡ pos 750
   -- K5: a receipt of 15 nines reads; 16 digits or 0 give 4
-  pub k5 : (receiptRead F.receiptMost ≡ Value 999999999999999) × (receiptFault F.receiptLong ≡ 4) × (receiptFault F.receiptZero ≡ 4)
+  pub k5 : (receiptRead F.receiptMost ≡ Value 999999999999999) × (receiptFault (receiptRead F.receiptLong) ≡ 4) × (receiptFault (receiptRead F.receiptZero) ≡ 4)
   pub k5-most : (atStart receiptMost) .code ≡ 0
   pub k5-long : (atStart receiptLong) .code ≡ 4
   pub k5-zero : (atStart receiptZero) .code ≡ 4
   -- K6: 2024-02-29 reads; 2023-02-29 gives 5
-  pub k6 : (dateFault F.leapDate ≡ 0) × (dateRead F.leapDate ≡ record { ok = true; date = F.leapDate }) × (dateFault F.noLeapDate ≡ 5)
+  pub k6 : (dateFault (dateRead F.leapDate) ≡ 0) × (dateRead F.leapDate ≡ record { ok = true; date = F.leapDate }) × (dateFault (dateRead F.noLeapDate) ≡ 5)
   pub k6-leap : (atStart leapDate) .code ≡ 0
   pub k6-none : (atStart noLeapDate) .code ≡ 5
   -- K7: K1, draw 1, cancel: 9
