@@ -1,6 +1,7 @@
 pub mod BalanceLaws
 pub mod Cases
 pub mod DayLaws
+pub mod GivesTheorems
 pub mod HeldLaws
 pub mod LedgerLaws
 pub mod LinesLaws
