@@ -2,14 +2,14 @@
 use Prim.Native.Nat.{ℕ, _+_, _-_, _<_, _≤_}
 use native.Mathlib.Omega.{arith}
 use mathlib.Core.Path.{_≡_, refl, sym, ap, _∙_}
-use mathlib.Core.Bool.{Bool, true, false, cond, not, _&&_}
+use mathlib.Core.Bool.{true, false, cond}
 use mathlib.Core.List.{List, []}
 use mathlib.Core.Logic.{_⊎_, inl, inr}
 use lib.ListN.{length, getD, take, set}
 use borrow.Author.Tests.{le-leb}
 use Rattle.fields.specs.declared.number.Number.{Number}
 use Rattle.fields.specs.Amount.{isAmount}
-use Rattle.fields.specs.Codes.{isReceipt, isKind, isReason}
+use Rattle.fields.specs.Codes.{isKind, isReason}
 use Rattle.fields.specs.Number.{isNumber}
 use Rattle.fields.proofs.Tests.{cond-elim}
 use Rattle.fields.proofs.OutLaws.{text-back}
@@ -24,7 +24,6 @@ use Rattle.answers.specs.AnswerRead.{answerRead}
 use Rattle.lists.specs.declared.Found.the-variants.{At}
 use Rattle.book.specs.declared.Book.{Book}
 use Rattle.book.specs.declared.Entry.{Entry}
-use Rattle.book.specs.declared.State.{State}
 use Rattle.book.specs.declared.State.the-variants.{Asked, Credited, CancelAsked, Cancelled}
 use Rattle.book.specs.Entries.{BookRows, stateNumber, stateOf, noEntry, entryAt, entriesOf, bookWith, bookFrom}
 use Rattle.book.specs.BookValid.{bookGood}
@@ -36,7 +35,7 @@ use Rattle.daybook.proofs.GivesTheorems.{good-whole}
 use Rattle.agent.specs.declared.meaning.Meaning.{Meaning}
 use Rattle.agent.specs.declared.meaning.Meaning.the-variants.{Paid, Revoked}
 use Rattle.agent.specs.Writing.{Wrote, wrote, mayWrite, withState, writtenEntry, requestOf, formsGood, isOpen, writeAt, writeRequest, checkOf, writeCheck}
-use Rattle.agent.specs.Answering.{Took, paymentMeaning, cancelMeaning, meaning, credits, turned, authcodeAfter, answeredEntry, took, takeAt, takeReceipt, takeFor, takeAnswer}
+use Rattle.agent.specs.Answering.{paymentMeaning, cancelMeaning, meaning, credits, turned, authcodeAfter, answeredEntry, took, takeAt, takeReceipt, takeFor, takeAnswer}
 use Rattle.agent.proofs.MovedLaws.{placeOf}
 
 -- ---- which writing is open on an unfrozen day

@@ -1,17 +1,16 @@
 -- What acceptance, freezing and a registry's writing give where document 01 asks for nothing more.
 use Prim.Native.Nat.{ℕ, _+_, _<_, _≤_}
 use native.Mathlib.Omega.{arith}
-use mathlib.Core.Path.{_≡_, refl, sym, ap, _∙_}
-use mathlib.Core.Bool.{Bool, true, false, cond, not, _&&_}
+use mathlib.Core.Path.{_≡_, refl, ap, _∙_}
+use mathlib.Core.Bool.{true, false, not}
 use mathlib.Core.List.{List, [], _∷_, _++_, map}
-use lib.Dec.{leb}
 use lib.ListN.{length, getD, take}
 use borrow.Author.Tests.{lt-ltb, le-leb}
 use Rattle.fields.specs.declared.calendar.Day.{Day}
 use Rattle.fields.specs.declared.calendar.DayRead.the-variants.{Good}
 use Rattle.fields.specs.declared.number.Number.{Number}
 use Rattle.fields.specs.Amount.{isAmount}
-use Rattle.fields.specs.Calendar.{isDay, dayBefore, nextDay, onDay, upTo}
+use Rattle.fields.specs.Calendar.{isDay, dayBefore, nextDay, onDay}
 use Rattle.fields.specs.Codes.{isReceipt, isKind}
 use Rattle.fields.specs.Date.{dateDay, isWritten}
 use Rattle.fields.specs.Number.{isNumber}
@@ -26,9 +25,8 @@ use Rattle.book.specs.Entries.{BookRows, WholeBook, entryAt, entriesOf, bookWit
 use Rattle.book.specs.BookValid.{dayCount, bookGood}
 use Rattle.book.proofs.EntryLaws.{book-more}
 use Rattle.book.proofs.BookLaws.{good-lent}
-use Rattle.daybook.specs.declared.freezing.Froze.{Froze}
-use Rattle.daybook.specs.Acceptance.{Accepted, isFrozen, nextReceipt, madeEntry, mayAccept, hasPlace, acceptTo, accept}
-use Rattle.daybook.specs.Freezing.{froze, freezeOn, freeze, listed, entryLine, registryOf, Listed, listOn, writeRegistry}
+use Rattle.daybook.specs.Acceptance.{isFrozen, nextReceipt, madeEntry, mayAccept, hasPlace, acceptTo, accept}
+use Rattle.daybook.specs.Freezing.{freezeOn, freeze, listed, entryLine, registryOf, Listed, listOn, writeRegistry}
 use Rattle.daybook.proofs.RegistryLaws.{registry-few}
 use Rattle.daybook.proofs.ListedTheorems.{registry-reads, registry-holds, list-elim}
 
