@@ -4,3 +4,4 @@ pub mod AcceptLaws
 pub mod RegistryLaws
 pub mod BookTheorems
 pub mod ListedTheorems
+pub mod GivesTheorems

@@ -73,7 +73,7 @@ swept-names day xs r g =
     (λ _. names-debited g (findAccount (r .number) (r .kind) (accountsOf g)) (r .amount))
     (λ _. names-same g g refl)
 
-sweep-names : (day : Day) (xs : List Line) (rs : List Record) (g : Gate) → SameNames g (sweepGates day xs rs g)
+pub sweep-names : (day : Day) (xs : List Line) (rs : List Record) (g : Gate) → SameNames g (sweepGates day xs rs g)
 unfolding sweepGates
 sweep-names day xs [] g = names-same g g refl
 sweep-names day xs (r ∷ rs) g =

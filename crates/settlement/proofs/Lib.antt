@@ -1,6 +1,8 @@
 pub mod BalanceLaws
 pub mod Cases
 pub mod DayLaws
+pub mod GivesTheorems
+pub mod GoodTheorems
 pub mod HeldLaws
 pub mod LedgerLaws
 pub mod LinesLaws
