@@ -13,3 +13,5 @@ pub mod RowsLaws
 pub mod CallLaws
 pub mod KeptLaws
 pub mod AnswerGood
+pub mod CodeLaws
+pub mod AnsweredTheorems
