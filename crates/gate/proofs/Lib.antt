@@ -15,3 +15,4 @@ pub mod KeptLaws
 pub mod AnswerGood
 pub mod CodeLaws
 pub mod AnsweredTheorems
+pub mod GivesTheorems

@@ -1,0 +1,162 @@
+-- What moves, exactly, where a call's premises hold: an opening, a draw, a payment and a cancel; and what any delivery moves.
+use Prim.Native.Nat.{ℕ, _+_, _<_, _≤_}
+use native.Mathlib.Omega.{arith}
+use mathlib.Core.Path.{_≡_, refl, sym, ap, _∙_, subst}
+use mathlib.Core.Bool.{Bool, true, false, cond, not, _&&_}
+use mathlib.Core.List.{List, [], _∷_, _++_}
+use lib.Dec.{eqb, leb}
+use lib.IntN.{ℤ, pos, _+ℤ_, _-ℤ_}
+use lib.Signed.{ltZ}
+use lib.ListN.{length, getD, set, length-take, length-set, length-append}
+use lib.Seq.{getD-at, getD-set-same, getD-set-other}
+use borrow.Author.Tests.{lt-leb, le-leb, eq-eqb}
+use Rattle.fields.specs.declared.number.Number.{Number}
+use Rattle.fields.specs.Amount.{isAmount}
+use Rattle.fields.specs.Codes.{isKind}
+use Rattle.fields.specs.Date.{isWritten}
+use Rattle.fields.specs.Number.{isNumber}
+use Rattle.message.specs.declared.action.Action.{Action}
+use Rattle.message.specs.declared.action.Action.the-variants.{Payment, Cancel}
+use Rattle.message.specs.declared.request.Asked.{Asked}
+use Rattle.message.specs.Request.{requestRead}
+use Rattle.lists.specs.declared.Found.{Found}
+use Rattle.lists.specs.declared.Found.the-variants.{At, Nothing}
+use Rattle.lists.specs.Lists.{isFound}
+use Rattle.lists.proofs.ListLaws.{search-within}
+use Rattle.table.specs.declared.Account.{Account}
+use Rattle.table.specs.declared.Gate.{Gate}
+use Rattle.table.specs.declared.Record.{Record}
+use Rattle.table.specs.Table.{Rows, recordAt, recordsOf, rowsFrom, findRecord}
+use Rattle.table.specs.Accounts.{isAccount, accountsOf, findAccount, noAccount, balanceAt, withBalance, gateBalance, credited, debited, opened, withUsed}
+use Rattle.table.specs.Valid.{tableGood}
+use Rattle.table.proofs.TableLaws.{length-records, getD-records, receipt-within, from-at, rows-as}
+use Rattle.gate.specs.declared.decision.Change.the-variants.{Append, Revoke}
+use Rattle.gate.specs.declared.plan.Plan.{Plan}
+use Rattle.gate.specs.Decision.{paymentNew, cancelDone, decision}
+use Rattle.gate.specs.Deliver.{noRecord, recordFound, dateClosed, isCancel, accountOf, dateOf, isFull, viewOf, planWith, planOf, makeRecord, revoked, changed, respondBy, respond, deliverRead, deliver, Delivered}
+use Rattle.gate.specs.Opening.{replies, openTo, openCall, drawOn, drawFrom, drawCall}
+use Rattle.gate.proofs.CallLaws.{newAccount, opened-other, opened-new}
+
+-- ---- one balance moves
+-- the balance of account a becomes z, and every other stays
+pub record Moved (g g′ : Gate) (a : ℕ) (z : ℤ) : Type 0 where
+  pub here : balanceAt g′ a ≡ z
+  pub others : (j : ℕ) → (j ≡ a → ⊥) → balanceAt g′ j ≡ balanceAt g j
+
+-- what a lookup finds is an account
+found-there : (g : Gate) (n : Number) (k a : ℕ) → findAccount n k (accountsOf g) ≡ At a → a < length (g .accounts)
+unfolding findAccount
+found-there g n k a e = omega (arith, search-within (isAccount n k) 0 (accountsOf g) a e, length-take (g .count) (g .accounts))
+
+moved : (g : Gate) (a : ℕ) (z : ℤ) → a < length (g .accounts) → Moved g (gateBalance g a z) a z
+moved g a z h =
+    let x : Account = withBalance (getD (g .accounts) a noAccount) z in
+    record {
+      here = ap (λ (y : Account). y .balance) (getD-set-same (g .accounts) a x noAccount h);
+      others = λ j d. ap (λ (y : Account). y .balance) (getD-set-other (g .accounts) a j x noAccount d);
+    }
+
+credit-moves : (g : Gate) (a n u : ℕ) → a < length (g .accounts) → Moved g (withUsed (credited g a n) u) a (balanceAt g a +ℤ pos n)
+unfolding credited
+credit-moves g a n u h = let m = moved g a (balanceAt g a +ℤ pos n) h in record { here = m .here; others = m .others }
+
+debit-moves : (g : Gate) (a n : ℕ) → a < length (g .accounts) → Moved g (debited g a n) a (balanceAt g a -ℤ pos n)
+unfolding debited
+debit-moves g a n h = moved g a (balanceAt g a -ℤ pos n) h
+
+-- ---- an opening and a draw
+module _ (g : Gate) (t : Rows) (n : Number) (k : ℕ) (good : tableGood g t ≡ true) (number : isNumber n ≡ true) (kind : isKind k ≡ true) where
+  -- an account that is not known is opened with nothing on it, where there is a place, and every other account stays
+  pub open-gives : length (g .accounts) ≡ 256 → findAccount n k (accountsOf g) ≡ Nothing → g .count < 256
+      → (openCall g t n k ≡ replies 0 (opened g n k)) × (getD ((opened g n k) .accounts) (g .count) noAccount ≡ newAccount g n k)
+      × ((i : ℕ) → i < g .count → getD ((opened g n k) .accounts) i noAccount ≡ getD (g .accounts) i noAccount)
+  unfolding openCall openTo
+  open-gives places new few =
+      let room : g .count < length (g .accounts) = omega arith in
+      (rw (good, number, kind, new, lt-leb 256 (g .count) few) refl, opened-new g n k room, opened-other g n k room)
+
+  -- an amount that the balance covers is drawn from the account, and nothing else moves
+  pub draw-gives : (a kopecks : ℕ) → findAccount n k (accountsOf g) ≡ At a → isAmount kopecks ≡ true → ltZ (balanceAt g a) (pos kopecks) ≡ false
+      → (drawCall g t n k kopecks ≡ replies 0 (debited g a kopecks)) × Moved g (debited g a kopecks) a (balanceAt g a -ℤ pos kopecks)
+  unfolding drawCall drawFrom drawOn
+  draw-gives a kopecks found amount funds = (rw (good, number, kind, found, amount, funds) refl, debit-moves g a kopecks (found-there g n k a found))
+
+-- ---- a request without a fault
+-- the payment asked is recorded, and credited to account a
+pub record Paid (g : Gate) (t : Rows) (clock : List ℕ) (q : Asked) (a : ℕ) (d : Delivered) : Type 0 where
+  pub code : d .code ≡ 0
+  pub gate : d .gate ≡ withUsed (credited g a (q .amount)) (g .used + 1)
+  pub rows : d .rows ≡ rowsFrom t (recordsOf t (g .used) ++ (makeRecord g clock q ∷ []))
+  pub balances : Moved g (d .gate) a (balanceAt g a +ℤ pos (q .amount))
+
+-- record i is cancelled at the clock, and its amount taken from account a
+pub record Revoked (g : Gate) (t : Rows) (clock : List ℕ) (i a : ℕ) (d : Delivered) : Type 0 where
+  pub code : d .code ≡ 0
+  pub gate : d .gate ≡ debited g a ((recordAt t i) .amount)
+  pub rows : d .rows ≡ rowsFrom t (set (recordsOf t (g .used)) i (revoked clock (recordAt t i)))
+  pub record-now : recordAt (d .rows) i ≡ revoked clock (recordAt t i)
+  pub balances : Moved g (d .gate) a (balanceAt g a -ℤ pos ((recordAt t i) .amount))
+
+module _ (g : Gate) (t : Rows) (clock : List ℕ) (q : Asked) (out : List ℕ) where
+  abbrev rs : List Record
+  rs = recordsOf t (g .used)
+
+  abbrev planned : Plan
+  planned = planOf g rs (length (t .nums)) q
+
+  plan-pays : (a : ℕ) → q .action ≡ Payment → findRecord (q .receipt) rs ≡ Nothing → dateClosed g (q .date) ≡ false
+      → findAccount (q .number) (q .kind) (accountsOf g) ≡ At a → g .used < length (t .nums)
+      → planned ≡ record { decided = record { code = 0; change = Append }; found = Nothing; payment = noRecord; account = At a }
+  unfolding planOf planWith decision paymentNew viewOf accountOf dateOf isCancel isFull
+  plan-pays a ea new day found room = rw (ea, new, day, found, lt-leb (length (t .nums)) (g .used) room) refl
+
+  respond-pays : (a : ℕ) → q .action ≡ Payment → findRecord (q .receipt) rs ≡ Nothing → dateClosed g (q .date) ≡ false
+      → findAccount (q .number) (q .kind) (accountsOf g) ≡ At a → g .used < length (t .nums) → Paid g t clock q a (respond g t clock q out)
+  unfolding respond changed
+  respond-pays a ea new day found room =
+      subst (λ (p : Plan). Paid g t clock q a (respondBy g t clock q out p)) (sym (plan-pays a ea new day found room))
+      (record { code = refl; gate = refl; rows = refl; balances = credit-moves g a (q .amount) (g .used + 1) (found-there g (q .number) (q .kind) a found) })
+
+  module _ (i a : ℕ) (ea : q .action ≡ Cancel) (there : findRecord (q .receipt) rs ≡ At i) (done : (recordAt t i) .state ≡ 1) (day : dateClosed g ((recordAt t i) .date) ≡ false)
+      (found : findAccount ((recordAt t i) .number) ((recordAt t i) .kind) (accountsOf g) ≡ At a) (funds : ltZ (balanceAt g a) (pos ((recordAt t i) .amount)) ≡ false) where
+    within : i < g .used
+    within = receipt-within t (g .used) (q .receipt) i (findRecord (q .receipt) rs) refl there
+
+    plan-cancels : planned ≡ record { decided = record { code = 0; change = Revoke }; found = At i; payment = recordAt t i; account = At a }
+    unfolding planOf planWith decision cancelDone viewOf accountOf dateOf isCancel
+    plan-cancels = rw (ea, there, getD-records t (g .used) i noRecord within, eq-eqb ((recordAt t i) .state) 1 done, day, found, funds) refl
+
+    respond-cancels : Revoked g t clock i a (respond g t clock q out)
+    unfolding respond changed
+    respond-cancels =
+        let gone : Record = revoked clock (recordAt t i) in
+        let l : i < length rs = omega (arith, within, length-records t (g .used)) in
+        let s : i < length (set rs i gone) = omega (arith, l, length-set rs i gone) in
+        subst (λ (p : Plan). Revoked g t clock i a (respondBy g t clock q out p)) (sym plan-cancels)
+        (record {
+          code = refl;
+          gate = refl;
+          rows = refl;
+          record-now = from-at t (set rs i gone) i noRecord s ∙ getD-set-same rs i gone noRecord l;
+          balances = debit-moves g a ((recordAt t i) .amount) (found-there g ((recordAt t i) .number) ((recordAt t i) .kind) a found);
+        })
+
+-- ---- a delivery that passes the call's tests
+module _ (g : Gate) (t : Rows) (clock params out : List ℕ) (good : tableGood g t ≡ true) (size : 512 ≤ length out) (dated : isWritten clock ≡ true) (none : (requestRead params) .fault ≡ 0) where
+  abbrev pub asked : Asked
+  asked = (requestRead params) .asked
+
+  responds : deliver g t clock params out ≡ respond g t clock asked out
+  unfolding deliver deliverRead
+  responds = rw (good, le-leb 512 (length out) size, dated, none) refl
+
+  -- a payment that is not recorded, of an open day, to a known account, with a place left, is recorded and credited
+  pub pays : (a : ℕ) → asked .action ≡ Payment → findRecord (asked .receipt) (recordsOf t (g .used)) ≡ Nothing → dateClosed g (asked .date) ≡ false
+      → findAccount (asked .number) (asked .kind) (accountsOf g) ≡ At a → g .used < length (t .nums) → Paid g t clock asked a (deliver g t clock params out)
+  pays a ea new day found room = subst (Paid g t clock asked a) (sym responds) (respond-pays g t clock asked out a ea new day found room)
+
+  -- a cancel of a payment that is done, of an open day, with the amount on its account, cancels it and takes the amount
+  pub cancels : (i a : ℕ) → asked .action ≡ Cancel → findRecord (asked .receipt) (recordsOf t (g .used)) ≡ At i → (recordAt t i) .state ≡ 1 → dateClosed g ((recordAt t i) .date) ≡ false
+      → findAccount ((recordAt t i) .number) ((recordAt t i) .kind) (accountsOf g) ≡ At a → ltZ (balanceAt g a) (pos ((recordAt t i) .amount)) ≡ false
+      → Revoked g t clock i a (deliver g t clock params out)
+  cancels i a ea there done day found funds = subst (Revoked g t clock i a) (sym responds) (respond-cancels g t clock asked out i a ea there done day found funds)
