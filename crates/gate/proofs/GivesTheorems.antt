@@ -22,7 +22,7 @@ use Rattle.message.specs.Request.{requestRead}
 use Rattle.lists.specs.declared.Found.{Found}
 use Rattle.lists.specs.declared.Found.the-variants.{At, Nothing}
 use Rattle.lists.specs.Lists.{isFound}
-use Rattle.lists.proofs.ListLaws.{search-within}
+use Rattle.lists.proofs.ListLaws.{search-within, found-at}
 use Rattle.table.specs.declared.Account.{Account}
 use Rattle.table.specs.declared.Gate.{Gate}
 use Rattle.table.specs.declared.Record.{Record}
@@ -33,9 +33,14 @@ use Rattle.table.proofs.TableLaws.{length-records, getD-records, receipt-within
 use Rattle.gate.specs.declared.decision.Change.the-variants.{Append, Revoke}
 use Rattle.gate.specs.declared.plan.Plan.{Plan}
 use Rattle.gate.specs.Decision.{paymentNew, cancelDone, decision}
-use Rattle.gate.specs.Deliver.{noRecord, recordFound, dateClosed, isCancel, accountOf, dateOf, isFull, viewOf, planWith, planOf, makeRecord, revoked, changed, respondBy, respond, deliverRead, deliver, Delivered}
+use Rattle.gate.specs.Deliver.{noRecord, recordFound, dateClosed, isCancel, accountOf, dateOf, isFull, viewOf, planWith, planOf, makeRecord, revoked, debitedAt, changed, respondBy, respond, deliverRead, deliver, Delivered}
 use Rattle.gate.specs.Opening.{replies, openTo, openCall, drawOn, drawFrom, drawCall}
 use Rattle.gate.proofs.CallLaws.{newAccount, opened-other, opened-new}
+use Rattle.gate.proofs.OutcomeLaws.{Outcome, stays, appends, revokes, outcome}
+use Rattle.gate.proofs.KeepsLaws.{delivered-by}
+use Rattle.gate.proofs.RecordsLaws.{debit-used}
+use Rattle.gate.proofs.GoodLaws.{record-good}
+use Rattle.gate.proofs.KeptLaws.{known-of}
 
 -- ---- one balance moves
 -- the balance of account a becomes z, and every other stays
@@ -160,3 +165,48 @@ module _ (g : Gate) (t : Rows) (clock params out : List ℕ) (good : tableGood g
       → findAccount ((recordAt t i) .number) ((recordAt t i) .kind) (accountsOf g) ≡ At a → ltZ (balanceAt g a) (pos ((recordAt t i) .amount)) ≡ false
       → Revoked g t clock i a (deliver g t clock params out)
   cancels i a ea there done day found funds = subst (Revoked g t clock i a) (sym responds) (respond-cancels g t clock asked out i a ea there done day found funds)
+
+-- ---- any delivery
+-- no record and no balance moves; or one record more, its amount on the first account that fits; or one record cancelled, its amount off its account
+pub data Moves (g : Gate) (t : Rows) (clock : List ℕ) (q : Asked) (d : Delivered) : Type 0 where
+  none-moves : recordsOf (d .rows) (d .gate .used) ≡ recordsOf t (g .used) → ((j : ℕ) → balanceAt (d .gate) j ≡ balanceAt g j) → Moves g t clock q d
+  one-paid : (a : ℕ) → findRecord (q .receipt) (recordsOf t (g .used)) ≡ Nothing → findAccount (q .number) (q .kind) (accountsOf g) ≡ At a
+      → recordsOf (d .rows) (d .gate .used) ≡ recordsOf t (g .used) ++ (makeRecord g clock q ∷ []) → Moved g (d .gate) a (balanceAt g a +ℤ pos (q .amount)) → Moves g t clock q d
+  one-revoked : (i a : ℕ) → findRecord (q .receipt) (recordsOf t (g .used)) ≡ At i → (recordAt t i) .state ≡ 1
+      → findAccount ((recordAt t i) .number) ((recordAt t i) .kind) (accountsOf g) ≡ At a
+      → recordsOf (d .rows) (d .gate .used) ≡ set (recordsOf t (g .used)) i (revoked clock (recordAt t i))
+      → Moved g (d .gate) a (balanceAt g a -ℤ pos ((recordAt t i) .amount)) → Moves g t clock q d
+
+module _ (g : Gate) (t : Rows) (clock : List ℕ) (q : Asked) (d : Delivered) where
+  -- the records that the rows hold
+  left-records : (xs : List Record) (g′ : Gate) → d .rows ≡ rowsFrom t xs → d .gate ≡ g′ → length xs ≡ g′ .used → recordsOf (d .rows) (d .gate .used) ≡ xs
+  left-records xs g′ er eg l =
+      ap (λ (x : Rows). recordsOf x (d .gate .used)) er ∙ ap (λ (x : Gate). recordsOf (rowsFrom t xs) (x .used)) eg ∙ rows-as t xs noRecord (g′ .used) l
+
+  outcome-moves : tableGood g t ≡ true → Outcome g t clock q d → Moves g t clock q d
+  outcome-moves good (stays eg er) =
+      none-moves (left-records (recordsOf t (g .used)) g er eg (length-records t (g .used))) (λ j. ap (λ (x : Gate). balanceAt x j) eg)
+  outcome-moves good (appends a ea en ef room day ec eg er) =
+      let l : length (recordsOf t (g .used) ++ (makeRecord g clock q ∷ [])) ≡ g .used + 1
+      = length-append (recordsOf t (g .used)) (makeRecord g clock q ∷ []) ∙ ap (λ (m : ℕ). m + 1) (length-records t (g .used)) in
+      one-paid a en ef (left-records _ (withUsed (credited g a (q .amount)) (g .used + 1)) er eg l)
+      (subst (λ (x : Gate). Moved g x a (balanceAt g a +ℤ pos (q .amount))) (sym eg) (credit-moves g a (q .amount) (g .used + 1) (found-there g (q .number) (q .kind) a ef)))
+  outcome-moves good (revokes i r f ea ei er ef es day fu ec eg el) =
+      let within : i < g .used = receipt-within t (g .used) (q .receipt) i (findRecord (q .receipt) (recordsOf t (g .used))) refl ei in
+      let is : r ≡ recordAt t i = er ∙ getD-records t (g .used) i noRecord within in
+      let h = found-at _ (known-of g i (recordAt t i) (record-good g t good i within)) in
+      let fa : f ≡ At (h .0) = ef ∙ ap (λ (x : Record). findAccount (x .number) (x .kind) (accountsOf g)) is ∙ h .1 in
+      let now : d .gate ≡ debited g (h .0) ((recordAt t i) .amount) = eg ∙ ap (λ (x : Found). debitedAt g x (r .amount)) fa ∙ ap (λ (x : Record). debited g (h .0) (x .amount)) is in
+      let rows : d .rows ≡ rowsFrom t (set (recordsOf t (g .used)) i (revoked clock (recordAt t i))) = el ∙ ap (λ (x : Record). rowsFrom t (set (recordsOf t (g .used)) i (revoked clock x))) is in
+      let l : length (set (recordsOf t (g .used)) i (revoked clock (recordAt t i))) ≡ (debited g (h .0) ((recordAt t i) .amount)) .used
+      = length-set (recordsOf t (g .used)) i _ ∙ length-records t (g .used) ∙ sym (debit-used g (At (h .0)) ((recordAt t i) .amount)) in
+      one-revoked i (h .0) ei (ap (λ (x : Record). x .state) (sym is) ∙ es) (h .1)
+      (left-records _ (debited g (h .0) ((recordAt t i) .amount)) rows now l)
+      (subst (λ (x : Gate). Moved g x (h .0) (balanceAt g (h .0) -ℤ pos ((recordAt t i) .amount))) (sym now)
+      (debit-moves g (h .0) ((recordAt t i) .amount) (found-there g ((recordAt t i) .number) ((recordAt t i) .kind) (h .0) (h .1))))
+
+-- every delivery is one of these
+pub deliver-moves : (g : Gate) (t : Rows) (clock params out : List ℕ) → Moves g t clock ((requestRead params) .asked) (deliver g t clock params out)
+deliver-moves g t clock params out =
+    delivered-by g t clock params out (Moves g t clock ((requestRead params) .asked)) (λ code left size. none-moves refl (λ j. refl))
+    (λ good _ _. outcome-moves g t clock ((requestRead params) .asked) (respond g t clock ((requestRead params) .asked) out) good (outcome g t clock ((requestRead params) .asked) out))
