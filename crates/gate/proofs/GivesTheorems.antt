@@ -1,15 +1,16 @@
 -- What moves, exactly, where a call's premises hold: an opening, a draw, a payment and a cancel; and what any delivery moves.
 use Prim.Native.Nat.{ℕ, _+_, _<_, _≤_}
+use native.Mathlib.Decide.{ℕ-discrete}
 use native.Mathlib.Omega.{arith}
 use mathlib.Core.Path.{_≡_, refl, sym, ap, _∙_, subst}
 use mathlib.Core.Bool.{Bool, true, false, cond, not, _&&_}
 use mathlib.Core.List.{List, [], _∷_, _++_}
-use lib.Dec.{eqb, leb}
-use lib.IntN.{ℤ, pos, _+ℤ_, _-ℤ_}
+use lib.Dec.{eqb, ltb}
+use lib.IntN.{ℤ, pos, _+ℤ_, _-ℤ_, +ℤ-idr}
 use lib.Signed.{ltZ}
 use lib.ListN.{length, getD, set, length-take, length-set, length-append}
 use lib.Seq.{getD-at, getD-set-same, getD-set-other}
-use borrow.Author.Tests.{lt-leb, le-leb, eq-eqb}
+use borrow.Author.Tests.{lt-leb, le-leb, lt-ltb, le-ltb, eq-eqb, ne-eqb, eqb-true}
 use Rattle.fields.specs.declared.number.Number.{Number}
 use Rattle.fields.specs.Amount.{isAmount}
 use Rattle.fields.specs.Codes.{isKind}
@@ -210,3 +211,89 @@ pub deliver-moves : (g : Gate) (t : Rows) (clock params out : List ℕ) → Move
 deliver-moves g t clock params out =
     delivered-by g t clock params out (Moves g t clock ((requestRead params) .asked)) (λ code left size. none-moves refl (λ j. refl))
     (λ good _ _. outcome-moves g t clock ((requestRead params) .asked) (respond g t clock ((requestRead params) .asked) out) good (outcome g t clock ((requestRead params) .asked) out))
+
+-- ---- the same as one equation
+-- an amount, where it goes to account j
+abbrev pub amountAt : ℕ → Found → ℕ → ℕ
+amountAt j Nothing n = 0
+amountAt j (At a) n = cond (eqb a j) n 0
+
+-- what a delivery that added a record adds to the balance at j
+abbrev pub raised : Gate → Asked → Delivered → ℕ → ℕ
+raised g q d j = cond (ltb (g .used) (d .gate .used)) (amountAt j (findAccount (q .number) (q .kind) (accountsOf g)) (q .amount)) 0
+
+-- what a delivery that turned record i from done to cancelled takes from it
+abbrev pub lowered : Gate → Rows → Delivered → Found → ℕ → ℕ
+lowered g t d Nothing j = 0
+lowered g t d (At i) j =
+    cond (eqb ((recordAt t i) .state) 1 && eqb ((recordAt (d .rows) i) .state) 2) (amountAt j (findAccount ((recordAt t i) .number) ((recordAt t i) .kind) (accountsOf g)) ((recordAt t i) .amount)) 0
+
+revoked-state : (clock : List ℕ) (r : Record) → (revoked clock r) .state ≡ 2
+unfolding revoked
+revoked-state clock r = refl
+
+up-at : (g g′ : Gate) (a n j : ℕ) → Moved g g′ a (balanceAt g a +ℤ pos n) → balanceAt g′ j ≡ balanceAt g j +ℤ pos (cond (eqb a j) n 0)
+up-at g g′ a n j m = go (ℕ-discrete j a)
+  where
+    go : Dec (j ≡ a) → balanceAt g′ j ≡ balanceAt g j +ℤ pos (cond (eqb a j) n 0)
+    go (yes e) = rw (eq-eqb a j (sym e), e) (m .here)
+    go (no d) = rw (ne-eqb a j (λ q. d (sym q))) (m .others j d ∙ sym (+ℤ-idr (balanceAt g j)))
+
+down-at : (g g′ : Gate) (a n j : ℕ) → Moved g g′ a (balanceAt g a -ℤ pos n) → balanceAt g′ j ≡ balanceAt g j -ℤ pos (cond (eqb a j) n 0)
+down-at g g′ a n j m = go (ℕ-discrete j a)
+  where
+    go : Dec (j ≡ a) → balanceAt g′ j ≡ balanceAt g j -ℤ pos (cond (eqb a j) n 0)
+    go (yes e) = rw (eq-eqb a j (sym e), e) (m .here)
+    go (no d) = rw (ne-eqb a j (λ q. d (sym q))) (m .others j d ∙ sym (+ℤ-idr (balanceAt g j)))
+
+module _ (g : Gate) (t : Rows) (clock : List ℕ) (q : Asked) (d : Delivered) (j : ℕ) where
+  -- the records of d tell how many there are, and what is at i
+  used-now : (xs : List Record) → recordsOf (d .rows) (d .gate .used) ≡ xs → d .gate .used ≡ length xs
+  used-now xs e = sym (length-records (d .rows) (d .gate .used)) ∙ ap length e
+
+  record-now : (xs : List Record) → recordsOf (d .rows) (d .gate .used) ≡ xs → (i : ℕ) → i < length xs → recordAt (d .rows) i ≡ getD xs i noRecord
+  record-now xs e i l =
+      let h : i < d .gate .used = omega (arith, l, used-now xs e) in
+      sym (getD-records (d .rows) (d .gate .used) i noRecord h) ∙ ap (λ (x : List Record). getD x i noRecord) e
+
+  none-raised : d .gate .used ≡ g .used → raised g q d j ≡ 0
+  none-raised e = rw (le-ltb (g .used) (d .gate .used) (omega (arith, e)))
+
+  none-lowered : recordsOf (d .rows) (d .gate .used) ≡ recordsOf t (g .used) → (f : Found) → findRecord (q .receipt) (recordsOf t (g .used)) ≡ f → lowered g t d f j ≡ 0
+  none-lowered e Nothing ef = refl
+  none-lowered e (At i) ef = go (eqb ((recordAt t i) .state) 1) refl
+    where
+      within : i < g .used
+      within = receipt-within t (g .used) (q .receipt) i (findRecord (q .receipt) (recordsOf t (g .used))) refl ef
+
+      same : recordAt (d .rows) i ≡ recordAt t i
+      same = let l : i < length (recordsOf t (g .used)) = omega (arith, within, length-records t (g .used)) in record-now (recordsOf t (g .used)) e i l ∙ getD-records t (g .used) i noRecord within
+
+      go : (z : Bool) → eqb ((recordAt t i) .state) 1 ≡ z
+          → cond (z && eqb ((recordAt (d .rows) i) .state) 2) (amountAt j (findAccount ((recordAt t i) .number) ((recordAt t i) .kind) (accountsOf g)) ((recordAt t i) .amount)) 0 ≡ 0
+      go true h = let z : (recordAt (d .rows) i) .state ≡ 1 = ap (λ (x : Record). x .state) same ∙ eqb-true ((recordAt t i) .state) 1 h in rw z refl
+      go false h = refl
+
+  moves-balance : Moves g t clock q d → balanceAt (d .gate) j ≡ (balanceAt g j +ℤ pos (raised g q d j)) -ℤ pos (lowered g t d (findRecord (q .receipt) (recordsOf t (g .used))) j)
+  moves-balance (none-moves er eb) =
+      rw (none-raised (used-now _ er ∙ length-records t (g .used)), none-lowered er (findRecord (q .receipt) (recordsOf t (g .used))) refl)
+      (eb j ∙ sym (+ℤ-idr (balanceAt g j)) ∙ sym (+ℤ-idr (balanceAt g j +ℤ pos 0)))
+  moves-balance (one-paid a en ef er m) =
+      let u : d .gate .used ≡ g .used + 1 = used-now _ er ∙ length-append (recordsOf t (g .used)) (makeRecord g clock q ∷ []) ∙ ap (λ (k : ℕ). k + 1) (length-records t (g .used)) in
+      rw (lt-ltb (g .used) (d .gate .used) (omega (arith, u)), en, ef) (up-at g (d .gate) a (q .amount) j m ∙ sym (+ℤ-idr (balanceAt g j +ℤ pos (cond (eqb a j) (q .amount) 0))))
+  moves-balance (one-revoked i a ei es ef er m) =
+      let gone : Record = revoked clock (recordAt t i) in
+      let within : i < g .used = receipt-within t (g .used) (q .receipt) i (findRecord (q .receipt) (recordsOf t (g .used))) refl ei in
+      let l : i < length (recordsOf t (g .used)) = omega (arith, within, length-records t (g .used)) in
+      let s : i < length (set (recordsOf t (g .used)) i gone) = omega (arith, l, length-set (recordsOf t (g .used)) i gone) in
+      let now : (recordAt (d .rows) i) .state ≡ 2
+      = ap (λ (x : Record). x .state) (record-now (set (recordsOf t (g .used)) i gone) er i s ∙ getD-set-same (recordsOf t (g .used)) i gone noRecord l) ∙ revoked-state clock (recordAt t i) in
+      rw (none-raised (used-now _ er ∙ length-set (recordsOf t (g .used)) i gone ∙ length-records t (g .used)), ei, es, now, ef)
+      (down-at g (d .gate) a ((recordAt t i) .amount) j m ∙ ap (λ (z : ℤ). z -ℤ pos (cond (eqb a j) ((recordAt t i) .amount) 0)) (sym (+ℤ-idr (balanceAt g j))))
+
+-- after every delivery each balance is what it was, plus the amount of a record added for that account, minus that of one cancelled
+pub deliver-balance : (g : Gate) (t : Rows) (clock params out : List ℕ) (j : ℕ)
+    → balanceAt ((deliver g t clock params out) .gate) j
+    ≡ (balanceAt g j +ℤ pos (raised g ((requestRead params) .asked) (deliver g t clock params out) j))
+    -ℤ pos (lowered g t (deliver g t clock params out) (findRecord ((requestRead params) .asked .receipt) (recordsOf t (g .used))) j)
+deliver-balance g t clock params out j = moves-balance g t clock ((requestRead params) .asked) (deliver g t clock params out) j (deliver-moves g t clock params out)
