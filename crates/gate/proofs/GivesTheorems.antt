@@ -6,23 +6,21 @@ use mathlib.Core.Path.{_≡_, refl, sym, ap, _∙_, subst}
 use mathlib.Core.Bool.{Bool, true, false, cond, not, _&&_}
 use mathlib.Core.List.{List, [], _∷_, _++_}
 use lib.Dec.{eqb, ltb}
-use lib.IntN.{ℤ, pos, _+ℤ_, _-ℤ_, +ℤ-idr}
+use lib.IntN.{ℤ, pos, negℤ, _+ℤ_, _-ℤ_, +ℤ-idr}
 use lib.Signed.{ltZ}
 use lib.ListN.{length, getD, set, length-take, length-set, length-append}
-use lib.Seq.{getD-at, getD-set-same, getD-set-other}
+use lib.Seq.{getD-set-same, getD-set-other}
 use borrow.Author.Tests.{lt-leb, le-leb, lt-ltb, le-ltb, eq-eqb, ne-eqb, eqb-true}
 use Rattle.fields.specs.declared.number.Number.{Number}
 use Rattle.fields.specs.Amount.{isAmount}
 use Rattle.fields.specs.Codes.{isKind}
 use Rattle.fields.specs.Date.{isWritten}
 use Rattle.fields.specs.Number.{isNumber}
-use Rattle.message.specs.declared.action.Action.{Action}
 use Rattle.message.specs.declared.action.Action.the-variants.{Payment, Cancel}
 use Rattle.message.specs.declared.request.Asked.{Asked}
 use Rattle.message.specs.Request.{requestRead}
 use Rattle.lists.specs.declared.Found.{Found}
 use Rattle.lists.specs.declared.Found.the-variants.{At, Nothing}
-use Rattle.lists.specs.Lists.{isFound}
 use Rattle.lists.proofs.ListLaws.{search-within, found-at}
 use Rattle.table.specs.declared.Account.{Account}
 use Rattle.table.specs.declared.Gate.{Gate}
@@ -34,7 +32,7 @@ use Rattle.table.proofs.TableLaws.{length-records, getD-records, receipt-within
 use Rattle.gate.specs.declared.decision.Change.the-variants.{Append, Revoke}
 use Rattle.gate.specs.declared.plan.Plan.{Plan}
 use Rattle.gate.specs.Decision.{paymentNew, cancelDone, decision}
-use Rattle.gate.specs.Deliver.{noRecord, recordFound, dateClosed, isCancel, accountOf, dateOf, isFull, viewOf, planWith, planOf, makeRecord, revoked, debitedAt, changed, respondBy, respond, deliverRead, deliver, Delivered}
+use Rattle.gate.specs.Deliver.{noRecord, dateClosed, isCancel, accountOf, dateOf, isFull, viewOf, planWith, planOf, makeRecord, revoked, debitedAt, changed, respondBy, respond, deliverRead, deliver, Delivered}
 use Rattle.gate.specs.Opening.{replies, openTo, openCall, drawOn, drawFrom, drawCall}
 use Rattle.gate.proofs.CallLaws.{newAccount, opened-other, opened-new}
 use Rattle.gate.proofs.OutcomeLaws.{Outcome, stays, appends, revokes, outcome}
@@ -232,19 +230,13 @@ revoked-state : (clock : List ℕ) (r : Record) → (revoked clock r) .state ≡
 unfolding revoked
 revoked-state clock r = refl
 
-up-at : (g g′ : Gate) (a n j : ℕ) → Moved g g′ a (balanceAt g a +ℤ pos n) → balanceAt g′ j ≡ balanceAt g j +ℤ pos (cond (eqb a j) n 0)
-up-at g g′ a n j m = go (ℕ-discrete j a)
+-- every balance after one has moved by an amount, up or down
+moved-by : (amount : ℕ → ℤ) → amount 0 ≡ pos 0 → (g g′ : Gate) (a n j : ℕ) → Moved g g′ a (balanceAt g a +ℤ amount n) → balanceAt g′ j ≡ balanceAt g j +ℤ amount (cond (eqb a j) n 0)
+moved-by amount none g g′ a n j m = go (ℕ-discrete j a)
   where
-    go : Dec (j ≡ a) → balanceAt g′ j ≡ balanceAt g j +ℤ pos (cond (eqb a j) n 0)
+    go : Dec (j ≡ a) → balanceAt g′ j ≡ balanceAt g j +ℤ amount (cond (eqb a j) n 0)
     go (yes e) = rw (eq-eqb a j (sym e), e) (m .here)
-    go (no d) = rw (ne-eqb a j (λ q. d (sym q))) (m .others j d ∙ sym (+ℤ-idr (balanceAt g j)))
-
-down-at : (g g′ : Gate) (a n j : ℕ) → Moved g g′ a (balanceAt g a -ℤ pos n) → balanceAt g′ j ≡ balanceAt g j -ℤ pos (cond (eqb a j) n 0)
-down-at g g′ a n j m = go (ℕ-discrete j a)
-  where
-    go : Dec (j ≡ a) → balanceAt g′ j ≡ balanceAt g j -ℤ pos (cond (eqb a j) n 0)
-    go (yes e) = rw (eq-eqb a j (sym e), e) (m .here)
-    go (no d) = rw (ne-eqb a j (λ q. d (sym q))) (m .others j d ∙ sym (+ℤ-idr (balanceAt g j)))
+    go (no d) = rw (ne-eqb a j (λ q. d (sym q)), none) (m .others j d ∙ sym (+ℤ-idr (balanceAt g j)))
 
 module _ (g : Gate) (t : Rows) (clock : List ℕ) (q : Asked) (d : Delivered) (j : ℕ) where
   -- the records of d tell how many there are, and what is at i
@@ -280,7 +272,7 @@ module _ (g : Gate) (t : Rows) (clock : List ℕ) (q : Asked) (d : Delivered) (j
       (eb j ∙ sym (+ℤ-idr (balanceAt g j)) ∙ sym (+ℤ-idr (balanceAt g j +ℤ pos 0)))
   moves-balance (one-paid a en ef er m) =
       let u : d .gate .used ≡ g .used + 1 = used-now _ er ∙ length-append (recordsOf t (g .used)) (makeRecord g clock q ∷ []) ∙ ap (λ (k : ℕ). k + 1) (length-records t (g .used)) in
-      rw (lt-ltb (g .used) (d .gate .used) (omega (arith, u)), en, ef) (up-at g (d .gate) a (q .amount) j m ∙ sym (+ℤ-idr (balanceAt g j +ℤ pos (cond (eqb a j) (q .amount) 0))))
+      rw (lt-ltb (g .used) (d .gate .used) (omega (arith, u)), en, ef) (moved-by pos refl g (d .gate) a (q .amount) j m ∙ sym (+ℤ-idr (balanceAt g j +ℤ pos (cond (eqb a j) (q .amount) 0))))
   moves-balance (one-revoked i a ei es ef er m) =
       let gone : Record = revoked clock (recordAt t i) in
       let within : i < g .used = receipt-within t (g .used) (q .receipt) i (findRecord (q .receipt) (recordsOf t (g .used))) refl ei in
@@ -289,7 +281,7 @@ module _ (g : Gate) (t : Rows) (clock : List ℕ) (q : Asked) (d : Delivered) (j
       let now : (recordAt (d .rows) i) .state ≡ 2
       = ap (λ (x : Record). x .state) (record-now (set (recordsOf t (g .used)) i gone) er i s ∙ getD-set-same (recordsOf t (g .used)) i gone noRecord l) ∙ revoked-state clock (recordAt t i) in
       rw (none-raised (used-now _ er ∙ length-set (recordsOf t (g .used)) i gone ∙ length-records t (g .used)), ei, es, now, ef)
-      (down-at g (d .gate) a ((recordAt t i) .amount) j m ∙ ap (λ (z : ℤ). z -ℤ pos (cond (eqb a j) ((recordAt t i) .amount) 0)) (sym (+ℤ-idr (balanceAt g j))))
+      (moved-by (λ n. negℤ (pos n)) refl g (d .gate) a ((recordAt t i) .amount) j m ∙ ap (λ (z : ℤ). z -ℤ pos (cond (eqb a j) ((recordAt t i) .amount) 0)) (sym (+ℤ-idr (balanceAt g j))))
 
 -- after every delivery each balance is what it was, plus the amount of a record added for that account, minus that of one cancelled
 pub deliver-balance : (g : Gate) (t : Rows) (clock params out : List ℕ) (j : ℕ)
