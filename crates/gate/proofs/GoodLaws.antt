@@ -41,6 +41,18 @@ pub record Near (g : Gate) : Type 0 where
   pub balances : (i : ℕ) → i < g .count → near (balanceAt g i) ≡ true
 
 -- ---- from the test to the facts
+-- every record in use is good
+pub record-good : (g : Gate) (t : Rows) → tableGood g t ≡ true → (i : ℕ) → i < g .used → recordGood g i (recordAt t i) ≡ true
+unfolding tableGood
+record-good g t good i h =
+    ap (recordGood g i) (sym (getD-records t (g .used) i noRecord h))
+    ∙ all-at (recordGood g) (recordsOf t (g .used)) noRecord i (and-right (gateGood g) _ (and-right (lentGood g t) _ good)) (omega (arith, length-records t (g .used)))
+
+-- and they are at most 4,096
+pub used-few : (g : Gate) (t : Rows) → tableGood g t ≡ true → g .used ≤ 4096
+unfolding tableGood
+used-few g t good = let lent = lent-facts _ _ _ _ (and-left (lentGood g t) _ good) in omega (arith, lent .room, lent .most)
+
 module _ (g : Gate) (t : Rows) (places : length (g .accounts) ≡ 256) (good : tableGood g t ≡ true) where
   lent-good : lentGood g t ≡ true
   unfolding tableGood
@@ -84,9 +96,7 @@ module _ (g : Gate) (t : Rows) (places : length (g .accounts) ≡ 256) (good : t
         closed = and-left (isDay (g .closed)) _ (and-right (leb (g .count) 256) _ gate-good);
         number = λ i h. and-left (isNumber ((getD (g .accounts) i noAccount) .number)) _ (account-good i h);
         kind = λ i h. and-left (isKind ((getD (g .accounts) i noAccount) .kind)) _ (and-right (isNumber ((getD (g .accounts) i noAccount) .number)) _ (account-good i h));
-        records = λ i h.
-            ap (recordGood g i) (sym (getD-records t (g .used) i noRecord h))
-            ∙ all-at (recordGood g) (recordsOf t (g .used)) noRecord i (and-right (gateGood g) _ (and-right (lentGood g t) _ good)) (omega (arith, length-records t (g .used)));
+        records = record-good g t good;
       }
 
 -- ---- and back

@@ -13,3 +13,6 @@ pub mod RowsLaws
 pub mod CallLaws
 pub mod KeptLaws
 pub mod AnswerGood
+pub mod CodeLaws
+pub mod AnsweredTheorems
+pub mod GivesTheorems

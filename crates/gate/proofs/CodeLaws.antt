@@ -1,0 +1,237 @@
+-- The codes of decisions and faults, and what an answer tells by them: an authcode in its range and a date that is one.
+use Prim.Native.Nat.{ℕ, _≤_, _<_}
+use native.Mathlib.Omega.{arith}
+use mathlib.Core.Path.{_≡_, refl, sym, ap, _∙_}
+use mathlib.Core.Bool.{Bool, true, false, cond, not, _||_}
+use mathlib.Core.List.{List, [], _∷_}
+use lib.Dec.{eqb, leb}
+use lib.ListN.{length, getD}
+use borrow.Author.Tests.{eqb-true}
+use Rattle.fields.specs.declared.digits.Digits.{Digits}
+use Rattle.fields.specs.declared.digits.Digits.the-variants.{Value, Malformed}
+use Rattle.fields.specs.Lists.{written}
+use Rattle.fields.specs.Digits.{faultOf}
+use Rattle.fields.specs.Date.{isWritten, emptyDate}
+use Rattle.fields.proofs.Tests.{and-right, cond-elim, no-claim}
+use Rattle.fields.proofs.DateLaws.{written-parts}
+use Rattle.message.specs.declared.action.Action.{Action}
+use Rattle.message.specs.declared.action.Action.the-variants.{Check, Payment, Status, Cancel}
+use Rattle.message.specs.declared.action.ActionRead.{ActionRead}
+use Rattle.message.specs.declared.action.ActionRead.the-variants.{Known, Unknown}
+use Rattle.message.specs.declared.request.RequestRead.{RequestRead}
+use Rattle.message.specs.Names.{actionOf}
+use Rattle.message.specs.Slots.{Slot, Absent, Gathered, Broken, Values, gathered}
+use Rattle.message.specs.Request.{held, receiptField, numberField, kindField, amountField, dateField, reasonField, refused, firstFault, fieldFault, fieldsRead, actionRead, valuesRead, requestRead}
+use Rattle.answers.specs.declared.answer.Answer.{Answer}
+use Rattle.answers.specs.Answer.{answerBytes}
+use Rattle.answers.specs.AnswerRead.{answerAgain}
+use Rattle.answers.proofs.AnswerTextLaws.{answer-length-512}
+use Rattle.table.specs.declared.Record.{Record}
+use Rattle.table.specs.declared.Gate.{Gate}
+use Rattle.lists.specs.declared.Found.{Found}
+use Rattle.lists.specs.declared.Found.the-variants.{At, Nothing}
+use Rattle.table.specs.Table.{Rows, recordAt, recordsOf, findRecord}
+use Rattle.table.specs.Valid.{stateGood, tableGood}
+use Rattle.table.proofs.TableLaws.{getD-records, receipt-within}
+use Rattle.gate.specs.declared.decision.Standing.{Standing}
+use Rattle.gate.specs.declared.decision.Standing.the-variants.{Unrecorded, Done, Cancelled}
+use Rattle.gate.specs.declared.decision.View.{View}
+use Rattle.gate.specs.declared.decision.Change.{Change}
+use Rattle.gate.specs.declared.decision.Change.the-variants.{Keep, Append, Revoke}
+use Rattle.gate.specs.declared.decision.Decided.{Decided}
+use Rattle.gate.specs.Decision.{checkCode, paymentNew, cancelDone, decision}
+use Rattle.gate.specs.Deliver.{noRecord, recordFound, standingOf, isCancel, revoked, answersAuthcode, answersDate, answerDate, answerOf}
+use Rattle.gate.proofs.GoodLaws.{record-good, used-few}
+use Rattle.gate.proofs.KeptLaws.{RecordParts, parts-of}
+
+-- whether a code is one of a list
+unfoldable pub oneOf : List ℕ → ℕ → Bool
+oneOf [] c = false
+oneOf (x ∷ l) c = eqb c x || oneOf l c
+
+-- the codes that are answered, and those with which nothing is written
+abbrev pub answerCodes : List ℕ
+answerCodes = 0 ∷ 1 ∷ 2 ∷ 3 ∷ 4 ∷ 5 ∷ 6 ∷ 7 ∷ 9 ∷ 30 ∷ 31 ∷ 32 ∷ []
+
+abbrev pub silentCodes : List ℕ
+silentCodes = 50 ∷ 51 ∷ 68 ∷ []
+
+-- a code in a list is none that is not
+pub not-in : (c n : ℕ) → oneOf answerCodes c ≡ true → oneOf answerCodes n ≡ false → eqb c n ≡ false
+not-in c n l h = go (eqb c n) refl
+  where
+    go : (z : Bool) → eqb c n ≡ z → z ≡ false
+    go true e = no-claim (sym h ∙ ap (oneOf answerCodes) (sym (eqb-true c n e)) ∙ l)
+    go false e = refl
+
+-- ---- the codes of a decision
+module _ (P : ℕ → Type 0) (zero : P 0) (two : P 2) (five : P 5) (six : P 6) (seven : P 7) (nine : P 9) (thirty : P 30) where
+  abbrev PD : Decided → Type 0
+  PD d = P (d .code)
+
+  pub decision-by : (a : Action) (s : Standing) (v : View) → P ((decision a s v) .code)
+  unfolding decision checkCode paymentNew cancelDone
+  decision-by Check s v = cond-elim P (v .known) _ _ (λ _. cond-elim P (v .full) _ _ (λ _. thirty) (λ _. zero)) (λ _. two)
+  decision-by Payment Unrecorded v =
+      cond-elim PD (v .closed) _ _ (λ _. five) (λ _. cond-elim PD (v .known) _ _ (λ _. cond-elim PD (v .full) _ _ (λ _. thirty) (λ _. zero)) (λ _. two))
+  decision-by Payment Done v = zero
+  decision-by Payment Cancelled v = seven
+  decision-by Status Unrecorded v = six
+  decision-by Status Done v = zero
+  decision-by Status Cancelled v = seven
+  decision-by Cancel Unrecorded v = nine
+  decision-by Cancel Done v = cond-elim PD (v .closed) _ _ (λ _. nine) (λ _. cond-elim PD (v .short) _ _ (λ _. nine) (λ _. zero))
+  decision-by Cancel Cancelled v = zero
+
+-- ---- the faults of a request
+module _ (P : ℕ → Type 0) (none : P 0) (one : P 1) (two : P 2) (three : P 3) (four : P 4) (five : P 5) (most : P 31) (reason : P 32) where
+  fault-of : (c : ℕ) (d : Digits) → P c → P (faultOf c d)
+  fault-of c Malformed p = p
+  fault-of c (Value v) p = none
+
+  first-of : (f : ℕ) (fs : List ℕ) → P f → P (firstFault fs) → P (firstFault (f ∷ fs))
+  unfolding firstFault
+  first-of f fs p q = cond-elim P (eqb f 0) (firstFault fs) f (λ _. q) (λ _. p)
+
+  first-none : P (firstFault [])
+  unfolding firstFault
+  first-none = none
+
+  field-fault : (a : Action) (t : List Slot) → P (fieldFault a t)
+  unfolding fieldFault
+  field-fault a t =
+      first-of _ _ (fault-of 4 (receiptField a t) four)
+      (first-of _ _ (cond-elim P ((numberField a t) .ok) 0 2 (λ _. none) (λ _. two))
+      (first-of _ _ (fault-of 2 (kindField a t) two)
+      (first-of _ _ (fault-of 3 (amountField a t) three)
+      (first-of _ _ (cond-elim P ((dateField a t) .ok) 0 5 (λ _. none) (λ _. five)) (first-of _ _ (fault-of 32 (reasonField a t) reason) first-none)))))
+
+  values-fault : (x : Gathered) → P ((valuesRead x) .fault)
+  unfolding fieldsRead refused
+  values-fault Broken = most
+  values-fault (Values t) = go (held Unknown actionOf (getD t 0 Absent))
+    where
+      go : (a : ActionRead) → P ((actionRead a t) .fault)
+      go Unknown = one
+      go (Known a) = cond-elim (λ (r : RequestRead). P (r .fault)) (eqb (fieldFault a t) 0) _ _ (λ _. none) (λ _. field-fault a t)
+
+  pub fault-by : (params : List ℕ) → P ((requestRead params) .fault)
+  unfolding requestRead refused
+  fault-by params = cond-elim (λ (r : RequestRead). P (r .fault)) (leb (length params) 2048) _ _ (λ _. values-fault (gathered params)) (λ _. most)
+
+-- ---- what an answer tells: a code that is answered, an authcode in its range, and a date that is one
+pub record Told (clock : List ℕ) (a : Action) (c : ℕ) (r : Record) : Type 0 where
+  pub listed : oneOf answerCodes c ≡ true
+  pub loud : oneOf silentCodes c ≡ false
+  pub small : c ≤ 9999
+  pub auth : r .authcode ≤ 999999999999999
+  pub date : answersDate a c ≡ true → isWritten (answerDate a c r clock) ≡ true
+
+-- what is known of a record by its standing
+pub record Known-of (s : Standing) (r : Record) : Type 0 where
+  pub auth : r .authcode ≤ 999999999999999
+  pub done : s ≡ Done → isWritten (r .credit) ≡ true
+  pub void : s ≡ Cancelled → isWritten (r .cancel) ≡ true
+
+-- the record that an answer speaks of: the one found, the new one, or the revoked one
+abbrev pub subject : Record → Record → Record → Change → Record
+subject r new gone Keep = r
+subject r new gone Append = new
+subject r new gone Revoke = gone
+
+module _ (clock : List ℕ) (dated : isWritten clock ≡ true) where
+  told : (a : Action) (c : ℕ) (r : Record) → oneOf answerCodes c ≡ true → oneOf silentCodes c ≡ false → c ≤ 9999 → r .authcode ≤ 999999999999999
+      → isWritten (answerDate a c r clock) ≡ true → Told clock a c r
+  told a c r l s m n d = record { listed = l; loud = s; small = m; auth = n; date = λ _. d }
+
+  -- a refusal tells the clock
+  clock-told : (a : Action) (c : ℕ) (r : Record) → eqb c 0 ≡ false → eqb c 7 ≡ false → isWritten (answerDate a c r clock) ≡ true
+  unfolding answerDate
+  clock-told a c r z s = rw (s, z) dated
+
+  -- a check's answer has no date
+  check-told : (c : ℕ) (r : Record) → oneOf answerCodes c ≡ true → oneOf silentCodes c ≡ false → c ≤ 9999 → r .authcode ≤ 999999999999999 → Told clock Check c r
+  unfolding answersDate
+  check-told c r l s m n = record { listed = l; loud = s; small = m; auth = n; date = λ e. no-claim e }
+
+  pub fault-told : (a : Action) (params : List ℕ) → eqb ((requestRead params) .fault) 0 ≡ false → Told clock a ((requestRead params) .fault) noRecord
+  unfolding oneOf
+  fault-told a = fault-by P (λ e. no-claim (sym e)) (one 1 refl refl (omega arith) refl refl) (one 2 refl refl (omega arith) refl refl) (one 3 refl refl (omega arith) refl refl) (one 4 refl refl (omega arith) refl refl) (one 5 refl refl (omega arith) refl refl) (one 31 refl refl (omega arith) refl refl) (one 32 refl refl (omega arith) refl refl)
+    where
+      P : ℕ → Type 0
+      P c = eqb c 0 ≡ false → Told clock a c noRecord
+
+      one : (c : ℕ) → oneOf answerCodes c ≡ true → oneOf silentCodes c ≡ false → c ≤ 9999 → eqb c 0 ≡ false → eqb c 7 ≡ false → P c
+      one c l s m z v e = told a c noRecord l s m (omega arith) (clock-told a c noRecord z v)
+
+  module _ (r new gone : Record) (fresh : new .authcode ≤ 999999999999999) (credit : new .credit ≡ clock) (same : gone .authcode ≡ r .authcode) (cancel : gone .cancel ≡ clock) where
+    abbrev Tells : Action → Decided → Type 0
+    Tells a d = Told clock a (d .code) (subject r new gone (d .change))
+
+    pub decided-told : (a : Action) (s : Standing) (v : View) → Known-of s r → Tells a (decision a s v)
+    unfolding oneOf decision checkCode paymentNew cancelDone answerDate isCancel
+    decided-told Check s v k =
+        cond-elim (λ (c : ℕ). Told clock Check c r) (v .known) _ _
+        (λ _. cond-elim (λ (c : ℕ). Told clock Check c r) (v .full) _ _ (λ _. check-told 30 r refl refl (omega arith) (k .auth)) (λ _. check-told 0 r refl refl (omega arith) (k .auth)))
+        (λ _. check-told 2 r refl refl (omega arith) (k .auth))
+    decided-told Payment Unrecorded v k =
+        cond-elim (Tells Payment) (v .closed) _ _ (λ _. told Payment 5 r refl refl (omega arith) (k .auth) dated)
+        (λ _. cond-elim (Tells Payment) (v .known) _ _
+        (λ _. cond-elim (Tells Payment) (v .full) _ _ (λ _. told Payment 30 r refl refl (omega arith) (k .auth) dated)
+        (λ _. told Payment 0 new refl refl (omega arith) fresh (ap isWritten credit ∙ dated)))
+        (λ _. told Payment 2 r refl refl (omega arith) (k .auth) dated))
+    decided-told Payment Done v k = told Payment 0 r refl refl (omega arith) (k .auth) (k .done refl)
+    decided-told Payment Cancelled v k = told Payment 7 r refl refl (omega arith) (k .auth) (k .void refl)
+    decided-told Status Unrecorded v k = told Status 6 r refl refl (omega arith) (k .auth) dated
+    decided-told Status Done v k = told Status 0 r refl refl (omega arith) (k .auth) (k .done refl)
+    decided-told Status Cancelled v k = told Status 7 r refl refl (omega arith) (k .auth) (k .void refl)
+    decided-told Cancel Unrecorded v k = told Cancel 9 r refl refl (omega arith) (k .auth) dated
+    decided-told Cancel Done v k =
+        cond-elim (Tells Cancel) (v .closed) _ _ (λ _. told Cancel 9 r refl refl (omega arith) (k .auth) dated)
+        (λ _. cond-elim (Tells Cancel) (v .short) _ _ (λ _. told Cancel 9 r refl refl (omega arith) (k .auth) dated)
+        (λ _. told Cancel 0 gone refl refl (omega arith) (omega (arith, same, k .auth)) (ap isWritten cancel ∙ dated)))
+    decided-told Cancel Cancelled v k = told Cancel 0 r refl refl (omega arith) (k .auth) (k .void refl)
+
+-- ---- the record that a request finds
+cancel-dated : (r : Record) → stateGood r ≡ true → eqb (r .state) 1 ≡ false → isWritten (r .cancel) ≡ true
+unfolding stateGood
+cancel-dated r h e = and-right (eqb (r .state) 2) (isWritten (r .cancel)) (rw e at h)
+
+pub known-found : (g : Gate) (t : Rows) → tableGood g t ≡ true → (receipt : ℕ) (f : Found) → findRecord receipt (recordsOf t (g .used)) ≡ f
+    → Known-of (standingOf f (recordFound (recordsOf t (g .used)) f)) (recordFound (recordsOf t (g .used)) f)
+known-found g t good receipt Nothing e =
+    record { auth = omega arith; done = λ h. let z : _≡_ {A = ℕ} 0 1 = cc in absurd (omega arith); void = λ h. let z : _≡_ {A = ℕ} 0 1 = cc in absurd (omega arith) }
+known-found g t good receipt (At i) e =
+    rw (getD-records t (g .used) i noRecord within) (record { auth = omega (arith, its .authcode, within, used-few g t good); done = λ _. its .credit; void = go (eqb ((recordAt t i) .state) 1) refl })
+  where
+    within : i < g .used
+    within = receipt-within t (g .used) receipt i (findRecord receipt (recordsOf t (g .used))) refl e
+
+    its : RecordParts i (recordAt t i)
+    its = parts-of g i (recordAt t i) (record-good g t good i within)
+
+    go : (z : Bool) → eqb ((recordAt t i) .state) 1 ≡ z → cond z Done Cancelled ≡ Cancelled → isWritten ((recordAt t i) .cancel) ≡ true
+    go true q h = let z : _≡_ {A = ℕ} 0 1 = cc in absurd (omega arith)
+    go false q h = cancel-dated (recordAt t i) (its .state) q
+
+-- ---- the texts
+-- an answer that is told has its date's nineteen bytes
+pub told-fits : (clock : List ℕ) (a : Action) (c : ℕ) (r : Record) → Told clock a c r → length (answerBytes (answerOf a c r clock)) ≤ 512
+told-fits clock a c r k = answer-length-512 (answerOf a c r clock) (unfold answerOf in go (answersDate a c) (k .date))
+  where
+    go : (z : Bool) → (z ≡ true → isWritten (answerDate a c r clock) ≡ true) → length (cond z (answerDate a c r clock) emptyDate) ≡ 19
+    go true h = written-parts (answerDate a c r clock) (h refl) .size
+    go false h = refl
+
+-- what is absent from the gate's answers is at its fixed value already
+pub again-same : (clock : List ℕ) (a : Action) (c : ℕ) (r : Record) → answerAgain (answerOf a c r clock) ≡ answerOf a c r clock
+unfolding answerAgain answerOf
+again-same clock a c r = go (answersAuthcode a c) (answersDate a c)
+  where
+    go : (y z : Bool)
+        → _≡_ {A = Answer} (record { code = c; authorized = y; authcode = cond y (cond y (r .authcode) 0) 0; dated = z; date = cond z (cond z (answerDate a c r clock) emptyDate) emptyDate })
+        (record { code = c; authorized = y; authcode = cond y (r .authcode) 0; dated = z; date = cond z (answerDate a c r clock) emptyDate })
+    go true true = refl
+    go true false = refl
+    go false true = refl
+    go false false = refl
