@@ -32,7 +32,7 @@ use Rattle.gate.specs.Decision.{decision}
 use Rattle.gate.specs.Deliver.{noRecord, recordFound, standingOf, accountOf, viewOf, planWith, planOf, nextAuthcode, makeRecord, revoked, Changed, changed, answerOf, Delivered, undelivered, respond, deliverRead, deliver}
 use Rattle.gate.proofs.AnswerGood.{gate-answers}
 use Rattle.gate.proofs.GoodLaws.{used-few}
-use Rattle.gate.proofs.CodeLaws.{oneOf, answerCodes, silentCodes, not-in, decision-by, fault-by, Told, subject, fault-told, decided-told, known-found, told-fits, again-same}
+use Rattle.gate.proofs.CodeLaws.{oneOf, answerCodes, isSilent, not-in, decision-by, fault-by, Told, subject, fault-told, decided-told, known-found, told-fits, again-same}
 
 -- a decision gives one of seven codes
 pub decision-codes : (a : Action) (s : Standing) (v : View) → oneOf (0 ∷ 2 ∷ 5 ∷ 6 ∷ 7 ∷ 9 ∷ 30 ∷ []) ((decision a s v) .code) ≡ true
@@ -40,9 +40,9 @@ unfolding oneOf
 decision-codes = decision-by (λ (c : ℕ). oneOf (0 ∷ 2 ∷ 5 ∷ 6 ∷ 7 ∷ 9 ∷ 30 ∷ []) c ≡ true) refl refl refl refl refl refl refl
 
 -- never 8, and never 50, 51 or 68, which are the call's own
-pub decision-never : (a : Action) (s : Standing) (v : View) → oneOf (8 ∷ silentCodes) ((decision a s v) .code) ≡ false
+pub decision-never : (a : Action) (s : Standing) (v : View) → oneOf (8 ∷ 50 ∷ 51 ∷ 68 ∷ []) ((decision a s v) .code) ≡ false
 unfolding oneOf
-decision-never = decision-by (λ (c : ℕ). oneOf (8 ∷ silentCodes) c ≡ false) refl refl refl refl refl refl refl
+decision-never = decision-by (λ (c : ℕ). oneOf (8 ∷ 50 ∷ 51 ∷ 68 ∷ []) c ≡ false) refl refl refl refl refl refl refl
 
 -- a request has no fault, or one of seven
 pub fault-codes : (params : List ℕ) → oneOf (0 ∷ 1 ∷ 2 ∷ 3 ∷ 4 ∷ 5 ∷ 31 ∷ 32 ∷ []) ((requestRead params) .fault) ≡ true
@@ -50,29 +50,26 @@ unfolding oneOf
 fault-codes = fault-by (λ (c : ℕ). oneOf (0 ∷ 1 ∷ 2 ∷ 3 ∷ 4 ∷ 5 ∷ 31 ∷ 32 ∷ []) c ≡ true) refl refl refl refl refl refl refl refl
 
 -- ---- a delivery
-module _ (g : Gate) (t : Rows) (clock params out : List ℕ) where
-  abbrev pub asks : Action
-  asks = (requestRead params) .asked .action
+abbrev pub asks : List ℕ → Action
+asks params = (requestRead params) .asked .action
 
+module _ (g : Gate) (t : Rows) (clock params : List ℕ) where
   abbrev plan : Plan
   plan = planOf g (recordsOf t (g .used)) (length (t .nums)) ((requestRead params) .asked)
 
   abbrev after : Changed
   after = changed (plan .decided .change) g (recordsOf t (g .used)) clock ((requestRead params) .asked) plan
 
-  -- the answer to a request: with its fault, or else with what is decided and the record that this concerns
+  -- the answer to a request: of its own action, with its fault, or else with what is decided and the record that this concerns
   abbrev pub answerTo : Answer
-  answerTo = cond (eqb ((requestRead params) .fault) 0) (answerOf asks (plan .decided .code) (after .subject) clock) (answerOf asks ((requestRead params) .fault) noRecord clock)
+  answerTo = cond (eqb ((requestRead params) .fault) 0) (answerOf (asks params) (plan .decided .code) (after .subject) clock) (answerOf (asks params) ((requestRead params) .fault) noRecord clock)
 
-  abbrev pub delivery : Delivered
-  delivery = deliver g t clock params out
-
-  plan-told : tableGood g t ≡ true → isWritten clock ≡ true → Told clock asks (plan .decided .code) (after .subject)
+  plan-told : tableGood g t ≡ true → isWritten clock ≡ true → Told clock (asks params) (plan .decided .code) (after .subject)
   unfolding planOf planWith
   plan-told good dated =
-      go ((decision asks s v) .change)
+      go ((decision (asks params) s v) .change)
       (decided-told clock dated r (makeRecord g clock q) (revoked clock r) (unfold makeRecord nextAuthcode in omega (arith, used-few g t good)) (unfold makeRecord in refl) (unfold revoked in refl) (unfold revoked in refl)
-      asks s v (known-found g t good (q .receipt) f refl))
+      (asks params) s v (known-found g t good (q .receipt) f refl))
     where
       q : Asked
       q = (requestRead params) .asked
@@ -89,91 +86,103 @@ module _ (g : Gate) (t : Rows) (clock params out : List ℕ) where
       v : View
       v = viewOf g (length (t .nums)) q r (accountOf g q r)
 
-      go : (c : Change) → Told clock asks ((decision asks s v) .code) (subject r (makeRecord g clock q) (revoked clock r) c)
-          → Told clock asks ((decision asks s v) .code) ((changed c g (recordsOf t (g .used)) clock q (planWith g (length (t .nums)) q f r)) .subject)
+      go : (c : Change) → Told clock (asks params) ((decision (asks params) s v) .code) (subject r (makeRecord g clock q) (revoked clock r) c)
+          → Told clock (asks params) ((decision (asks params) s v) .code) ((changed c g (recordsOf t (g .used)) clock q (planWith g (length (t .nums)) q f r)) .subject)
       go Keep k = unfold changed planWith in k
       go Append k = unfold changed in k
       go Revoke k = unfold changed planWith in k
 
-  abbrev Has : (ℕ → List ℕ → ℕ → Type 0) → Delivered → Type 0
-  Has P d = P (d .code) (d .out) (d .size)
+module _ (g : Gate) (t : Rows) (clock params out : List ℕ) where
+  abbrev pub delivery : Delivered
+  delivery = deliver g t clock params out
 
-  -- 68, 50 and 51 write nothing; else an answer is written that tells what it should
-  answer-cases : (P : ℕ → List ℕ → ℕ → Type 0) → P 68 out 0 → P 50 out 0 → P 51 out 0
-      → ((c : ℕ) (r : Record) → 512 ≤ length out → Told clock asks c r → answerTo ≡ answerOf asks c r clock
-      → P c (written out 0 (answerBytes (answerOf asks c r clock))) (cursorAfter out 0 (answerBytes (answerOf asks c r clock))))
-      → Has P delivery
+  abbrev answer : Answer
+  answer = answerTo g t clock params
+
+  abbrev gives : ℕ → Record → Answer
+  gives c r = answerOf (asks params) c r clock
+
+  -- 68, 50 and 51 write nothing and keep all; else an answer is written that tells what it should
+  answer-cases : (P : Delivered → Type 0) → P (undelivered 68 g t out) → P (undelivered 50 g t out) → P (undelivered 51 g t out)
+      → ((c : ℕ) (r : Record) (g′ : Gate) (t′ : Rows) → 512 ≤ length out → Told clock (asks params) c r → answer ≡ gives c r
+      → P (record { code = c; gate = g′; rows = t′; out = written out 0 (answerBytes (gives c r)); size = cursorAfter out 0 (answerBytes (gives c r)) }))
+      → P delivery
   unfolding deliver deliverRead respond
   answer-cases P table room date given =
-      cond-elim (Has P) (tableGood g t) _ _
-      (λ good. cond-elim (Has P) (leb 512 (length out)) _ _
-      (λ l. cond-elim (Has P) (isWritten clock) _ _
-      (λ dated. cond-elim (Has P) (eqb ((requestRead params) .fault) 0) _ _
-      (λ z. given (plan .decided .code) (after .subject) (leb-true 512 (length out) l) (plan-told good dated) (rw z refl))
-      (λ z. given ((requestRead params) .fault) noRecord (leb-true 512 (length out) l) (fault-told clock dated asks params z) (rw z refl)))
+      cond-elim P (tableGood g t) _ _
+      (λ good. cond-elim P (leb 512 (length out)) _ _
+      (λ l. cond-elim P (isWritten clock) _ _
+      (λ dated. cond-elim P (eqb ((requestRead params) .fault) 0) _ _
+      (λ z. given (plan g t clock params .decided .code) (after g t clock params .subject) _ _ (leb-true 512 (length out) l) (plan-told g t clock params good dated) (rw z refl))
+      (λ z. given ((requestRead params) .fault) noRecord g t (leb-true 512 (length out) l) (fault-told clock dated (asks params) params z) (rw z refl)))
       (λ _. date))
       (λ _. room))
       (λ _. table)
 
-  -- with any other code than 50, 51 and 68 the agent's reader takes what is written, and reads that answer
-  pub deliver-reads : oneOf silentCodes (delivery .code) ≡ false → answerRead asks (take (delivery .size) (delivery .out)) ≡ record { ok = true; answer = answerTo }
-  unfolding oneOf
-  deliver-reads =
-      answer-cases (λ (c : ℕ) (o : List ℕ) (n : ℕ). oneOf silentCodes c ≡ false → answerRead asks (take n o) ≡ record { ok = true; answer = answerTo })
-      (λ h. no-claim (sym h)) (λ h. no-claim (sym h)) (λ h. no-claim (sym h))
-      (λ c r l k e h.
-      let fits : length (answerBytes (answerOf asks c r clock)) ≤ length out = omega (arith, l, told-fits clock asks c r k) in
-      ap (answerRead asks) (text-back out (answerBytes (answerOf asks c r clock)) fits) ∙ gate-answers asks c r clock (k .small) (k .auth) (k .date)
-      ∙ ap (λ (x : Answer). record { ok = true; answer = x }) (again-same clock asks c r ∙ sym e))
+  -- the same where a code other than 68, 50 and 51 is known
+  answered-by : (P : Delivered → Type 0)
+      → ((c : ℕ) (r : Record) (g′ : Gate) (t′ : Rows) → length (answerBytes (gives c r)) ≤ length out → Told clock (asks params) c r → answer ≡ gives c r
+      → P (record { code = c; gate = g′; rows = t′; out = written out 0 (answerBytes (gives c r)); size = cursorAfter out 0 (answerBytes (gives c r)) }))
+      → isSilent (delivery .code) ≡ false → P delivery
+  answered-by P given =
+      answer-cases (λ (d : Delivered). isSilent (d .code) ≡ false → P d) (λ h. no-claim (sym h)) (λ h. no-claim (sym h)) (λ h. no-claim (sym h))
+      (λ c r g′ t′ l k e h. given c r g′ t′ (omega (arith, l, told-fits clock (asks params) c r k)) k e)
 
-  -- and that answer has the code that is returned
-  pub deliver-told : oneOf silentCodes (delivery .code) ≡ false → answerTo .code ≡ delivery .code
-  unfolding oneOf answerOf
-  deliver-told =
-      answer-cases (λ (c : ℕ) (o : List ℕ) (n : ℕ). oneOf silentCodes c ≡ false → answerTo .code ≡ c)
-      (λ h. no-claim (sym h)) (λ h. no-claim (sym h)) (λ h. no-claim (sym h)) (λ c r l k e h. ap (λ (x : Answer). x .code) e)
+  -- what is written is the text of that answer
+  pub deliver-text : isSilent (delivery .code) ≡ false → take (delivery .size) (delivery .out) ≡ answerBytes answer
+  deliver-text = answered-by (λ (d : Delivered). take (d .size) (d .out) ≡ answerBytes answer) (λ c r g′ t′ fits k e. text-back out (answerBytes (gives c r)) fits ∙ ap answerBytes (sym e))
+
+  -- the agent's reader takes it, and reads that answer again
+  pub deliver-reads : isSilent (delivery .code) ≡ false → answerRead (asks params) (take (delivery .size) (delivery .out)) ≡ record { ok = true; answer = answer }
+  deliver-reads h =
+      ap (answerRead (asks params)) (deliver-text h)
+      ∙ answered-by (λ (d : Delivered). answerRead (asks params) (answerBytes answer) ≡ record { ok = true; answer = answer })
+      (λ c r g′ t′ fits k e. rw e (gate-answers (asks params) c r clock (k .small) (k .auth) (k .date) ∙ ap (λ (x : Answer). record { ok = true; answer = x }) (again-same clock (asks params) c r))) h
+
+  -- which has the code that is returned
+  pub deliver-told : isSilent (delivery .code) ≡ false → answer .code ≡ delivery .code
+  unfolding answerOf
+  deliver-told = answered-by (λ (d : Delivered). answer .code ≡ d .code) (λ c r g′ t′ fits k e. ap (λ (x : Answer). x .code) e)
 
   -- its size is the length of the answer's text
-  pub deliver-size : oneOf silentCodes (delivery .code) ≡ false → delivery .size ≡ length (answerBytes answerTo)
-  unfolding oneOf
+  pub deliver-size : isSilent (delivery .code) ≡ false → delivery .size ≡ length (answerBytes answer)
   deliver-size =
-      answer-cases (λ (c : ℕ) (o : List ℕ) (n : ℕ). oneOf silentCodes c ≡ false → n ≡ length (answerBytes answerTo))
-      (λ h. no-claim (sym h)) (λ h. no-claim (sym h)) (λ h. no-claim (sym h))
-      (λ c r l k e h.
-      let fits : 0 + length (answerBytes (answerOf asks c r clock)) ≤ length out = omega (arith, l, told-fits clock asks c r k) in
-      sym (cursor-moves out 0 (answerBytes (answerOf asks c r clock)) fits) ∙ zero-add _ ∙ ap (λ (x : Answer). length (answerBytes x)) (sym e))
+      answered-by (λ (d : Delivered). d .size ≡ length (answerBytes answer))
+      (λ c r g′ t′ fits k e.
+      let l : 0 + length (answerBytes (gives c r)) ≤ length out = omega arith in
+      sym (cursor-moves out 0 (answerBytes (gives c r)) l) ∙ zero-add _ ∙ ap (λ (x : Answer). length (answerBytes x)) (sym e))
 
-  -- which is at most 512
+  -- with 68, 50 and 51 nothing is written, and all is kept
+  pub deliver-silent : isSilent (delivery .code) ≡ true → delivery ≡ undelivered (delivery .code) g t out
+  deliver-silent =
+      answer-cases (λ (d : Delivered). isSilent (d .code) ≡ true → d ≡ undelivered (d .code) g t out) (λ _. refl) (λ _. refl) (λ _. refl)
+      (λ c r g′ t′ l k e h. no-claim (sym (k .loud) ∙ h))
+
+  -- never more than 512 bytes are written
   pub deliver-most : delivery .size ≤ 512
   deliver-most =
-      answer-cases (λ (c : ℕ) (o : List ℕ) (n : ℕ). n ≤ 512) (omega arith) (omega arith) (omega arith)
-      (λ c r l k e.
-      let fits : 0 + length (answerBytes (answerOf asks c r clock)) ≤ length out = omega (arith, l, told-fits clock asks c r k) in
-      omega (arith, cursor-moves out 0 (answerBytes (answerOf asks c r clock)) fits, told-fits clock asks c r k))
-
-  -- with 50, 51 and 68 it is 0, and the buffer is as it was
-  pub deliver-silent : oneOf silentCodes (delivery .code) ≡ true → (delivery .size ≡ 0) × (delivery .out ≡ out)
-  deliver-silent =
-      answer-cases (λ (c : ℕ) (o : List ℕ) (n : ℕ). oneOf silentCodes c ≡ true → (n ≡ 0) × (o ≡ out)) (λ _. (refl, refl)) (λ _. (refl, refl)) (λ _. (refl, refl))
-      (λ c r l k e h. no-claim (sym (k .loud) ∙ h))
+      answer-cases (λ (d : Delivered). d .size ≤ 512) (omega arith) (omega arith) (omega arith)
+      (λ c r g′ t′ l k e.
+      let fits : 0 + length (answerBytes (gives c r)) ≤ length out = omega (arith, l, told-fits clock (asks params) c r k) in
+      omega (arith, cursor-moves out 0 (answerBytes (gives c r)) fits, told-fits clock (asks params) c r k))
 
   -- a delivery gives one of fifteen codes
-  pub codes-of : oneOf answerCodes (delivery .code) || oneOf silentCodes (delivery .code) ≡ true
+  pub codes-of : oneOf answerCodes (delivery .code) || isSilent (delivery .code) ≡ true
   unfolding oneOf
-  codes-of = answer-cases (λ (c : ℕ) (o : List ℕ) (n : ℕ). oneOf answerCodes c || oneOf silentCodes c ≡ true) refl refl refl (λ c r l k e. rw (k .listed) refl)
+  codes-of = answer-cases (λ (d : Delivered). oneOf answerCodes (d .code) || isSilent (d .code) ≡ true) refl refl refl (λ c r g′ t′ l k e. rw (k .listed) refl)
 
   -- never 8
   pub never-eight : delivery .code ≡ 8 → ⊥
   unfolding oneOf
-  never-eight e = no-claim (ap (λ (c : ℕ). oneOf answerCodes c || oneOf silentCodes c) (sym e) ∙ codes-of)
+  never-eight e = no-claim (ap (λ (c : ℕ). oneOf answerCodes c || isSilent c) (sym e) ∙ codes-of)
 
   -- ---- the call's own codes, each exactly where its test fails first
   answered-code : (n : ℕ) → oneOf answerCodes n ≡ false → tableGood g t ≡ true → isWritten clock ≡ true → eqb ((deliverRead g t clock (requestRead params) out) .code) n ≡ false
   unfolding deliverRead respond
   answered-code n h good dated =
       cond-elim (λ (d : Delivered). eqb (d .code) n ≡ false) (eqb ((requestRead params) .fault) 0) _ _
-      (λ _. not-in (plan .decided .code) n (plan-told good dated .listed) h)
-      (λ z. not-in ((requestRead params) .fault) n (fault-told clock dated asks params z .listed) h)
+      (λ _. not-in (plan g t clock params .decided .code) n (plan-told g t clock params good dated .listed) h)
+      (λ z. not-in ((requestRead params) .fault) n (fault-told clock dated (asks params) params z .listed) h)
 
   own-code : (n : ℕ) → oneOf answerCodes n ≡ false
       → eqb (delivery .code) n ≡ cond (tableGood g t) (cond (leb 512 (length out)) (cond (isWritten clock) false (eqb 51 n)) (eqb 50 n)) (eqb 68 n)

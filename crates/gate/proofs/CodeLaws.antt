@@ -49,12 +49,13 @@ unfoldable pub oneOf : List ℕ → ℕ → Bool
 oneOf [] c = false
 oneOf (x ∷ l) c = eqb c x || oneOf l c
 
--- the codes that are answered, and those with which nothing is written
+-- the codes that are answered
 abbrev pub answerCodes : List ℕ
 answerCodes = 0 ∷ 1 ∷ 2 ∷ 3 ∷ 4 ∷ 5 ∷ 6 ∷ 7 ∷ 9 ∷ 30 ∷ 31 ∷ 32 ∷ []
 
-abbrev pub silentCodes : List ℕ
-silentCodes = 50 ∷ 51 ∷ 68 ∷ []
+-- and those with which nothing is written
+abbrev pub isSilent : ℕ → Bool
+isSilent c = eqb c 68 || (eqb c 50 || eqb c 51)
 
 -- a code in a list is none that is not
 pub not-in : (c n : ℕ) → oneOf answerCodes c ≡ true → oneOf answerCodes n ≡ false → eqb c n ≡ false
@@ -122,7 +123,7 @@ module _ (P : ℕ → Type 0) (none : P 0) (one : P 1) (two : P 2) (three : P 3)
 -- ---- what an answer tells: a code that is answered, an authcode in its range, and a date that is one
 pub record Told (clock : List ℕ) (a : Action) (c : ℕ) (r : Record) : Type 0 where
   pub listed : oneOf answerCodes c ≡ true
-  pub loud : oneOf silentCodes c ≡ false
+  pub loud : isSilent c ≡ false
   pub small : c ≤ 9999
   pub auth : r .authcode ≤ 999999999999999
   pub date : answersDate a c ≡ true → isWritten (answerDate a c r clock) ≡ true
@@ -140,7 +141,7 @@ subject r new gone Append = new
 subject r new gone Revoke = gone
 
 module _ (clock : List ℕ) (dated : isWritten clock ≡ true) where
-  told : (a : Action) (c : ℕ) (r : Record) → oneOf answerCodes c ≡ true → oneOf silentCodes c ≡ false → c ≤ 9999 → r .authcode ≤ 999999999999999
+  told : (a : Action) (c : ℕ) (r : Record) → oneOf answerCodes c ≡ true → isSilent c ≡ false → c ≤ 9999 → r .authcode ≤ 999999999999999
       → isWritten (answerDate a c r clock) ≡ true → Told clock a c r
   told a c r l s m n d = record { listed = l; loud = s; small = m; auth = n; date = λ _. d }
 
@@ -150,7 +151,7 @@ module _ (clock : List ℕ) (dated : isWritten clock ≡ true) where
   clock-told a c r z s = rw (s, z) dated
 
   -- a check's answer has no date
-  check-told : (c : ℕ) (r : Record) → oneOf answerCodes c ≡ true → oneOf silentCodes c ≡ false → c ≤ 9999 → r .authcode ≤ 999999999999999 → Told clock Check c r
+  check-told : (c : ℕ) (r : Record) → oneOf answerCodes c ≡ true → isSilent c ≡ false → c ≤ 9999 → r .authcode ≤ 999999999999999 → Told clock Check c r
   unfolding answersDate
   check-told c r l s m n = record { listed = l; loud = s; small = m; auth = n; date = λ e. no-claim e }
 
@@ -161,7 +162,7 @@ module _ (clock : List ℕ) (dated : isWritten clock ≡ true) where
       P : ℕ → Type 0
       P c = eqb c 0 ≡ false → Told clock a c noRecord
 
-      one : (c : ℕ) → oneOf answerCodes c ≡ true → oneOf silentCodes c ≡ false → c ≤ 9999 → eqb c 0 ≡ false → eqb c 7 ≡ false → P c
+      one : (c : ℕ) → oneOf answerCodes c ≡ true → isSilent c ≡ false → c ≤ 9999 → eqb c 0 ≡ false → eqb c 7 ≡ false → P c
       one c l s m z v e = told a c noRecord l s m (omega arith) (clock-told a c noRecord z v)
 
   module _ (r new gone : Record) (fresh : new .authcode ≤ 999999999999999) (credit : new .credit ≡ clock) (same : gone .authcode ≡ r .authcode) (cancel : gone .cancel ≡ clock) where
@@ -193,7 +194,8 @@ module _ (clock : List ℕ) (dated : isWritten clock ≡ true) where
     decided-told Cancel Cancelled v k = told Cancel 0 r refl refl (omega arith) (k .auth) (k .void refl)
 
 -- ---- the record that a request finds
-cancel-dated : (r : Record) → stateGood r ≡ true → eqb (r .state) 1 ≡ false → isWritten (r .cancel) ≡ true
+-- a record that is good and not done has the date of its cancel
+pub cancel-dated : (r : Record) → stateGood r ≡ true → eqb (r .state) 1 ≡ false → isWritten (r .cancel) ≡ true
 unfolding stateGood
 cancel-dated r h e = and-right (eqb (r .state) 2) (isWritten (r .cancel)) (rw e at h)
 

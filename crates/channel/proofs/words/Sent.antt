@@ -1,53 +1,35 @@
 -- What is sent is what was written: all of its bytes and no byte more, in every world. What was sent before stays before it, and no other step sends.
-use Prim.Native.Nat.{ℕ, _<_, _≤_}
+use Prim.Native.Nat.{ℕ, _≤_}
 use native.Mathlib.Omega.{arith}
 use mathlib.Core.Path.{_≡_, refl, sym, ap, _∙_}
-use mathlib.Core.Bool.{Bool, true, false, cond, not, _&&_}
+use mathlib.Core.Bool.{Bool, true, false, not, _&&_}
 use mathlib.Core.List.{List, [], _∷_, _++_}
 use mathlib.Core.Option.{Option, none, some}
 use lib.Dec.{eqb, leb}
-use lib.ListN.{length, take, getD, getElem?}
-use borrow.Author.Tests.{leb-true, eq-eqb, ne-eqb}
+use lib.ListN.{length, take, getElem?}
+use borrow.Author.Tests.{leb-true, eq-eqb, ne-eqb, not-true, not-false}
 use Rattle.fields.specs.declared.calendar.Day.{Day}
 use Rattle.fields.specs.Lists.{written, cursorAfter}
 use Rattle.fields.specs.Amount.{isAmount}
 use Rattle.fields.specs.Calendar.{isDay, dayBefore}
-use Rattle.fields.specs.Codes.{isReceipt, isKind}
-use Rattle.fields.specs.Date.{isWritten, emptyDate}
+use Rattle.fields.specs.Codes.{isKind}
 use Rattle.fields.specs.Number.{isNumber}
-use Rattle.fields.proofs.Tests.{and-left, and-right, both, cond-elim, no-claim}
+use Rattle.fields.proofs.Tests.{cond-elim}
 use Rattle.fields.proofs.OutLaws.{text-first, text-back}
 use Rattle.fields.proofs.DateLaws.{written-parts}
-use Rattle.fields.proofs.ScanLaws.{eqList-true}
 use Rattle.message.specs.declared.action.Action.{Action}
-use Rattle.message.specs.declared.action.Action.the-variants.{Check, Payment, Status, Cancel}
+use Rattle.message.specs.declared.action.Action.the-variants.{Check}
 use Rattle.message.specs.declared.request.Asked.{Asked}
-use Rattle.message.specs.declared.request.RequestRead.{RequestRead}
-use Rattle.message.specs.Request.{requestRead}
 use Rattle.message.specs.RequestText.{isAsked, requestText}
 use Rattle.message.proofs.RequestAgain.{request-fits}
 use Rattle.answers.specs.declared.answer.Answer.{Answer}
 use Rattle.answers.specs.Answer.{answerBytes}
-use Rattle.answers.proofs.AnswerTextLaws.{answer-length-512}
 use Rattle.registry.specs.Registry.{registryLines}
 use Rattle.registry.proofs.LinesGood.{lines-good}
-use Rattle.lists.specs.declared.Found.{Found}
-use Rattle.lists.specs.declared.Found.the-variants.{At, Nothing}
-use Rattle.lists.proofs.ListLaws.{all-at}
-use Rattle.table.specs.declared.Record.{Record}
-use Rattle.table.specs.declared.Gate.{Gate}
-use Rattle.table.specs.Table.{Rows, recordsOf, findRecord}
-use Rattle.table.specs.Valid.{stateGood, rangesGood, accountKnown, authcodeGood, recordGood, gateGood, lentGood, tableGood}
-use Rattle.table.proofs.TableLaws.{length-records, receipt-within}
-use Rattle.gate.specs.declared.decision.Standing.{Standing}
-use Rattle.gate.specs.declared.decision.Standing.the-variants.{Unrecorded, Done, Cancelled}
-use Rattle.gate.specs.declared.decision.View.{View}
-use Rattle.gate.specs.declared.decision.Change.{Change}
-use Rattle.gate.specs.declared.decision.Change.the-variants.{Keep, Append, Revoke}
-use Rattle.gate.specs.declared.decision.Decided.{Decided}
-use Rattle.gate.specs.declared.plan.Plan.{Plan}
-use Rattle.gate.specs.Decision.{checkCode, paymentNew, cancelDone, decision}
-use Rattle.gate.specs.Deliver.{noRecord, recordFound, planWith, planOf, makeRecord, revoked, Changed, changed, answersDate, answerDate, isCancel, answerOf, Delivered, undelivered, respond, faultAnswered, deliverRead, deliver}
+use Rattle.lists.specs.declared.Found.the-variants.{At}
+use Rattle.table.specs.Table.{recordsOf}
+use Rattle.gate.specs.Deliver.{Delivered, deliver}
+use Rattle.gate.proofs.AnsweredTheorems.{answerTo as gateAnswer, deliver-text, deliver-told, deliver-silent}
 use Rattle.settlement.specs.Settle.{reportOf, Settled, settleDay, settle}
 use Rattle.settlement.proofs.SettleLaws.{report-length, settled-by, fault-keeps, report-now}
 use Rattle.book.specs.Entries.{findEntry}
@@ -119,156 +101,32 @@ check-sent w n k kopecks out =
     P d = d .code ≡ 0 → sentIf (eqb (d .code) 0) (sentRequest Check 0 (take (d .size) (d .out))) (w .sent) ≡ w .sent ++ (sentRequest Check 0 text ∷ [])
 
 -- ---- an answer
--- the dates of a record that an answer may tell have nineteen bytes, in a table that is good
-record Dated (r : Record) : Type 0 where
-  credit : length (r .credit) ≡ 19
-  cancel : length (r .cancel) ≡ 19
-
-cancel-size : (r : Record) → stateGood r ≡ true → length (r .cancel) ≡ 19
-unfolding stateGood
-cancel-size r h = go (eqb (r .state) 1) refl
-  where
-    go : (z : Bool) → eqb (r .state) 1 ≡ z → length (r .cancel) ≡ 19
-    go true e = ap length (eqList-true (r .cancel) emptyDate (rw e at h))
-    go false e = written-parts (r .cancel) (and-right (eqb (r .state) 2) (isWritten (r .cancel)) (rw e at h)) .size
-
-good-dated : (g : Gate) (i : ℕ) (r : Record) → recordGood g i r ≡ true → Dated r
-unfolding recordGood rangesGood
-good-dated g i r h =
-    let x = and-left _ (accountKnown g r) (and-right (authcodeGood i r) _ h) in
-    let d = and-right (isWritten (r .date)) _ (and-right (isAmount (r .amount)) _ (and-right (isReceipt (r .receipt)) _ x)) in
-    let e = both (isWritten (r .credit)) _ d in
-    record { credit = written-parts (r .credit) (e .0) .size; cancel = cancel-size r (e .1) }
-
-record-dated : (g : Gate) (t : Rows) → tableGood g t ≡ true → (i : ℕ) → i < g .used → Dated (getD (recordsOf t (g .used)) i noRecord)
-unfolding tableGood
-record-dated g t good i l =
-    good-dated g i _
-    (all-at (recordGood g) (recordsOf t (g .used)) noRecord i (and-right (gateGood g) _ (and-right (lentGood g t) _ good)) (omega (arith, length-records t (g .used))))
-
-found-dated : (g : Gate) (t : Rows) → tableGood g t ≡ true → (receipt : ℕ) (f : Found) → findRecord receipt (recordsOf t (g .used)) ≡ f → Dated (recordFound (recordsOf t (g .used)) f)
-found-dated g t good receipt Nothing e = record { credit = refl; cancel = refl }
-found-dated g t good receipt (At i) e = record-dated g t good i (receipt-within t (g .used) receipt i (findRecord receipt (recordsOf t (g .used))) refl e)
-
-change-dated : (c : Change) (g : Gate) (rs : List Record) (clock : List ℕ) (q : Asked) (p : Plan) → length clock ≡ 19 → Dated (p .payment) → Dated ((changed c g rs clock q p) .subject)
-unfolding changed makeRecord revoked
-change-dated Keep g rs clock q p l d = d
-change-dated Append g rs clock q p l d = record { credit = l; cancel = refl }
-change-dated Revoke g rs clock q p l d = record { credit = d .credit; cancel = l }
-
-one-size : (z : Bool) (a b : List ℕ) → length a ≡ 19 → length b ≡ 19 → length (cond z a b) ≡ 19
-one-size true a b x y = x
-one-size false a b x y = y
-
-answer-fits : (a : Action) (code : ℕ) (r : Record) (clock : List ℕ) → length clock ≡ 19 → Dated r → length (answerBytes (answerOf a code r clock)) ≤ 512
-answer-fits a code r clock l d = answer-length-512 (answerOf a code r clock) dated
-  where
-    dated : length ((answerOf a code r clock) .date) ≡ 19
-    dated =
-        unfold answerOf answerDate in
-        one-size (answersDate a code) _ emptyDate
-        (one-size (eqb code 7) (r .cancel) _ (d .cancel) (one-size (eqb code 0) _ clock (one-size (isCancel a) (r .cancel) (r .credit) (d .cancel) (d .credit)) l)) refl
-
--- what is decided is always answered
-decision-told : (a : Action) (s : Standing) (v : View) → isAnswered ((decision a s v) .code) ≡ true
-unfolding decision checkCode paymentNew cancelDone
-decision-told Check s v =
-    cond-elim (λ (c : ℕ). isAnswered c ≡ true) (v .known) _ _ (λ _. cond-elim (λ (c : ℕ). isAnswered c ≡ true) (v .full) _ _ (λ _. refl) (λ _. refl)) (λ _. refl)
-decision-told Payment Unrecorded v =
-    cond-elim (λ (d : Decided). isAnswered (d .code) ≡ true) (v .closed) _ _ (λ _. refl)
-    (λ _. cond-elim (λ (d : Decided). isAnswered (d .code) ≡ true) (v .known) _ _
-    (λ _. cond-elim (λ (d : Decided). isAnswered (d .code) ≡ true) (v .full) _ _ (λ _. refl) (λ _. refl)) (λ _. refl))
-decision-told Payment Done v = refl
-decision-told Payment Cancelled v = refl
-decision-told Status Unrecorded v = refl
-decision-told Status Done v = refl
-decision-told Status Cancelled v = refl
-decision-told Cancel Unrecorded v = refl
-decision-told Cancel Done v =
-    cond-elim (λ (d : Decided). isAnswered (d .code) ≡ true) (v .closed) _ _ (λ _. refl)
-    (λ _. cond-elim (λ (d : Decided). isAnswered (d .code) ≡ true) (v .short) _ _ (λ _. refl) (λ _. refl))
-decision-told Cancel Cancelled v = refl
-
 module _ (w : World) (text clock : List ℕ) where
-  abbrev request : RequestRead
-  request = requestRead text
-
-  abbrev plan : Plan
-  plan = planOf (w .gate) (recordsIn w) (length (w .table .nums)) (request .asked)
-
-  abbrev change : Changed
-  change = changed (plan .decided .change) (w .gate) (recordsIn w) clock (request .asked) plan
-
-  abbrev decided : Answer
-  decided = answerOf (request .asked .action) (plan .decided .code) (change .subject) clock
-
-  abbrev faulted : Answer
-  faulted = answerOf (request .asked .action) (request .fault) noRecord clock
-
-  -- the answer to a request: of its own action, with its fault, or else with what is decided and the record that this concerns
+  -- the answer to a request, as the gate decides it
   abbrev pub answerTo : Answer
-  answerTo = cond (eqb (request .fault) 0) decided faulted
-
-  plan-told : isAnswered (plan .decided .code) ≡ true
-  unfolding planOf planWith
-  plan-told = decision-told (request .asked .action) _ _
-
-  decided-fits : tableGood (w .gate) (w .table) ≡ true → isWritten clock ≡ true → length (answerBytes decided) ≤ 512
-  decided-fits good dated =
-      answer-fits (request .asked .action) (plan .decided .code) (change .subject) clock (written-parts clock dated .size)
-      (change-dated (plan .decided .change) (w .gate) (recordsIn w) clock (request .asked) plan (written-parts clock dated .size)
-      (unfold planOf planWith in found-dated (w .gate) (w .table) good (request .asked .receipt) (findRecord (request .asked .receipt) (recordsIn w)) refl))
-
-  faulted-fits : isWritten clock ≡ true → length (answerBytes faulted) ≤ 512
-  faulted-fits dated =
-      answer-fits (request .asked .action) (request .fault) noRecord clock (written-parts clock dated .size) (record { credit = refl; cancel = refl })
+  answerTo = gateAnswer (w .gate) (w .table) clock text
 
   module _ (a : Action) (receipt : ℕ) (out : List ℕ) where
-    -- 68, 50 and 51 keep all; else it is decided, or its fault answered
-    answer-cases : (P : Delivered → Type 0) → ((c : ℕ) → isAnswered c ≡ false → P (undelivered c (w .gate) (w .table) out))
-        → (512 ≤ length out → length (answerBytes decided) ≤ 512 → answerTo ≡ decided → P (respond (w .gate) (w .table) clock (request .asked) out))
-        → (512 ≤ length out → length (answerBytes faulted) ≤ 512 → answerTo ≡ faulted → P (faultAnswered (w .gate) (w .table) out (request .asked .action) (request .fault) clock))
-        → P (deliver (w .gate) (w .table) clock text out)
-    unfolding deliver deliverRead
-    answer-cases P keeps responds faults =
-        cond-elim P (tableGood (w .gate) (w .table)) _ _
-        (λ good. cond-elim P (leb 512 (length out)) _ _
-        (λ room. cond-elim P (isWritten clock) _ _
-        (λ dated. cond-elim P (eqb (request .fault) 0) _ _
-        (λ z. responds (leb-true 512 (length out) room) (decided-fits good dated) (ap (λ (t : Bool). cond t decided faulted) z))
-        (λ z. faults (leb-true 512 (length out) room) (faulted-fits dated) (ap (λ (t : Bool). cond t decided faulted) z)))
-        (λ _. keeps 51 refl))
-        (λ _. keeps 50 refl))
-        (λ _. keeps 68 refl)
-
-    abbrev goes : Delivered → Sent
-    goes d = sentAnswer a receipt (take (d .size) (d .out))
+    abbrev answered : Delivered
+    answered = deliver (w .gate) (w .table) clock text out
 
     -- it has the code that the gate returns
     pub answer-code : isAnswered ((requestArrives w a receipt text clock out) .code) ≡ true → answerTo .code ≡ (requestArrives w a receipt text clock out) .code
     unfolding requestArrives
-    answer-code =
-        answer-cases (λ (d : Delivered). isAnswered (d .code) ≡ true → answerTo .code ≡ d .code) (λ c n h. no-claim (sym n ∙ h))
-        (λ room fits e h. unfold respond answerOf in ap (λ (x : Answer). x .code) e) (λ room fits e h. unfold answerOf in ap (λ (x : Answer). x .code) e)
+    answer-code h = deliver-told (w .gate) (w .table) clock text out (not-true _ h)
 
     -- and it is sent, with the action and the receipt that the request was sent with
     pub answer-sent : isAnswered ((requestArrives w a receipt text clock out) .code) ≡ true
         → (requestArrives w a receipt text clock out) .world .sent ≡ w .sent ++ (sentAnswer a receipt (answerBytes answerTo) ∷ [])
     unfolding requestArrives
-    answer-sent =
-        answer-cases (λ (d : Delivered). isAnswered (d .code) ≡ true → sentIf (isAnswered (d .code)) (goes d) (w .sent) ≡ w .sent ++ (sentAnswer a receipt (answerBytes answerTo) ∷ []))
-        (λ c n h. no-claim (sym n ∙ h))
-        (λ room fits e h. grown _ _ _ (w .sent) h (ap (sentAnswer a receipt) (unfold respond in text-back out (answerBytes decided) (omega (arith, room, fits)) ∙ ap answerBytes (sym e))))
-        (λ room fits e h. grown _ _ _ (w .sent) h (ap (sentAnswer a receipt) (text-back out (answerBytes faulted) (omega (arith, room, fits)) ∙ ap answerBytes (sym e))))
+    answer-sent h = grown _ _ _ (w .sent) h (ap (sentAnswer a receipt) (deliver-text (w .gate) (w .table) clock text out (not-true _ h)))
 
     -- where none is written, nothing is sent and nothing moves
     pub answer-none : isAnswered ((requestArrives w a receipt text clock out) .code) ≡ false → (requestArrives w a receipt text clock out) .world ≡ w
     unfolding requestArrives
-    answer-none =
-        answer-cases (λ (d : Delivered). isAnswered (d .code) ≡ false → atGate w (d .gate) (d .rows) (sentIf (isAnswered (d .code)) (goes d) (w .sent)) ≡ w)
-        (λ c n h. ap (atGate w (w .gate) (w .table)) (same-sent (isAnswered c) _ (w .sent) h))
-        (λ room fits e h. let n : isAnswered (plan .decided .code) ≡ false = unfold respond in h in no-claim (sym n ∙ plan-told))
-        (λ room fits e h. ap (atGate w (w .gate) (w .table)) (same-sent (isAnswered (request .fault)) _ (w .sent) h))
+    answer-none h =
+        ap (atGate w (answered .gate) (answered .rows)) (same-sent (isAnswered (answered .code)) _ (w .sent) h)
+        ∙ ap (λ (d : Delivered). atGate w (d .gate) (d .rows) (w .sent)) (deliver-silent (w .gate) (w .table) clock text out (not-false _ h))
 
 -- ---- a registry
 pub registry-sent : (w : World) (day : Day) (out : List ℕ) → (listing w day out) .code ≡ 0
