@@ -108,6 +108,6 @@ abbrev pub valuesRead : Gathered → RequestRead
 valuesRead Broken = refused 31 Check
 valuesRead (Values t) = actionRead (held Unknown actionOf (getD t 0 Absent)) t
 
--- at most 2,048 bytes are looked at
+-- over 2,048 bytes it is 31, whatever they are
 unfoldable pub requestRead : List ℕ → RequestRead
 requestRead s = cond (leb (length s) 2048) (valuesRead (gathered s)) (refused 31 Check)

@@ -1,4 +1,4 @@
-// Messages between the ends: requests and answers, read from bytes and written into lent buffers.
+// Requests between the ends, read from bytes and written into lent buffers.
 pub mod action;
 pub mod request;
 pub mod slots;
