@@ -148,9 +148,10 @@ module _ (g : Gate) (s : Summable g) where
 
   deliver-summable : (t : Rows) (clock params out : List ℕ) → Summable ((deliver g t clock params out) .gate)
   deliver-summable t clock params out =
+      let f : ℕ = (requestRead params) .fault in
       let q : Asked = (requestRead params) .asked in
       delivered-by g t clock params out (λ (d : Delivered). Summable (d .gate)) (λ code left size. s)
-      (λ good _ _. outcome-summable t good clock q (respond g t clock q out) (asked-amount params (requestRead params) refl) (outcome g t clock q out))
+      (λ good _. outcome-summable t good clock q (respond g t clock f q out) (asked-amount params (requestRead params) refl) (outcome g t clock f q out))
 
 -- ---- a line
 module _ (x : Console) (t : Rows) (l : List ℕ) (s : Summable (x .gate)) where

@@ -28,26 +28,31 @@ use Rattle.gate.specs.declared.decision.View.{View}
 use Rattle.gate.specs.declared.decision.Change.{Change}
 use Rattle.gate.specs.declared.decision.Change.the-variants.{Keep, Append, Revoke}
 use Rattle.gate.specs.declared.plan.Plan.{Plan}
-use Rattle.gate.specs.Decision.{decision}
-use Rattle.gate.specs.Deliver.{noRecord, recordFound, standingOf, accountOf, viewOf, planWith, planOf, nextAuthcode, makeRecord, revoked, Changed, changed, answerOf, Delivered, undelivered, respond, deliverRead, deliver}
+use Rattle.gate.specs.Decision.{isFault, faultCode, decision}
+use Rattle.gate.specs.Deliver.{noRecord, recordFound, standingOf, accountOf, viewOf, planWith, planOf, nextAuthcode, makeRecord, revoked, Changed, changed, answerOf, Delivered, undelivered, respond, deliver}
 use Rattle.gate.proofs.AnswerGood.{gate-answers}
 use Rattle.gate.proofs.GoodLaws.{used-few}
-use Rattle.gate.proofs.CodeLaws.{oneOf, answerCodes, isSilent, not-in, decision-by, fault-by, Told, subject, fault-told, decided-told, known-found, told-fits, again-same}
+use Rattle.gate.proofs.CodeLaws.{oneOf, answerCodes, isSilent, not-in, decision-by, fault-by, Told, subject, decided-told, known-found, told-fits, again-same}
 
--- a decision gives one of seven codes
-pub decision-codes : (a : Action) (s : Standing) (v : View) → oneOf (0 ∷ 2 ∷ 5 ∷ 6 ∷ 7 ∷ 9 ∷ 30 ∷ []) ((decision a s v) .code) ≡ true
+-- a decision gives one of twelve codes, whatever the fault, the action, the record and the view are
+pub decision-codes : (f : ℕ) (a : Action) (s : Standing) (v : View) → oneOf answerCodes ((decision f a s v) .code) ≡ true
 unfolding oneOf
-decision-codes = decision-by (λ (c : ℕ). oneOf (0 ∷ 2 ∷ 5 ∷ 6 ∷ 7 ∷ 9 ∷ 30 ∷ []) c ≡ true) refl refl refl refl refl refl refl
+decision-codes = decision-by (λ (c : ℕ). oneOf answerCodes c ≡ true) refl refl refl refl refl refl refl refl refl refl refl refl
 
 -- never 8, and never 50, 51 or 68, which are the call's own
-pub decision-never : (a : Action) (s : Standing) (v : View) → oneOf (8 ∷ 50 ∷ 51 ∷ 68 ∷ []) ((decision a s v) .code) ≡ false
+pub decision-never : (f : ℕ) (a : Action) (s : Standing) (v : View) → oneOf (8 ∷ 50 ∷ 51 ∷ 68 ∷ []) ((decision f a s v) .code) ≡ false
 unfolding oneOf
-decision-never = decision-by (λ (c : ℕ). oneOf (8 ∷ 50 ∷ 51 ∷ 68 ∷ []) c ≡ false) refl refl refl refl refl refl refl
+decision-never = decision-by (λ (c : ℕ). oneOf (8 ∷ 50 ∷ 51 ∷ 68 ∷ []) c ≡ false) refl refl refl refl refl refl refl refl refl refl refl refl
 
 -- a request has no fault, or one of seven
 pub fault-codes : (params : List ℕ) → oneOf (0 ∷ 1 ∷ 2 ∷ 3 ∷ 4 ∷ 5 ∷ 31 ∷ 32 ∷ []) ((requestRead params) .fault) ≡ true
 unfolding oneOf
 fault-codes = fault-by (λ (c : ℕ). oneOf (0 ∷ 1 ∷ 2 ∷ 3 ∷ 4 ∷ 5 ∷ 31 ∷ 32 ∷ []) c ≡ true) refl refl refl refl refl refl refl refl
+
+-- so its answer has the number that was found at fault
+pub fault-kept : (params : List ℕ) → ((requestRead params) .fault ≡ 0 → ⊥) → faultCode ((requestRead params) .fault) ≡ (requestRead params) .fault
+unfolding faultCode isFault
+fault-kept = fault-by (λ (c : ℕ). (c ≡ 0 → ⊥) → faultCode c ≡ c) (λ n. absurd (n refl)) (λ _. refl) (λ _. refl) (λ _. refl) (λ _. refl) (λ _. refl) (λ _. refl) (λ _. refl)
 
 -- ---- a delivery
 abbrev pub asks : List ℕ → Action
@@ -55,22 +60,25 @@ asks params = (requestRead params) .asked .action
 
 module _ (g : Gate) (t : Rows) (clock params : List ℕ) where
   abbrev plan : Plan
-  plan = planOf g (recordsOf t (g .used)) (length (t .nums)) ((requestRead params) .asked)
+  plan = planOf g (recordsOf t (g .used)) (length (t .nums)) ((requestRead params) .fault) ((requestRead params) .asked)
 
   abbrev after : Changed
   after = changed (plan .decided .change) g (recordsOf t (g .used)) clock ((requestRead params) .asked) plan
 
-  -- the answer to a request: of its own action, with its fault, or else with what is decided and the record that this concerns
+  -- the answer to a request: of its own action, with what is decided and the record that this concerns
   abbrev pub answerTo : Answer
-  answerTo = cond (eqb ((requestRead params) .fault) 0) (answerOf (asks params) (plan .decided .code) (after .subject) clock) (answerOf (asks params) ((requestRead params) .fault) noRecord clock)
+  answerTo = answerOf (asks params) (plan .decided .code) (after .subject) clock
 
   plan-told : tableGood g t ≡ true → isWritten clock ≡ true → Told clock (asks params) (plan .decided .code) (after .subject)
   unfolding planOf planWith
   plan-told good dated =
-      go ((decision (asks params) s v) .change)
+      go ((decision fault (asks params) s v) .change)
       (decided-told clock dated r (makeRecord g clock q) (revoked clock r) (unfold makeRecord nextAuthcode in omega (arith, used-few g t good)) (unfold makeRecord in refl) (unfold revoked in refl) (unfold revoked in refl)
-      (asks params) s v (known-found g t good (q .receipt) f refl))
+      fault (asks params) s v (known-found g t good (q .receipt) f refl))
     where
+      fault : ℕ
+      fault = (requestRead params) .fault
+
       q : Asked
       q = (requestRead params) .asked
 
@@ -86,8 +94,8 @@ module _ (g : Gate) (t : Rows) (clock params : List ℕ) where
       v : View
       v = viewOf g (length (t .nums)) q r (accountOf g q r)
 
-      go : (c : Change) → Told clock (asks params) ((decision (asks params) s v) .code) (subject r (makeRecord g clock q) (revoked clock r) c)
-          → Told clock (asks params) ((decision (asks params) s v) .code) ((changed c g (recordsOf t (g .used)) clock q (planWith g (length (t .nums)) q f r)) .subject)
+      go : (c : Change) → Told clock (asks params) ((decision fault (asks params) s v) .code) (subject r (makeRecord g clock q) (revoked clock r) c)
+          → Told clock (asks params) ((decision fault (asks params) s v) .code) ((changed c g (recordsOf t (g .used)) clock q (planWith g (length (t .nums)) fault q f r)) .subject)
       go Keep k = unfold changed planWith in k
       go Append k = unfold changed in k
       go Revoke k = unfold changed planWith in k
@@ -107,14 +115,12 @@ module _ (g : Gate) (t : Rows) (clock params out : List ℕ) where
       → ((c : ℕ) (r : Record) (g′ : Gate) (t′ : Rows) → 512 ≤ length out → Told clock (asks params) c r → answer ≡ gives c r
       → P (record { code = c; gate = g′; rows = t′; out = written out 0 (answerBytes (gives c r)); size = cursorAfter out 0 (answerBytes (gives c r)) }))
       → P delivery
-  unfolding deliver deliverRead respond
+  unfolding deliver respond
   answer-cases P table room date given =
       cond-elim P (tableGood g t) _ _
       (λ good. cond-elim P (leb 512 (length out)) _ _
       (λ l. cond-elim P (isWritten clock) _ _
-      (λ dated. cond-elim P (eqb ((requestRead params) .fault) 0) _ _
-      (λ z. given (plan g t clock params .decided .code) (after g t clock params .subject) _ _ (leb-true 512 (length out) l) (plan-told g t clock params good dated) (rw z refl))
-      (λ z. given ((requestRead params) .fault) noRecord g t (leb-true 512 (length out) l) (fault-told clock dated (asks params) params z) (rw z refl)))
+      (λ dated. given (plan g t clock params .decided .code) (after g t clock params .subject) _ _ (leb-true 512 (length out) l) (plan-told g t clock params good dated) refl)
       (λ _. date))
       (λ _. room))
       (λ _. table)
@@ -177,12 +183,10 @@ module _ (g : Gate) (t : Rows) (clock params out : List ℕ) where
   never-eight e = no-claim (ap (λ (c : ℕ). oneOf answerCodes c || isSilent c) (sym e) ∙ codes-of)
 
   -- ---- the call's own codes, each exactly where its test fails first
-  answered-code : (n : ℕ) → oneOf answerCodes n ≡ false → tableGood g t ≡ true → isWritten clock ≡ true → eqb ((deliverRead g t clock (requestRead params) out) .code) n ≡ false
-  unfolding deliverRead respond
+  answered-code : (n : ℕ) → oneOf answerCodes n ≡ false → tableGood g t ≡ true → isWritten clock ≡ true → eqb ((respond g t clock ((requestRead params) .fault) ((requestRead params) .asked) out) .code) n ≡ false
+  unfolding respond
   answered-code n h good dated =
-      cond-elim (λ (d : Delivered). eqb (d .code) n ≡ false) (eqb ((requestRead params) .fault) 0) _ _
-      (λ _. not-in (plan g t clock params .decided .code) n (plan-told g t clock params good dated .listed) h)
-      (λ z. not-in ((requestRead params) .fault) n (fault-told clock dated (asks params) params z .listed) h)
+      not-in (plan g t clock params .decided .code) n (plan-told g t clock params good dated .listed) h
 
   own-code : (n : ℕ) → oneOf answerCodes n ≡ false
       → eqb (delivery .code) n ≡ cond (tableGood g t) (cond (leb 512 (length out)) (cond (isWritten clock) false (eqb 51 n)) (eqb 50 n)) (eqb 68 n)
@@ -190,7 +194,7 @@ module _ (g : Gate) (t : Rows) (clock params out : List ℕ) where
   own-code n h = go (tableGood g t) (leb 512 (length out)) (isWritten clock) refl refl
     where
       go : (a b c : Bool) → tableGood g t ≡ a → isWritten clock ≡ c
-          → eqb ((cond a (cond b (cond c (deliverRead g t clock (requestRead params) out) (undelivered 51 g t out)) (undelivered 50 g t out)) (undelivered 68 g t out)) .code) n
+          → eqb ((cond a (cond b (cond c (respond g t clock ((requestRead params) .fault) ((requestRead params) .asked) out) (undelivered 51 g t out)) (undelivered 50 g t out)) (undelivered 68 g t out)) .code) n
           ≡ cond a (cond b (cond c false (eqb 51 n)) (eqb 50 n)) (eqb 68 n)
       go false b c ea ec = refl
       go true false c ea ec = refl

@@ -255,7 +255,7 @@ module _ (g : Gate) (t : Rows) (ready : Ready g t) (good : tableGood g t ≡ tru
     delivered-near : Near ((deliver g t clock params out) .gate)
     delivered-near =
         delivered-by g t clock params out (λ (d : Delivered). Near (d .gate)) (λ code left size. bound)
-        (λ _ _ _. outcome-near clock ((requestRead params) .asked) (respond g t clock ((requestRead params) .asked) out) (outcome g t clock ((requestRead params) .asked) out) room)
+        (λ _ _. outcome-near clock ((requestRead params) .asked) (respond g t clock ((requestRead params) .fault) ((requestRead params) .asked) out) (outcome g t clock ((requestRead params) .fault) ((requestRead params) .asked) out) room)
 
     -- 5: a delivery keeps row 68 where its account has room for a payment
     pub call-good : tableGood ((deliver g t clock params out) .gate) ((deliver g t clock params out) .rows) ≡ true

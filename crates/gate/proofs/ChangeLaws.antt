@@ -79,14 +79,14 @@ pub used-more : (x y : Gate) (n : ℕ) → x ≡ y → record { accounts = x .ac
 used-more x y n e = ap (λ (z : Gate). withUsed z n) e
 
 -- ---- what a plan gives the change
-module _ (g : Gate) (t : Rows) (q : Asked) (p : Plan) (is : p ≡ planOf g (recordsOf t (g .used)) (length (t .nums)) q) where
+module _ (g : Gate) (t : Rows) (fault : ℕ) (q : Asked) (p : Plan) (is : p ≡ planOf g (recordsOf t (g .used)) (length (t .nums)) fault q) where
   pub plan-room : p .decided .change ≡ Append → g .used < length (t .nums)
   unfolding planOf planWith viewOf isFull
   plan-room h =
       let r : Record = recordFound (recordsOf t (g .used)) (findRecord (q .receipt) (recordsOf t (g .used))) in
       let f : Found = findRecord (q .receipt) (recordsOf t (g .used)) in
       let z : leb (length (t .nums)) (g .used) ≡ false =
-      (append-of (q .action) (standingOf f r) (viewOf g (length (t .nums)) q r (accountOf g q r)) (sym (ap (λ (x : Plan). x .decided .change) is) ∙ h)) .room in
+      (append-of fault (q .action) (standingOf f r) (viewOf g (length (t .nums)) q r (accountOf g q r)) (sym (ap (λ (x : Plan). x .decided .change) is) ∙ h)) .room in
       leb-false (length (t .nums)) (g .used) z
 
   pub plan-found : tableGood g t ≡ true → Within (p .found) (g .used)

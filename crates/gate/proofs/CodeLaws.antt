@@ -1,7 +1,8 @@
 -- The codes of decisions and faults, and what an answer tells by them: an authcode in its range and a date that is one.
 use Prim.Native.Nat.{ℕ, _≤_, _<_}
 use native.Mathlib.Omega.{arith}
-use mathlib.Core.Path.{_≡_, refl, sym, ap, _∙_}
+use native.Mathlib.Decide.{ℕ-discrete}
+use mathlib.Core.Path.{_≡_, refl, sym, ap, subst, _∙_}
 use mathlib.Core.Bool.{Bool, true, false, cond, not, _||_}
 use mathlib.Core.List.{List, [], _∷_}
 use lib.Dec.{eqb, leb}
@@ -10,7 +11,8 @@ use borrow.Author.Tests.{eqb-true}
 use Rattle.fields.specs.declared.digits.Digits.{Digits}
 use Rattle.fields.specs.declared.digits.Digits.the-variants.{Value, Malformed}
 use Rattle.fields.specs.Lists.{written}
-use Rattle.fields.specs.Digits.{faultOf}
+use Rattle.fields.specs.Digits.{within, faultOf}
+use Rattle.fields.proofs.DigitLaws.{within-low, within-high}
 use Rattle.fields.specs.Date.{isWritten, emptyDate}
 use Rattle.fields.proofs.Tests.{and-right, cond-elim, no-claim}
 use Rattle.fields.proofs.DateLaws.{written-parts}
@@ -39,8 +41,9 @@ use Rattle.gate.specs.declared.decision.View.{View}
 use Rattle.gate.specs.declared.decision.Change.{Change}
 use Rattle.gate.specs.declared.decision.Change.the-variants.{Keep, Append, Revoke}
 use Rattle.gate.specs.declared.decision.Decided.{Decided}
-use Rattle.gate.specs.Decision.{checkCode, paymentNew, cancelDone, decision}
+use Rattle.gate.specs.Decision.{checkCode, paymentNew, cancelDone, decisionOn, isFault, faultCode, decision}
 use Rattle.gate.specs.Deliver.{noRecord, recordFound, standingOf, isCancel, revoked, answersAuthcode, answersDate, answerDate, answerOf}
+use Rattle.gate.proofs.OutcomeLaws.{decision-cases}
 use Rattle.gate.proofs.GoodLaws.{record-good, used-few}
 use Rattle.gate.proofs.KeptLaws.{RecordParts, parts-of}
 
@@ -70,19 +73,56 @@ module _ (P : ℕ → Type 0) (zero : P 0) (two : P 2) (five : P 5) (six : P 6) 
   abbrev PD : Decided → Type 0
   PD d = P (d .code)
 
-  pub decision-by : (a : Action) (s : Standing) (v : View) → P ((decision a s v) .code)
-  unfolding decision checkCode paymentNew cancelDone
-  decision-by Check s v = cond-elim P (v .known) _ _ (λ _. cond-elim P (v .full) _ _ (λ _. thirty) (λ _. zero)) (λ _. two)
-  decision-by Payment Unrecorded v =
+  decision-on : (a : Action) (s : Standing) (v : View) → P ((decisionOn a s v) .code)
+  unfolding decisionOn checkCode paymentNew cancelDone
+  decision-on Check s v = cond-elim P (v .known) _ _ (λ _. cond-elim P (v .full) _ _ (λ _. thirty) (λ _. zero)) (λ _. two)
+  decision-on Payment Unrecorded v =
       cond-elim PD (v .closed) _ _ (λ _. five) (λ _. cond-elim PD (v .known) _ _ (λ _. cond-elim PD (v .full) _ _ (λ _. thirty) (λ _. zero)) (λ _. two))
-  decision-by Payment Done v = zero
-  decision-by Payment Cancelled v = seven
-  decision-by Status Unrecorded v = six
-  decision-by Status Done v = zero
-  decision-by Status Cancelled v = seven
-  decision-by Cancel Unrecorded v = nine
-  decision-by Cancel Done v = cond-elim PD (v .closed) _ _ (λ _. nine) (λ _. cond-elim PD (v .short) _ _ (λ _. nine) (λ _. zero))
-  decision-by Cancel Cancelled v = zero
+  decision-on Payment Done v = zero
+  decision-on Payment Cancelled v = seven
+  decision-on Status Unrecorded v = six
+  decision-on Status Done v = zero
+  decision-on Status Cancelled v = seven
+  decision-on Cancel Unrecorded v = nine
+  decision-on Cancel Done v = cond-elim PD (v .closed) _ _ (λ _. nine) (λ _. cond-elim PD (v .short) _ _ (λ _. nine) (λ _. zero))
+  decision-on Cancel Cancelled v = zero
+
+-- ---- the codes of a fault
+module _ (P : ℕ → Type 0) (one : P 1) (two : P 2) (three : P 3) (four : P 4) (five : P 5) (most : P 31) (reason : P 32) where
+  pick : (n f : ℕ) → P n → ((f ≡ n → ⊥) → P f) → P f
+  pick n f p other = go (ℕ-discrete f n)
+    where
+      go : Dec (f ≡ n) → P f
+      go (yes e) = subst P (sym e) p
+      go (no d) = other d
+
+  among : (f : ℕ) → isFault f ≡ true → P f
+  unfolding isFault
+  among f h =
+      pick 1 f one (λ a. pick 2 f two (λ b. pick 3 f three (λ c. pick 4 f four (λ d. pick 5 f five (λ e. pick 31 f most (λ m. pick 32 f reason (λ r. none a b c d e m r)))))))
+    where
+      low : 1 ≤ f → f ≤ 5 → (f ≡ 1 → ⊥) → (f ≡ 2 → ⊥) → (f ≡ 3 → ⊥) → (f ≡ 4 → ⊥) → (f ≡ 5 → ⊥) → ⊥
+      low l h a b c d e = omega arith
+
+      high : 31 ≤ f → f ≤ 32 → (f ≡ 31 → ⊥) → (f ≡ 32 → ⊥) → ⊥
+      high l h m r = omega arith
+
+      none : (f ≡ 1 → ⊥) → (f ≡ 2 → ⊥) → (f ≡ 3 → ⊥) → (f ≡ 4 → ⊥) → (f ≡ 5 → ⊥) → (f ≡ 31 → ⊥) → (f ≡ 32 → ⊥) → P f
+      none a b c d e m r = absurd (go (within 1 5 f) refl)
+        where
+          go : (z : Bool) → within 1 5 f ≡ z → ⊥
+          go true z = low (within-low 1 5 f z) (within-high 1 5 f z) a b c d e
+          go false z = let w : within 31 32 f ≡ true = rw z at h in high (within-low 31 32 f w) (within-high 31 32 f w) m r
+
+  pub fault-code-by : (f : ℕ) → P (faultCode f)
+  unfolding faultCode
+  fault-code-by f = cond-elim P (isFault f) f 31 (λ h. among f h) (λ _. most)
+
+-- ---- the codes of a decision, whatever it is made from
+module _ (P : ℕ → Type 0) (zero : P 0) (one : P 1) (two : P 2) (three : P 3) (four : P 4) (five : P 5) (six : P 6) (seven : P 7) (nine : P 9) (thirty : P 30) (most : P 31) (reason : P 32) where
+  pub decision-by : (f : ℕ) (a : Action) (s : Standing) (v : View) → P ((decision f a s v) .code)
+  decision-by f a s v =
+      decision-cases (λ (d : Decided). P (d .code)) f a s v (λ _. decision-on P zero two five six seven nine thirty a s v) (λ _. fault-code-by P one two three four five most reason f)
 
 -- ---- the faults of a request
 module _ (P : ℕ → Type 0) (none : P 0) (one : P 1) (two : P 2) (three : P 3) (four : P 4) (five : P 5) (most : P 31) (reason : P 32) where
@@ -155,43 +195,49 @@ module _ (clock : List ℕ) (dated : isWritten clock ≡ true) where
   unfolding answersDate
   check-told c r l s m n = record { listed = l; loud = s; small = m; auth = n; date = λ e. no-claim e }
 
-  pub fault-told : (a : Action) (params : List ℕ) → eqb ((requestRead params) .fault) 0 ≡ false → Told clock a ((requestRead params) .fault) noRecord
+  fault-told : (a : Action) (f : ℕ) (r : Record) → r .authcode ≤ 999999999999999 → Told clock a (faultCode f) r
   unfolding oneOf
-  fault-told a = fault-by P (λ e. no-claim (sym e)) (one 1 refl refl (omega arith) refl refl) (one 2 refl refl (omega arith) refl refl) (one 3 refl refl (omega arith) refl refl) (one 4 refl refl (omega arith) refl refl) (one 5 refl refl (omega arith) refl refl) (one 31 refl refl (omega arith) refl refl) (one 32 refl refl (omega arith) refl refl)
+  fault-told a f r n =
+      fault-code-by (λ (c : ℕ). Told clock a c r) (one 1 refl refl (omega arith) refl refl) (one 2 refl refl (omega arith) refl refl) (one 3 refl refl (omega arith) refl refl) (one 4 refl refl (omega arith) refl refl)
+      (one 5 refl refl (omega arith) refl refl)
+      (one 31 refl refl (omega arith) refl refl)
+      (one 32 refl refl (omega arith) refl refl)
+      f
     where
-      P : ℕ → Type 0
-      P c = eqb c 0 ≡ false → Told clock a c noRecord
-
-      one : (c : ℕ) → oneOf answerCodes c ≡ true → isSilent c ≡ false → c ≤ 9999 → eqb c 0 ≡ false → eqb c 7 ≡ false → P c
-      one c l s m z v e = told a c noRecord l s m (omega arith) (clock-told a c noRecord z v)
+      one : (c : ℕ) → oneOf answerCodes c ≡ true → isSilent c ≡ false → c ≤ 9999 → eqb c 0 ≡ false → eqb c 7 ≡ false → Told clock a c r
+      one c l s m z v = told a c r l s m n (clock-told a c r z v)
 
   module _ (r new gone : Record) (fresh : new .authcode ≤ 999999999999999) (credit : new .credit ≡ clock) (same : gone .authcode ≡ r .authcode) (cancel : gone .cancel ≡ clock) where
     abbrev Tells : Action → Decided → Type 0
     Tells a d = Told clock a (d .code) (subject r new gone (d .change))
 
-    pub decided-told : (a : Action) (s : Standing) (v : View) → Known-of s r → Tells a (decision a s v)
-    unfolding oneOf decision checkCode paymentNew cancelDone answerDate isCancel
-    decided-told Check s v k =
+    told-on : (a : Action) (s : Standing) (v : View) → Known-of s r → Tells a (decisionOn a s v)
+    unfolding oneOf decisionOn checkCode paymentNew cancelDone answerDate isCancel
+    told-on Check s v k =
         cond-elim (λ (c : ℕ). Told clock Check c r) (v .known) _ _
         (λ _. cond-elim (λ (c : ℕ). Told clock Check c r) (v .full) _ _ (λ _. check-told 30 r refl refl (omega arith) (k .auth)) (λ _. check-told 0 r refl refl (omega arith) (k .auth)))
         (λ _. check-told 2 r refl refl (omega arith) (k .auth))
-    decided-told Payment Unrecorded v k =
+    told-on Payment Unrecorded v k =
         cond-elim (Tells Payment) (v .closed) _ _ (λ _. told Payment 5 r refl refl (omega arith) (k .auth) dated)
         (λ _. cond-elim (Tells Payment) (v .known) _ _
         (λ _. cond-elim (Tells Payment) (v .full) _ _ (λ _. told Payment 30 r refl refl (omega arith) (k .auth) dated)
         (λ _. told Payment 0 new refl refl (omega arith) fresh (ap isWritten credit ∙ dated)))
         (λ _. told Payment 2 r refl refl (omega arith) (k .auth) dated))
-    decided-told Payment Done v k = told Payment 0 r refl refl (omega arith) (k .auth) (k .done refl)
-    decided-told Payment Cancelled v k = told Payment 7 r refl refl (omega arith) (k .auth) (k .void refl)
-    decided-told Status Unrecorded v k = told Status 6 r refl refl (omega arith) (k .auth) dated
-    decided-told Status Done v k = told Status 0 r refl refl (omega arith) (k .auth) (k .done refl)
-    decided-told Status Cancelled v k = told Status 7 r refl refl (omega arith) (k .auth) (k .void refl)
-    decided-told Cancel Unrecorded v k = told Cancel 9 r refl refl (omega arith) (k .auth) dated
-    decided-told Cancel Done v k =
+    told-on Payment Done v k = told Payment 0 r refl refl (omega arith) (k .auth) (k .done refl)
+    told-on Payment Cancelled v k = told Payment 7 r refl refl (omega arith) (k .auth) (k .void refl)
+    told-on Status Unrecorded v k = told Status 6 r refl refl (omega arith) (k .auth) dated
+    told-on Status Done v k = told Status 0 r refl refl (omega arith) (k .auth) (k .done refl)
+    told-on Status Cancelled v k = told Status 7 r refl refl (omega arith) (k .auth) (k .void refl)
+    told-on Cancel Unrecorded v k = told Cancel 9 r refl refl (omega arith) (k .auth) dated
+    told-on Cancel Done v k =
         cond-elim (Tells Cancel) (v .closed) _ _ (λ _. told Cancel 9 r refl refl (omega arith) (k .auth) dated)
         (λ _. cond-elim (Tells Cancel) (v .short) _ _ (λ _. told Cancel 9 r refl refl (omega arith) (k .auth) dated)
         (λ _. told Cancel 0 gone refl refl (omega arith) (omega (arith, same, k .auth)) (ap isWritten cancel ∙ dated)))
-    decided-told Cancel Cancelled v k = told Cancel 0 r refl refl (omega arith) (k .auth) (k .void refl)
+    told-on Cancel Cancelled v k = told Cancel 0 r refl refl (omega arith) (k .auth) (k .void refl)
+
+    -- what is decided for any fault, action, standing and view is told
+    pub decided-told : (f : ℕ) (a : Action) (s : Standing) (v : View) → Known-of s r → Tells a (decision f a s v)
+    decided-told f a s v k = decision-cases (Tells a) f a s v (λ _. told-on a s v k) (λ _. fault-told a f r (k .auth))
 
 -- ---- the record that a request finds
 -- a record that is good and not done has the date of its cancel

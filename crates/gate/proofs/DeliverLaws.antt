@@ -6,7 +6,7 @@ use mathlib.Core.Bool.{Bool, true, false, cond, not}
 use mathlib.Core.List.{List}
 use lib.Dec.{eqb, leb}
 use lib.ListN.{length, getD}
-use borrow.Author.Tests.{not-true, not-false, le-leb, lt-leb, eq-eqb, ne-eqb}
+use borrow.Author.Tests.{not-true, not-false, le-leb, lt-leb}
 use Rattle.fields.specs.Lists.{written, cursorAfter}
 use Rattle.fields.specs.Date.{isWritten}
 use Rattle.message.specs.declared.action.Action.{Action}
@@ -32,23 +32,15 @@ use Rattle.table.specs.declared.Gate.{Gate}
 use Rattle.table.specs.Table.{Rows, recordsOf, rowsFrom}
 use Rattle.table.specs.Valid.{tableGood}
 use Rattle.gate.specs.declared.plan.Plan.{Plan}
-use Rattle.gate.specs.Deliver.{noRecord, planOf, changed, Made, answerOf, Delivered, answered, respond, deliverRead, deliver}
+use Rattle.gate.specs.Deliver.{planOf, changed, Made, answerOf, Delivered, answered, respond, deliver}
 
-pub asked-answered : (g : Gate) (t : Rows) (clock : List ℕ) (q : Asked) (out : List ℕ) (p : Plan) (gate : Gate) (subject : Record) (rows : Rows) (x : Answer) (left : List ℕ) (size : ℕ)
-    → p ≡ planOf g (recordsOf t (g .used)) (length (t .nums)) q
+pub asked-answered : (g : Gate) (t : Rows) (clock : List ℕ) (fault : ℕ) (q : Asked) (out : List ℕ) (p : Plan) (gate : Gate) (subject : Record) (rows : Rows) (x : Answer) (left : List ℕ) (size : ℕ)
+    → p ≡ planOf g (recordsOf t (g .used)) (length (t .nums)) fault q
     → Made t (changed (p .decided .change) g (recordsOf t (g .used)) clock q p) gate subject rows
     → x ≡ answerOf (q .action) (p .decided .code) subject clock → size ≡ cursorAfter out 0 (answerBytes x) → left ≡ written out 0 (answerBytes x)
-    → _≡_ {A = Delivered} (record { code = p .decided .code; gate = gate; rows = rows; out = left; size = size }) (respond g t clock q out)
+    → _≡_ {A = Delivered} (record { code = p .decided .code; gate = gate; rows = rows; out = left; size = size }) (respond g t clock fault q out)
 unfolding respond
-asked-answered g t clock q out p gate subject rows x left size ep made ex es el = rw (← ep, el, es, ex, made .subjects, made .gates, made .left)
-
-pub fault-answered : (a : Action) (fault : ℕ) (clock out left : List ℕ) (r : Record) (x : Answer) → r ≡ noRecord → x ≡ answerOf a fault r clock → left ≡ written out 0 (answerBytes x)
-    → left ≡ written out 0 (answerBytes (answerOf a fault noRecord clock))
-fault-answered a fault clock out left r x er ex el = el ∙ rw (ex, er)
-
-pub fault-size : (a : Action) (fault : ℕ) (clock out : List ℕ) (size : ℕ) (r : Record) (x : Answer) → r ≡ noRecord → x ≡ answerOf a fault r clock → size ≡ cursorAfter out 0 (answerBytes x)
-    → size ≡ cursorAfter out 0 (answerBytes (answerOf a fault noRecord clock))
-fault-size a fault clock out size r x er ex es = es ∙ rw (ex, er)
+asked-answered g t clock fault q out p gate subject rows x left size ep made ex es el = rw (← ep, el, es, ex, made .subjects, made .gates, made .left)
 
 -- ---- the ways out of a delivery
 module _ (g : Gate) (t : Rows) (clock params out : List ℕ) where
@@ -68,20 +60,9 @@ module _ (g : Gate) (t : Rows) (clock params out : List ℕ) where
 
   -- a request that was read
   pub read-done : (b : Bool) → b ≡ tableGood g t → not b ≡ false → 512 ≤ length out → (w : Bool) → w ≡ isWritten clock → not w ≡ false → (q : RequestRead) → q ≡ requestRead params
-      → (d : Delivered) → d ≡ deliverRead g t clock q out → d ≡ deliver g t clock params out
+      → (d : Delivered) → d ≡ respond g t clock (q .fault) (q .asked) out → d ≡ deliver g t clock params out
   unfolding deliver
   read-done b eb h l w ew n q eq d e = e ∙ rw (← eb, not-false b h, le-leb _ _ l, ← ew, not-false w n, ← eq)
-
-  module _ (q : RequestRead) where
-    pub read-refused : (q .fault ≡ 0 → ⊥) → (rows : Rows) → rows ≡ t → (left : List ℕ) → left ≡ written out 0 (answerBytes (answerOf (q .asked .action) (q .fault) noRecord clock))
-        → (size : ℕ) → size ≡ cursorAfter out 0 (answerBytes (answerOf (q .asked .action) (q .fault) noRecord clock))
-        → _≡_ {A = Delivered} (record { code = q .fault; gate = g; rows = rows; out = left; size = size }) (deliverRead g t clock q out)
-    unfolding deliverRead
-    read-refused f rows er left el size es = rw (ne-eqb _ _ f, er, el, es)
-
-    pub read-answered : q .fault ≡ 0 → (d : Delivered) → d ≡ respond g t clock (q .asked) out → d ≡ deliverRead g t clock q out
-    unfolding deliverRead
-    read-answered f d e = e ∙ rw (eq-eqb _ _ f)
 
 -- ---- an amount that was read is in its range
 held-amount : (used : Bool) (k : Slot) → valueIn (fieldOf used (Value 0) Malformed amountRead k) < 1000000000

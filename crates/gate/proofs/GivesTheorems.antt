@@ -31,8 +31,8 @@ use Rattle.table.specs.Valid.{tableGood}
 use Rattle.table.proofs.TableLaws.{length-records, getD-records, receipt-within, from-at, rows-as}
 use Rattle.gate.specs.declared.decision.Change.the-variants.{Append, Revoke}
 use Rattle.gate.specs.declared.plan.Plan.{Plan}
-use Rattle.gate.specs.Decision.{paymentNew, cancelDone, decision}
-use Rattle.gate.specs.Deliver.{noRecord, dateClosed, isCancel, accountOf, dateOf, isFull, viewOf, planWith, planOf, makeRecord, revoked, debitedAt, changed, respondBy, respond, deliverRead, deliver, Delivered}
+use Rattle.gate.specs.Decision.{paymentNew, cancelDone, decisionOn, decision}
+use Rattle.gate.specs.Deliver.{noRecord, dateClosed, isCancel, accountOf, dateOf, isFull, viewOf, planWith, planOf, makeRecord, revoked, debitedAt, changed, respondBy, respond, deliver, Delivered}
 use Rattle.gate.specs.Opening.{replies, openTo, openCall, drawOn, drawFrom, drawCall}
 use Rattle.gate.proofs.CallLaws.{newAccount, opened-other, opened-new}
 use Rattle.gate.proofs.OutcomeLaws.{Outcome, stays, appends, revokes, outcome}
@@ -106,16 +106,16 @@ module _ (g : Gate) (t : Rows) (clock : List ℕ) (q : Asked) (out : List ℕ) w
   rs = recordsOf t (g .used)
 
   abbrev planned : Plan
-  planned = planOf g rs (length (t .nums)) q
+  planned = planOf g rs (length (t .nums)) 0 q
 
   plan-pays : (a : ℕ) → q .action ≡ Payment → findRecord (q .receipt) rs ≡ Nothing → dateClosed g (q .date) ≡ false
       → findAccount (q .number) (q .kind) (accountsOf g) ≡ At a → g .used < length (t .nums)
       → planned ≡ record { decided = record { code = 0; change = Append }; found = Nothing; payment = noRecord; account = At a }
-  unfolding planOf planWith decision paymentNew viewOf accountOf dateOf isCancel isFull
+  unfolding planOf planWith decision decisionOn paymentNew viewOf accountOf dateOf isCancel isFull
   plan-pays a ea new day found room = rw (ea, new, day, found, lt-leb (length (t .nums)) (g .used) room) refl
 
   respond-pays : (a : ℕ) → q .action ≡ Payment → findRecord (q .receipt) rs ≡ Nothing → dateClosed g (q .date) ≡ false
-      → findAccount (q .number) (q .kind) (accountsOf g) ≡ At a → g .used < length (t .nums) → Paid g t clock q a (respond g t clock q out)
+      → findAccount (q .number) (q .kind) (accountsOf g) ≡ At a → g .used < length (t .nums) → Paid g t clock q a (respond g t clock 0 q out)
   unfolding respond changed
   respond-pays a ea new day found room =
       subst (λ (p : Plan). Paid g t clock q a (respondBy g t clock q out p)) (sym (plan-pays a ea new day found room))
@@ -127,10 +127,10 @@ module _ (g : Gate) (t : Rows) (clock : List ℕ) (q : Asked) (out : List ℕ) w
     within = receipt-within t (g .used) (q .receipt) i (findRecord (q .receipt) rs) refl there
 
     plan-cancels : planned ≡ record { decided = record { code = 0; change = Revoke }; found = At i; payment = recordAt t i; account = At a }
-    unfolding planOf planWith decision cancelDone viewOf accountOf dateOf isCancel
+    unfolding planOf planWith decision decisionOn cancelDone viewOf accountOf dateOf isCancel
     plan-cancels = rw (ea, there, getD-records t (g .used) i noRecord within, eq-eqb ((recordAt t i) .state) 1 done, day, found, funds) refl
 
-    respond-cancels : Revoked g t clock i a (respond g t clock q out)
+    respond-cancels : Revoked g t clock i a (respond g t clock 0 q out)
     unfolding respond changed
     respond-cancels =
         let gone : Record = revoked clock (recordAt t i) in
@@ -150,8 +150,8 @@ module _ (g : Gate) (t : Rows) (clock params out : List ℕ) (good : tableGood g
   abbrev pub asked : Asked
   asked = (requestRead params) .asked
 
-  responds : deliver g t clock params out ≡ respond g t clock asked out
-  unfolding deliver deliverRead
+  responds : deliver g t clock params out ≡ respond g t clock 0 asked out
+  unfolding deliver
   responds = rw (good, le-leb 512 (length out) size, dated, none) refl
 
   -- a payment that is not recorded, of an open day, to a known account, with a place left, is recorded and credited
@@ -208,7 +208,7 @@ module _ (g : Gate) (t : Rows) (clock : List ℕ) (q : Asked) (d : Delivered) wh
 pub deliver-moves : (g : Gate) (t : Rows) (clock params out : List ℕ) → Moves g t clock ((requestRead params) .asked) (deliver g t clock params out)
 deliver-moves g t clock params out =
     delivered-by g t clock params out (Moves g t clock ((requestRead params) .asked)) (λ code left size. none-moves refl (λ j. refl))
-    (λ good _ _. outcome-moves g t clock ((requestRead params) .asked) (respond g t clock ((requestRead params) .asked) out) good (outcome g t clock ((requestRead params) .asked) out))
+    (λ good _. outcome-moves g t clock ((requestRead params) .asked) (respond g t clock ((requestRead params) .fault) ((requestRead params) .asked) out) good (outcome g t clock ((requestRead params) .fault) ((requestRead params) .asked) out))
 
 -- ---- the same as one equation
 -- an amount, where it goes to account j

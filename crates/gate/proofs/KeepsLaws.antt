@@ -26,7 +26,7 @@ use Rattle.table.specs.Accounts.{accountsOf, findAccount, balanceAt, debited, o
 use Rattle.table.specs.Valid.{tableGood, Ready}
 use Rattle.table.proofs.TableLaws.{rows-kept}
 use Rattle.gate.specs.declared.Reply.{Reply}
-use Rattle.gate.specs.Deliver.{Delivered, undelivered, respond, deliverRead, deliver}
+use Rattle.gate.specs.Deliver.{Delivered, undelivered, respond, deliver}
 use Rattle.gate.specs.Opening.{replies, openTo, openCall, drawOn, drawFrom, drawCall}
 use Rattle.gate.proofs.OutcomeLaws.{Outcome, stays, appends, revokes, outcome}
 
@@ -51,7 +51,7 @@ module _ (g : Gate) (t : Rows) (clock params out : List ℕ) where
   pub refused-keeps : tableGood g t && (leb 512 (length out) && isWritten clock) ≡ false
       → ((deliver g t clock params out) .gate ≡ g) × ((deliver g t clock params out) .rows ≡ t) × ((deliver g t clock params out) .out ≡ out)
   unfolding deliver
-  refused-keeps = go (tableGood g t) (leb 512 (length out)) (isWritten clock) (deliverRead g t clock (requestRead params) out)
+  refused-keeps = go (tableGood g t) (leb 512 (length out)) (isWritten clock) (respond g t clock ((requestRead params) .fault) ((requestRead params) .asked) out)
     where
       go : (a b c : Bool) (x : Delivered) → a && (b && c) ≡ false
           → ((cond a (cond b (cond c x (undelivered 51 g t out)) (undelivered 50 g t out)) (undelivered 68 g t out)) .gate ≡ g)
@@ -62,19 +62,16 @@ module _ (g : Gate) (t : Rows) (clock params out : List ℕ) where
       go true true false x h = (refl, refl, refl)
       go true true true x h = no-claim (sym h)
 
-  -- what holds of every refusal and of every answer to a request read without fault holds of a delivery
+  -- what holds of every refusal and of every answer holds of a delivery
   pub delivered-by : (P : Delivered → Type 0) → ((code : ℕ) (left : List ℕ) (size : ℕ) → P (record { code = code; gate = g; rows = t; out = left; size = size }))
-      → (tableGood g t ≡ true → isWritten clock ≡ true → (requestRead params) .fault ≡ 0 → P (respond g t clock ((requestRead params) .asked) out))
+      → (tableGood g t ≡ true → isWritten clock ≡ true → P (respond g t clock ((requestRead params) .fault) ((requestRead params) .asked) out))
       → P (deliver g t clock params out)
-  unfolding deliver deliverRead
+  unfolding deliver
   delivered-by P keep answer =
-      let q : RequestRead = requestRead params in
       cond-elim P (tableGood g t) _ _
       (λ good. cond-elim P (leb 512 (length out)) _ _
       (λ _. cond-elim P (isWritten clock) _ _
-      (λ dated. cond-elim P (eqb (q .fault) 0) _ _
-      (λ none. answer good dated (eqb-true (q .fault) 0 none))
-      (λ _. keep (q .fault) _ _))
+      (λ dated. answer good dated)
       (λ _. keep 51 out 0))
       (λ _. keep 50 out 0))
       (λ _. keep 68 out 0)
@@ -87,8 +84,8 @@ pub record Kept (g : Gate) (t : Rows) (d : Delivered) : Type 0 where
 
 module _ (g : Gate) (t : Rows) (ready : Ready g t) (clock : List ℕ) where
   -- a decision with a code other than 0 keeps the gate and the rows
-  pub respond-keeps : (q : Asked) (out : List ℕ) → ((respond g t clock q out) .code ≡ 0 → ⊥) → Kept g t (respond g t clock q out)
-  respond-keeps q out = go (respond g t clock q out) (outcome g t clock q out)
+  pub respond-keeps : (fault : ℕ) (q : Asked) (out : List ℕ) → ((respond g t clock fault q out) .code ≡ 0 → ⊥) → Kept g t (respond g t clock fault q out)
+  respond-keeps fault q out = go (respond g t clock fault q out) (outcome g t clock fault q out)
     where
       go : (d : Delivered) → Outcome g t clock q d → (d .code ≡ 0 → ⊥) → Kept g t d
       go d (stays eg er) n = record { gate = eg; rows = er ∙ rows-kept t (g .used) (ready .whole) }
@@ -100,7 +97,7 @@ module _ (g : Gate) (t : Rows) (ready : Ready g t) (clock : List ℕ) where
   fault-keeps params out =
       delivered-by g t clock params out (λ (d : Delivered). (d .code ≡ 0 → ⊥) → Kept g t d)
       (λ code left size n. record { gate = refl; rows = refl })
-      (λ _ _ _. respond-keeps ((requestRead params) .asked) out)
+      (λ _ _. respond-keeps ((requestRead params) .fault) ((requestRead params) .asked) out)
 
 -- ---- the same for opening an account and drawing from one
 -- a code other than 0 keeps the gate

@@ -63,23 +63,23 @@ same-records t n = rw (length-records t n) at (records-from t (recordsOf t n) no
 
 -- ---- a request whose receipt is recorded
 -- its decision never appends: it keeps or revokes
-pub once-decided : (g : Gate) (rs : List Record) (lent : ℕ) (q : Asked) (i : ℕ) → findRecord (q .receipt) rs ≡ At i → (planOf g rs lent q) .decided .change ≡ Append → ⊥
+pub once-decided : (g : Gate) (rs : List Record) (lent fault : ℕ) (q : Asked) (i : ℕ) → findRecord (q .receipt) rs ≡ At i → (planOf g rs lent fault q) .decided .change ≡ Append → ⊥
 unfolding planOf planWith
-once-decided g rs lent q i known h =
+once-decided g rs lent fault q i known h =
     let f : Found = findRecord (q .receipt) rs in
     let r : Record = recordFound rs f in
-    let b : Appends (q .action) (standingOf f r) (viewOf g lent q r (accountOf g q r)) = append-of (q .action) (standingOf f r) (viewOf g lent q r (accountOf g q r)) h in
+    let b : Appends fault (q .action) (standingOf f r) (viewOf g lent q r (accountOf g q r)) = append-of fault (q .action) (standingOf f r) (viewOf g lent q r (accountOf g q r)) h in
     let y : At i ≡ Nothing = sym known ∙ missing-of f r (b .standing) in
     let z : _≡_ {A = ℕ} 0 1 = cc in
     omega arith
 
-module _ (g : Gate) (t : Rows) (clock : List ℕ) (q : Asked) (out : List ℕ) (i : ℕ) (known : findRecord (q .receipt) (recordsOf t (g .used)) ≡ At i) where
+module _ (g : Gate) (t : Rows) (clock : List ℕ) (fault : ℕ) (q : Asked) (out : List ℕ) (i : ℕ) (known : findRecord (q .receipt) (recordsOf t (g .used)) ≡ At i) where
   absent : {A : Type 0} → findRecord (q .receipt) (recordsOf t (g .used)) ≡ Nothing → A
   absent e = let y : At i ≡ Nothing = sym known ∙ e in let z : _≡_ {A = ℕ} 0 1 = cc in absurd (omega arith)
 
   -- the number of records stays
-  pub once-used : (respond g t clock q out) .gate .used ≡ g .used
-  once-used = go (respond g t clock q out) (outcome g t clock q out)
+  pub once-used : (respond g t clock fault q out) .gate .used ≡ g .used
+  once-used = go (respond g t clock fault q out) (outcome g t clock fault q out)
     where
       go : (d : Delivered) → Outcome g t clock q d → d .gate .used ≡ g .used
       go d (stays eg er) = ap (λ (x : Gate). x .used) eg
@@ -87,8 +87,8 @@ module _ (g : Gate) (t : Rows) (clock : List ℕ) (q : Asked) (out : List ℕ) (
       go d (revokes k r f ea ek er ef es day fu ec eg el) = ap (λ (x : Gate). x .used) eg ∙ debit-used g f (r .amount)
 
   -- no balance goes up
-  pub once-balance : (j : ℕ) → balanceAt ((respond g t clock q out) .gate) j ≤ℤ balanceAt g j
-  once-balance j = go (respond g t clock q out) (outcome g t clock q out)
+  pub once-balance : (j : ℕ) → balanceAt ((respond g t clock fault q out) .gate) j ≤ℤ balanceAt g j
+  once-balance j = go (respond g t clock fault q out) (outcome g t clock fault q out)
     where
       go : (d : Delivered) → Outcome g t clock q d → balanceAt (d .gate) j ≤ℤ balanceAt g j
       go d (stays eg er) = rw eg (≤ℤ-refl (balanceAt g j))
@@ -97,8 +97,8 @@ module _ (g : Gate) (t : Rows) (clock : List ℕ) (q : Asked) (out : List ℕ) (
 
   -- a payment sent again leaves the gate and the records exactly as they were
   pub once-payment : q .action ≡ Payment
-      → ((respond g t clock q out) .gate ≡ g) × (recordsOf ((respond g t clock q out) .rows) (g .used) ≡ recordsOf t (g .used))
-  once-payment p = go (respond g t clock q out) (outcome g t clock q out)
+      → ((respond g t clock fault q out) .gate ≡ g) × (recordsOf ((respond g t clock fault q out) .rows) (g .used) ≡ recordsOf t (g .used))
+  once-payment p = go (respond g t clock fault q out) (outcome g t clock fault q out)
     where
       go : (d : Delivered) → Outcome g t clock q d → (d .gate ≡ g) × (recordsOf (d .rows) (g .used) ≡ recordsOf t (g .used))
       go d (stays eg er) = (eg, ap (λ (x : Rows). recordsOf x (g .used)) er ∙ same-records t (g .used))
@@ -111,10 +111,10 @@ module _ (g : Gate) (t : Rows) (clock params out : List ℕ) (i : ℕ) (known : 
   pub delivered-once : (deliver g t clock params out) .gate .used ≡ g .used
   delivered-once =
       delivered-by g t clock params out (λ (d : Delivered). d .gate .used ≡ g .used) (λ code left size. refl)
-      (λ _ _ _. once-used g t clock ((requestRead params) .asked) out i known)
+      (λ _ _. once-used g t clock ((requestRead params) .fault) ((requestRead params) .asked) out i known)
 
   -- and raises no balance
   pub delivered-balance : (j : ℕ) → balanceAt ((deliver g t clock params out) .gate) j ≤ℤ balanceAt g j
   delivered-balance j =
       delivered-by g t clock params out (λ (d : Delivered). balanceAt (d .gate) j ≤ℤ balanceAt g j) (λ code left size. ≤ℤ-refl (balanceAt g j))
-      (λ _ _ _. once-balance g t clock ((requestRead params) .asked) out i known j)
+      (λ _ _. once-balance g t clock ((requestRead params) .fault) ((requestRead params) .asked) out i known j)

@@ -6,7 +6,8 @@ use mathlib.Core.Bool.{Bool, true, false, cond}
 use mathlib.Core.List.{List, [], _∷_, _++_}
 use lib.Dec.{eqb}
 use lib.ListN.{length, set}
-use borrow.Author.Tests.{leb-false, eqb-true}
+use borrow.Author.Tests.{leb-false, eqb-true, eqb-false}
+use Rattle.fields.proofs.Tests.{cond-elim}
 use Rattle.message.specs.declared.action.Action.{Action}
 use Rattle.message.specs.declared.action.Action.the-variants.{Check, Payment, Status, Cancel}
 use Rattle.message.specs.declared.request.Asked.{Asked}
@@ -23,7 +24,8 @@ use Rattle.gate.specs.declared.decision.View.{View}
 use Rattle.gate.specs.declared.decision.Change.{Change}
 use Rattle.gate.specs.declared.decision.Change.the-variants.{Keep, Append, Revoke}
 use Rattle.gate.specs.declared.plan.Plan.{Plan}
-use Rattle.gate.specs.Decision.{keeps, paymentNew, cancelDone, decision}
+use Rattle.gate.specs.declared.decision.Decided.{Decided}
+use Rattle.gate.specs.Decision.{keeps, paymentNew, cancelDone, decisionOn, isFault, faultCode, decision}
 use Rattle.gate.specs.Deliver.{recordFound, standingOf, dateClosed, isCancel, accountOf, dateOf, isShort, isFull, viewOf, planWith, planOf, makeRecord, revoked, creditedAt, debitedAt, changed, answered, respond, Delivered}
 
 -- ---- changes and standings are told apart
@@ -38,27 +40,29 @@ append-revoke h = let z : _≡_ {A = ℕ} 0 1 = cc in absurd (omega arith)
 
 -- ---- nothing but a payment appends, and nothing but a cancel revokes
 -- a payment without a record, of a day that is not closed, to a known account, with a place left
-pub record Appends (a : Action) (s : Standing) (v : View) : Type 0 where
+pub record Appends (f : ℕ) (a : Action) (s : Standing) (v : View) : Type 0 where
+  pub sound : f ≡ 0
   pub action : a ≡ Payment
   pub standing : s ≡ Unrecorded
-  pub code : (decision a s v) .code ≡ 0
+  pub code : (decision f a s v) .code ≡ 0
   pub unclosed : v .closed ≡ false
   pub known : v .known ≡ true
   pub room : v .full ≡ false
 
 -- a cancel of a payment that is done, of a day that is not closed, with the amount on the account
-pub record Revokes (a : Action) (s : Standing) (v : View) : Type 0 where
+pub record Revokes (f : ℕ) (a : Action) (s : Standing) (v : View) : Type 0 where
+  pub sound : f ≡ 0
   pub action : a ≡ Cancel
   pub standing : s ≡ Done
-  pub code : (decision a s v) .code ≡ 0
+  pub code : (decision f a s v) .code ≡ 0
   pub unclosed : v .closed ≡ false
   pub funds : v .short ≡ false
 
-payment-appends : (v : View) → (paymentNew v) .change ≡ Append → Appends Payment Unrecorded v
-unfolding decision paymentNew
+payment-appends : (v : View) → (paymentNew v) .change ≡ Append → Appends 0 Payment Unrecorded v
+unfolding decision decisionOn paymentNew
 payment-appends v h =
     let p = go (v .closed) (v .known) (v .full) h in
-    record { action = refl; standing = refl; code = p .0; unclosed = p .1; known = p .2; room = p .3 }
+    record { sound = refl; action = refl; standing = refl; code = p .0; unclosed = p .1; known = p .2; room = p .3 }
   where
     go : (c k f : Bool) → (cond c (keeps 5) (cond k (cond f (keeps 30) (record { code = 0; change = Append })) (keeps 2))) .change ≡ Append
         → ((cond c (keeps 5) (cond k (cond f (keeps 30) (record { code = 0; change = Append })) (keeps 2))) .code ≡ 0) × (c ≡ false) × (k ≡ true) × (f ≡ false)
@@ -77,11 +81,11 @@ payment-keeps v h = go (v .closed) (v .known) (v .full) h
     go false true false h = append-revoke h
     go false false f h = not-revoke h
 
-cancel-revokes : (v : View) → (cancelDone v) .change ≡ Revoke → Revokes Cancel Done v
-unfolding decision cancelDone
+cancel-revokes : (v : View) → (cancelDone v) .change ≡ Revoke → Revokes 0 Cancel Done v
+unfolding decision decisionOn cancelDone
 cancel-revokes v h =
     let p = go (v .closed) (v .short) h in
-    record { action = refl; standing = refl; code = p .0; unclosed = p .1; funds = p .2 }
+    record { sound = refl; action = refl; standing = refl; code = p .0; unclosed = p .1; funds = p .2 }
   where
     go : (c s : Bool) → (cond c (keeps 9) (cond s (keeps 9) (record { code = 0; change = Revoke }))) .change ≡ Revoke
         → ((cond c (keeps 9) (cond s (keeps 9) (record { code = 0; change = Revoke }))) .code ≡ 0) × (c ≡ false) × (s ≡ false)
@@ -98,44 +102,56 @@ cancel-keeps v h = go (v .closed) (v .short) h
     go false true h = not-append h
     go false false h = append-revoke (sym h)
 
--- only a payment that has no record, is open, known and finds room appends
-pub append-of : (a : Action) (s : Standing) (v : View) → (decision a s v) .change ≡ Append → Appends a s v
-unfolding decision
-append-of Check s v h = not-append h
-append-of Payment Unrecorded v h = payment-appends v h
-append-of Payment Done v h = not-append h
-append-of Payment Cancelled v h = not-append h
-append-of Status Unrecorded v h = not-append h
-append-of Status Done v h = not-append h
-append-of Status Cancelled v h = not-append h
-append-of Cancel Unrecorded v h = not-append h
-append-of Cancel Done v h = absurd (cancel-keeps v h)
-append-of Cancel Cancelled v h = not-append h
+append-on : (a : Action) (s : Standing) (v : View) → (decisionOn a s v) .change ≡ Append → Appends 0 a s v
+unfolding decisionOn
+append-on Check s v h = not-append h
+append-on Payment Unrecorded v h = payment-appends v h
+append-on Payment Done v h = not-append h
+append-on Payment Cancelled v h = not-append h
+append-on Status Unrecorded v h = not-append h
+append-on Status Done v h = not-append h
+append-on Status Cancelled v h = not-append h
+append-on Cancel Unrecorded v h = not-append h
+append-on Cancel Done v h = absurd (cancel-keeps v h)
+append-on Cancel Cancelled v h = not-append h
 
--- only a cancel of a payment that is done, open and covered revokes
-pub revoke-of : (a : Action) (s : Standing) (v : View) → (decision a s v) .change ≡ Revoke → Revokes a s v
-unfolding decision
-revoke-of Check s v h = not-revoke h
-revoke-of Payment Unrecorded v h = absurd (payment-keeps v h)
-revoke-of Payment Done v h = not-revoke h
-revoke-of Payment Cancelled v h = not-revoke h
-revoke-of Status Unrecorded v h = not-revoke h
-revoke-of Status Done v h = not-revoke h
-revoke-of Status Cancelled v h = not-revoke h
-revoke-of Cancel Unrecorded v h = not-revoke h
-revoke-of Cancel Done v h = cancel-revokes v h
-revoke-of Cancel Cancelled v h = not-revoke h
+revoke-on : (a : Action) (s : Standing) (v : View) → (decisionOn a s v) .change ≡ Revoke → Revokes 0 a s v
+unfolding decisionOn
+revoke-on Check s v h = not-revoke h
+revoke-on Payment Unrecorded v h = absurd (payment-keeps v h)
+revoke-on Payment Done v h = not-revoke h
+revoke-on Payment Cancelled v h = not-revoke h
+revoke-on Status Unrecorded v h = not-revoke h
+revoke-on Status Done v h = not-revoke h
+revoke-on Status Cancelled v h = not-revoke h
+revoke-on Cancel Unrecorded v h = not-revoke h
+revoke-on Cancel Done v h = cancel-revokes v h
+revoke-on Cancel Cancelled v h = not-revoke h
+
+-- what a decision makes of a fault, and of none
+module _ (P : Decided → Type 0) (f : ℕ) (a : Action) (s : Standing) (v : View) where
+  pub decision-cases : (f ≡ 0 → P (decisionOn a s v)) → ((f ≡ 0 → ⊥) → P (keeps (faultCode f))) → P (decision f a s v)
+  unfolding decision
+  decision-cases sound faulty = cond-elim P (eqb f 0) _ _ (λ e. sound (eqb-true f 0 e)) (λ e. faulty (eqb-false f 0 e))
+
+-- only a payment without a fault that has no record, is open, known and finds room appends
+pub append-of : (f : ℕ) (a : Action) (s : Standing) (v : View) → (decision f a s v) .change ≡ Append → Appends f a s v
+append-of f a s v = decision-cases (λ (d : Decided). d .change ≡ Append → Appends f a s v) f a s v (λ e h. rw e (append-on a s v h)) (λ _ h. not-append h)
+
+-- only a cancel without a fault of a payment that is done, open and covered revokes
+pub revoke-of : (f : ℕ) (a : Action) (s : Standing) (v : View) → (decision f a s v) .change ≡ Revoke → Revokes f a s v
+revoke-of f a s v = decision-cases (λ (d : Decided). d .change ≡ Revoke → Revokes f a s v) f a s v (λ e h. rw e (revoke-on a s v h)) (λ _ h. not-revoke h)
 
 -- a code other than 0 changes nothing
-pub kept-of : (a : Action) (s : Standing) (v : View) → ((decision a s v) .code ≡ 0 → ⊥) → (decision a s v) .change ≡ Keep
-kept-of a s v n = go ((decision a s v) .change) refl
+pub kept-of : (f : ℕ) (a : Action) (s : Standing) (v : View) → ((decision f a s v) .code ≡ 0 → ⊥) → (decision f a s v) .change ≡ Keep
+kept-of f a s v n = go ((decision f a s v) .change) refl
   where
-    go : (c : Change) → (decision a s v) .change ≡ c → c ≡ Keep
+    go : (c : Change) → (decision f a s v) .change ≡ c → c ≡ Keep
     go Keep e = refl
-    go Append e = absurd (n (append-of a s v e .code))
-    go Revoke e = absurd (n (revoke-of a s v e .code))
+    go Append e = absurd (n (append-of f a s v e .code))
+    go Revoke e = absurd (n (revoke-of f a s v e .code))
 
--- ---- the outcomes of a request without a fault: all stays, a payment is recorded, or a payment is revoked
+-- ---- the outcomes of a request: all stays, a payment is recorded, or a payment is revoked
 pub data Outcome (g : Gate) (t : Rows) (clock : List ℕ) (q : Asked) (d : Delivered) : Type 0 where
   stays : d .gate ≡ g → d .rows ≡ rowsFrom t (recordsOf t (g .used)) → Outcome g t clock q d
   appends : (a : ℕ) → q .action ≡ Payment → findRecord (q .receipt) (recordsOf t (g .used)) ≡ Nothing
@@ -186,15 +202,15 @@ module _ (g : Gate) (q : Asked) (r : Record) where
   unfolding dateOf isCancel
   its-date e = rw e
 
-module _ (g : Gate) (t : Rows) (clock : List ℕ) (q : Asked) (out : List ℕ) (f : Found) (r : Record) where
+module _ (g : Gate) (t : Rows) (clock : List ℕ) (fault : ℕ) (q : Asked) (out : List ℕ) (f : Found) (r : Record) where
   outcome-at : (rs : List Record) → rs ≡ recordsOf t (g .used) → f ≡ findRecord (q .receipt) rs → r ≡ recordFound rs f → (c : Change) (p : Plan)
-      → p ≡ planWith g (length (t .nums)) q f r → p .decided .change ≡ c
+      → p ≡ planWith g (length (t .nums)) fault q f r → p .decided .change ≡ c
       → Outcome g t clock q (answered t out (q .action) (p .decided .code) clock (changed c g rs clock q p))
   unfolding changed planWith viewOf isFull
   outcome-at rs ers ef er Keep p ep ec = stays refl (rw ers)
   outcome-at rs ers ef er Append p ep ec =
       let v : View = viewOf g (length (t .nums)) q r (accountOf g q r) in
-      let b : Appends (q .action) (standingOf f r) v = append-of (q .action) (standingOf f r) v (sym (ap (λ (x : Plan). x .decided .change) ep) ∙ ec) in
+      let b : Appends fault (q .action) (standingOf f r) v = append-of fault (q .action) (standingOf f r) v (sym (ap (λ (x : Plan). x .decided .change) ep) ∙ ec) in
       place-of (accountOf g q r)
       (λ a ea. appends a (b .action) (ap (findRecord (q .receipt)) (sym ers) ∙ sym ef ∙ missing-of f r (b .standing))
       (sym (own-account g q r (b .action)) ∙ ea)
@@ -206,7 +222,7 @@ module _ (g : Gate) (t : Rows) (clock : List ℕ) (q : Asked) (out : List ℕ) (
       (b .known)
   outcome-at rs ers ef er Revoke p ep ec =
       let v : View = viewOf g (length (t .nums)) q r (accountOf g q r) in
-      let b : Revokes (q .action) (standingOf f r) v = revoke-of (q .action) (standingOf f r) v (sym (ap (λ (x : Plan). x .decided .change) ep) ∙ ec) in
+      let b : Revokes fault (q .action) (standingOf f r) v = revoke-of fault (q .action) (standingOf f r) v (sym (ap (λ (x : Plan). x .decided .change) ep) ∙ ec) in
       found-of f r
       (λ i ei done. revokes i r (accountOf g q r) (b .action) (ap (findRecord (q .receipt)) (sym ers) ∙ sym ef ∙ ei)
       (er ∙ rw (ei, ers))
@@ -219,12 +235,21 @@ module _ (g : Gate) (t : Rows) (clock : List ℕ) (q : Asked) (out : List ℕ) (
       (rw (ep, ei, ers)))
       (b .standing)
 
--- a request without a fault keeps all, credits and adds a record, or debits and cancels one
-pub outcome : (g : Gate) (t : Rows) (clock : List ℕ) (q : Asked) (out : List ℕ) → Outcome g t clock q (respond g t clock q out)
+-- a request keeps all, credits and adds a record, or debits and cancels one
+pub outcome : (g : Gate) (t : Rows) (clock : List ℕ) (fault : ℕ) (q : Asked) (out : List ℕ) → Outcome g t clock q (respond g t clock fault q out)
 unfolding respond planOf
-outcome g t clock q out =
+outcome g t clock fault q out =
     let rs : List Record = recordsOf t (g .used) in
     let f : Found = findRecord (q .receipt) rs in
     let r : Record = recordFound rs f in
-    let p : Plan = planWith g (length (t .nums)) q f r in
-    outcome-at g t clock q out f r rs refl refl refl (p .decided .change) p refl refl
+    let p : Plan = planWith g (length (t .nums)) fault q f r in
+    outcome-at g t clock fault q out f r rs refl refl refl (p .decided .change) p refl refl
+
+-- 0 is answered only to a request without a fault
+fault-code : (f : ℕ) → (f ≡ 0 → ⊥) → faultCode f ≡ 0 → ⊥
+unfolding faultCode
+fault-code f n = cond-elim (λ (c : ℕ). c ≡ 0 → ⊥) (isFault f) f 31 (λ _. n) (λ _ h. omega arith)
+
+pub respond-zero : (g : Gate) (t : Rows) (clock : List ℕ) (fault : ℕ) (q : Asked) (out : List ℕ) → (respond g t clock fault q out) .code ≡ 0 → fault ≡ 0
+unfolding respond planOf planWith
+respond-zero g t clock fault q out = decision-cases (λ (d : Decided). d .code ≡ 0 → fault ≡ 0) fault (q .action) _ _ (λ e _. e) (λ n h. absurd (fault-code fault n h))

@@ -140,8 +140,8 @@ account-within g q r f s is = go (isCancel (q .action)) refl
     go true z = inside (r .number) (r .kind) (is ∙ rw z)
     go false z = inside (q .number) (q .kind) (is ∙ rw z)
 
-pub plan-is : (g : Gate) (rs : List Record) (lent : ℕ) (q : Asked) (f : Found) (r : Record) (k : Found) (v : View) (s : Standing) (d : Decided)
+pub plan-is : (g : Gate) (rs : List Record) (lent fault : ℕ) (q : Asked) (f : Found) (r : Record) (k : Found) (v : View) (s : Standing) (d : Decided)
     → f ≡ findRecord (q .receipt) rs → r ≡ recordFound rs f → k ≡ accountOf g q r → v ≡ viewOf g lent q r k → s ≡ standingOf f r
-    → d ≡ decision (q .action) s v → (p : Plan) → p ≡ record { decided = d; found = f; payment = r; account = k } → p ≡ planOf g rs lent q
+    → d ≡ decision fault (q .action) s v → (p : Plan) → p ≡ record { decided = d; found = f; payment = r; account = k } → p ≡ planOf g rs lent fault q
 unfolding planOf planWith
-plan-is g rs lent q f r k v s d ef er ek ev es ed p e = e ∙ rw (ed, ev, es, ek, er, ef)
+plan-is g rs lent fault q f r k v s d ef er ek ev es ed p e = e ∙ rw (ed, ev, es, ek, er, ef)

@@ -125,15 +125,15 @@ module _ (g : Gate) (t : Rows) (d : Delivered) where
 
 -- ---- used records keep what they are known by
 -- through the answer to a request read without fault
-pub respond-lasts : (g : Gate) (t : Rows) (clock : List ℕ) (q : Asked) (out : List ℕ) → Lasting g t (respond g t clock q out)
-respond-lasts g t clock q out = lasting-outcome g t (respond g t clock q out) clock q (outcome g t clock q out)
+pub respond-lasts : (g : Gate) (t : Rows) (clock : List ℕ) (fault : ℕ) (q : Asked) (out : List ℕ) → Lasting g t (respond g t clock fault q out)
+respond-lasts g t clock fault q out = lasting-outcome g t (respond g t clock fault q out) clock q (outcome g t clock fault q out)
 
 -- and through any delivery
 pub records-last : (g : Gate) (t : Rows) (clock params out : List ℕ) → Lasting g t (deliver g t clock params out)
 records-last g t clock params out =
     delivered-by g t clock params out (Lasting g t)
     (λ code left size. record { used = omega arith; identity = λ i z h. same-identity _ _ refl; settled = λ i h e. refl })
-    (λ _ _ _. respond-lasts g t clock ((requestRead params) .asked) out)
+    (λ _ _. respond-lasts g t clock ((requestRead params) .fault) ((requestRead params) .asked) out)
 
 -- ---- no receipt twice
 -- no two records in use have one receipt
@@ -181,5 +181,5 @@ pub receipts-distinct : (g : Gate) (t : Rows) → Distinct g t → (clock params
 receipts-distinct g t once clock params out =
     delivered-by g t clock params out (λ (d : Delivered). Distinct (d .gate) (d .rows))
     (λ code left size. once)
-    (λ _ _ _. distinct-outcome g t once (respond g t clock ((requestRead params) .asked) out) (respond-lasts g t clock ((requestRead params) .asked) out)
-    clock ((requestRead params) .asked) (outcome g t clock ((requestRead params) .asked) out))
+    (λ _ _. distinct-outcome g t once (respond g t clock ((requestRead params) .fault) ((requestRead params) .asked) out) (respond-lasts g t clock ((requestRead params) .fault) ((requestRead params) .asked) out)
+    clock ((requestRead params) .asked) (outcome g t clock ((requestRead params) .fault) ((requestRead params) .asked) out))

@@ -30,7 +30,7 @@ use Rattle.table.specs.Accounts.{isAccount, accountsOf, findAccount, noAccount,
 use Rattle.table.specs.Valid.{stateGood, rangesGood, accountKnown, authcodeGood, recordGood, tableGood, Ready}
 use Rattle.table.proofs.TableLaws.{length-records, getD-records, from-at, from-whole, whole-from}
 use Rattle.gate.specs.Deliver.{noRecord, nextAuthcode, makeRecord, revoked, debitedAt, respond, deliver, Delivered}
-use Rattle.gate.proofs.OutcomeLaws.{Outcome, stays, appends, revokes, outcome}
+use Rattle.gate.proofs.OutcomeLaws.{Outcome, stays, appends, revokes, outcome, respond-zero}
 use Rattle.gate.proofs.KeepsLaws.{delivered-by}
 use Rattle.gate.proofs.RecordsLaws.{debit-used}
 use Rattle.gate.proofs.GoodLaws.{Good, Near, good-table, table-again, ready-again}
@@ -170,7 +170,7 @@ module _ (g : Gate) (t : Rows) (good : Good g t) (g′ : Gate) (t′ : Rows) (sa
       one : (i : ℕ) → i < length rs → recordGood g′ i (recordAt t′ i) ≡ true
       one i h = good-there g g′ same i (recordAt t′ i) (ap (recordGood g i) (rw er (from-at t rs i noRecord h)) ∙ each i h)
 
-module _ (g : Gate) (t : Rows) (good : Good g t) (clock : List ℕ) (dated : isWritten clock ≡ true) (q : Asked) (asked : AskedGood q) (d : Delivered) where
+module _ (g : Gate) (t : Rows) (good : Good g t) (clock : List ℕ) (dated : isWritten clock ≡ true) (q : Asked) (d : Delivered) (asked : d .code ≡ 0 → AskedGood q) where
   each-used : (i : ℕ) → i < g .used → recordGood g i (getD (recordsOf t (g .used)) i noRecord) ≡ true
   each-used i h = ap (recordGood g i) (getD-records t (g .used) i noRecord h) ∙ good .records i h
 
@@ -196,7 +196,7 @@ module _ (g : Gate) (t : Rows) (good : Good g t) (clock : List ℕ) (dated : isW
           pick : Dec (i ≡ g .used) → recordGood g i (getD (recordsOf t (g .used) ++ (makeRecord g clock q ∷ [])) i noRecord) ≡ true
           pick (yes e) =
               rw (e, getD-at (recordsOf t (g .used)) (makeRecord g clock q) [] noRecord (g .used) (length-records t (g .used)))
-              (made-good g clock q a (asked .receipt (ap hasReceipt ea)) (asked .amount (ap hasAccount ea)) (asked .date (ap hasDate ea)) dated ef)
+              (made-good g clock q a (asked ec .receipt (ap hasReceipt ea)) (asked ec .amount (ap hasAccount ea)) (asked ec .date (ap hasDate ea)) dated ef)
           pick (no n) =
               let l : i < length (recordsOf t (g .used)) = omega (arith, length-records t (g .used)) in
               ap (recordGood g i) (List·getD-append (recordsOf t (g .used)) (makeRecord g clock q ∷ []) noRecord i l) ∙ each-used i (omega arith)
@@ -228,8 +228,8 @@ module _ (g : Gate) (t : Rows) (ready : Ready g t) (good : tableGood g t ≡ tru
       let facts : Good g t = good-table g t (ready .sound .places) good in
       delivered-by g t clock params out (λ (d : Delivered). Again g (d .gate) (d .rows))
       (λ code left size. record { good = facts; names = names-same g g refl; whole = ready .whole })
-      (λ _ dated none. again-outcome g t facts clock dated ((requestRead params) .asked) (read-good params none)
-      (respond g t clock ((requestRead params) .asked) out) (outcome g t clock ((requestRead params) .asked) out))
+      (λ _ dated. again-outcome g t facts clock dated ((requestRead params) .asked) (respond g t clock ((requestRead params) .fault) ((requestRead params) .asked) out)
+      (λ z. read-good params (respond-zero g t clock ((requestRead params) .fault) ((requestRead params) .asked) out z)) (outcome g t clock ((requestRead params) .fault) ((requestRead params) .asked) out))
 
   -- with balances in their bound the table is good and ready for the next call
   pub delivered-good : Near ((deliver g t clock params out) .gate) → tableGood ((deliver g t clock params out) .gate) ((deliver g t clock params out) .rows) ≡ true

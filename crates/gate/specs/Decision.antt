@@ -1,6 +1,8 @@
 -- Document 01, "Gate": the decision. It sees values only, no wire text.
 use Prim.Native.Nat.{ℕ}
-use mathlib.Core.Bool.{Bool, true, false, cond}
+use mathlib.Core.Bool.{Bool, true, false, cond, _||_}
+use lib.Dec.{eqb}
+use Rattle.fields.specs.Digits.{within}
 use Rattle.message.specs.declared.action.Action.{Action}
 use Rattle.message.specs.declared.action.Action.the-variants.{Check, Payment, Status, Cancel}
 use Rattle.gate.specs.declared.decision.Standing.{Standing}
@@ -26,14 +28,26 @@ paymentNew v =
 unfoldable pub cancelDone : View → Decided
 cancelDone v = cond (v .closed) (keeps 9) (cond (v .short) (keeps 9) (record { code = 0; change = Revoke }))
 
-unfoldable pub decision : Action → Standing → View → Decided
-decision Check s v = keeps (checkCode v)
-decision Payment Unrecorded v = paymentNew v
-decision Payment Done v = keeps 0
-decision Payment Cancelled v = keeps 7
-decision Status Unrecorded v = keeps 6
-decision Status Done v = keeps 0
-decision Status Cancelled v = keeps 7
-decision Cancel Unrecorded v = keeps 9
-decision Cancel Done v = cancelDone v
-decision Cancel Cancelled v = keeps 0
+-- a request without a fault
+unfoldable pub decisionOn : Action → Standing → View → Decided
+decisionOn Check s v = keeps (checkCode v)
+decisionOn Payment Unrecorded v = paymentNew v
+decisionOn Payment Done v = keeps 0
+decisionOn Payment Cancelled v = keeps 7
+decisionOn Status Unrecorded v = keeps 6
+decisionOn Status Done v = keeps 0
+decisionOn Status Cancelled v = keeps 7
+decisionOn Cancel Unrecorded v = keeps 9
+decisionOn Cancel Done v = cancelDone v
+decisionOn Cancel Cancelled v = keeps 0
+
+-- what a reader may find at fault: action 1, number or type 2, amount 3, receipt 4, date 5, the text itself 31, reason 32; whatever other number it gave would be 31
+unfoldable pub isFault : ℕ → Bool
+isFault f = within 1 5 f || within 31 32 f
+
+unfoldable pub faultCode : ℕ → ℕ
+faultCode f = cond (isFault f) f 31
+
+-- the whole decision: a fault is answered and keeps all, else action and record decide
+unfoldable pub decision : ℕ → Action → Standing → View → Decided
+decision fault a s v = cond (eqb fault 0) (decisionOn a s v) (keeps (faultCode fault))

@@ -14,7 +14,6 @@ use Rattle.fields.specs.Date.{dateDay, isWritten, emptyDate}
 use Rattle.message.specs.declared.action.Action.{Action}
 use Rattle.message.specs.declared.action.Action.the-variants.{Check, Payment, Status, Cancel}
 use Rattle.message.specs.declared.request.Asked.{Asked}
-use Rattle.message.specs.declared.request.RequestRead.{RequestRead}
 use Rattle.answers.specs.declared.answer.Answer.{Answer}
 use Rattle.message.specs.Request.{requestRead, unusedNumber}
 use Rattle.answers.specs.Answer.{answerBytes}
@@ -92,18 +91,18 @@ unfoldable pub viewOf : Gate → ℕ → Asked → Record → Found → View
 viewOf g lent q r account =
     record { known = isFound account; full = isFull g lent; closed = dateClosed g (dateOf q r); short = isShort g account (r .amount) }
 
--- the decision for a request, with the record and the account that it concerns
-unfoldable pub planWith : Gate → ℕ → Asked → Found → Record → Plan
-planWith g lent q found r =
+-- the decision for a request as it was read, with the record and the account that it concerns
+unfoldable pub planWith : Gate → ℕ → ℕ → Asked → Found → Record → Plan
+planWith g lent fault q found r =
     record {
-      decided = decision (q .action) (standingOf found r) (viewOf g lent q r (accountOf g q r));
+      decided = decision fault (q .action) (standingOf found r) (viewOf g lent q r (accountOf g q r));
       found = found;
       payment = r;
       account = accountOf g q r;
     }
 
-unfoldable pub planOf : Gate → List Record → ℕ → Asked → Plan
-planOf g rs lent q = planWith g lent q (findRecord (q .receipt) rs) (recordFound rs (findRecord (q .receipt) rs))
+unfoldable pub planOf : Gate → List Record → ℕ → ℕ → Asked → Plan
+planOf g rs lent fault q = planWith g lent fault q (findRecord (q .receipt) rs) (recordFound rs (findRecord (q .receipt) rs))
 
 -- ---- the three changes
 -- the nth record has authcode n
@@ -233,36 +232,20 @@ answered t out a code clock c =
       size = cursorAfter out 0 (answerBytes (answerOf a code (c .subject) clock));
     }
 
--- a request without a fault: the decision, its change and the answer
+-- the decision, its change and the answer
 abbrev pub respondBy : Gate → Rows → List ℕ → Asked → List ℕ → Plan → Delivered
 respondBy g t clock q out p =
     answered t out (q .action) (p .decided .code) clock (changed (p .decided .change) g (recordsOf t (g .used)) clock q p)
 
-unfoldable pub respond : Gate → Rows → List ℕ → Asked → List ℕ → Delivered
-respond g t clock q out = respondBy g t clock q out (planOf g (recordsOf t (g .used)) (length (t .nums)) q)
-
--- a fault of the request is answered too, and keeps the state
-abbrev pub faultAnswered : Gate → Rows → List ℕ → Action → ℕ → List ℕ → Delivered
-faultAnswered g t out a fault clock =
-    record {
-      code = fault;
-      gate = g;
-      rows = t;
-      out = written out 0 (answerBytes (answerOf a fault noRecord clock));
-      size = cursorAfter out 0 (answerBytes (answerOf a fault noRecord clock));
-    }
-
-unfoldable pub deliverRead : Gate → Rows → List ℕ → RequestRead → List ℕ → Delivered
-deliverRead g t clock q out =
-    cond (eqb (q .fault) 0)
-    (respond g t clock (q .asked) out)
-    (faultAnswered g t out (q .asked .action) (q .fault) clock)
+-- a request as it was read: its fault, 0 where it has none, and what it asks
+unfoldable pub respond : Gate → Rows → List ℕ → ℕ → Asked → List ℕ → Delivered
+respond g t clock fault q out = respondBy g t clock q out (planOf g (recordsOf t (g .used)) (length (t .nums)) fault q)
 
 -- 68, 50 and 51 write nothing and keep all
 unfoldable pub deliver : Gate → Rows → List ℕ → List ℕ → List ℕ → Delivered
 deliver g t clock params out =
     cond (tableGood g t)
     (cond (leb 512 (length out))
-    (cond (isWritten clock) (deliverRead g t clock (requestRead params) out) (undelivered 51 g t out))
+    (cond (isWritten clock) (respond g t clock ((requestRead params) .fault) ((requestRead params) .asked) out) (undelivered 51 g t out))
     (undelivered 50 g t out))
     (undelivered 68 g t out)

@@ -3,6 +3,7 @@ use crate::decision::Change;
 use crate::plan::Plan;
 use lists::Found;
 use message::request::Asked;
+use message::request::RequestRead;
 use table::Gate;
 use table::Record;
 use table::accounts;
@@ -156,17 +157,18 @@ pub(crate) fn make_change(
     dates: &mut [[[u8; 19]; 3]],
     g: Gate,
     clock: [u8; 19],
-    q: Asked,
+    q: RequestRead,
     p: Plan,
 ) -> Outcome
     requires { ⌜ Ready g (record { nums = now nums; numbers = now numbers; dates = now dates }) ⌝ }
     requires { ⌜ tableGood g (record { nums = now nums; numbers = now numbers; dates = now dates }) ≡ true ⌝ }
-    requires { ⌜ (p ≡ planOf g (recordsOf (record { nums = now nums; numbers = now numbers; dates = now dates }) (g .used)) (length (now nums)) q) × (q .amount < 1000000000) ⌝ }
+    requires { ⌜ (p ≡ planOf g (recordsOf (record { nums = now nums; numbers = now numbers; dates = now dates }) (g .used)) (length (now nums)) (q .fault) (q .asked)) × (q .asked .amount < 1000000000) ⌝ }
     ensures { λ o. ⌜ Made (record { nums = now (nums .entry); numbers = now (numbers .entry); dates = now (dates .entry) })
-        (changed (p .decided .change) g (recordsOf (record { nums = now (nums .entry); numbers = now (numbers .entry); dates = now (dates .entry) }) (g .used)) clock q p)
+        (changed (p .decided .change) g (recordsOf (record { nums = now (nums .entry); numbers = now (numbers .entry); dates = now (dates .entry) }) (g .used)) clock (q .asked) p)
         (o .gate) (o .subject)
         (record { nums = now (nums .exit); numbers = now (numbers .exit); dates = now (dates .exit) }) ⌝ }
 {
+    let asked = q.asked;
     let d = p.decided;
     let c = d.change;
     let found = p.found;
@@ -177,7 +179,7 @@ pub(crate) fn make_change(
             gate: g,
             subject: payment,
         },
-        Change::Append => append(nums, numbers, dates, g, clock, q, account),
+        Change::Append => append(nums, numbers, dates, g, clock, asked, account),
         Change::Revoke => revoke(nums, numbers, dates, g, clock, found, payment, account),
     }
 }

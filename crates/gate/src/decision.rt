@@ -1,4 +1,4 @@
-// The decision on a request, from its action and the record of its receipt.
+// The decision on a request, from its fault, its action and the record of its receipt.
 use message::action::Action;
 ghost use mathlib.Core.Path.{_≡_};
 ghost use Rattle.gate.specs.Decision.{keeps, checkCode, paymentNew, cancelDone, decision};
@@ -85,26 +85,30 @@ fn cancel_done(v: View) -> Decided
     }
 }
 
-// The answer's code and the change.
-pub fn decide(a: Action, s: Standing, v: View) -> Decided
-    ensures { λ r. ⌜ r ≡ decision a s v ⌝ }
+// The answer's code and the change: a fault first, else by action and by how the receipt stands.
+pub fn decide(fault: u64, a: Action, s: Standing, v: View) -> Decided
+    ensures { λ r. ⌜ r ≡ decision fault a s v ⌝ }
 {
-    match a {
-        Action::Check => keep(check_code(v)),
-        Action::Payment => match s {
-            Standing::Unrecorded => payment_new(v),
-            Standing::Done => keep(0),
-            Standing::Cancelled => keep(7),
+    match fault {
+        0 => match a {
+            Action::Check => keep(check_code(v)),
+            Action::Payment => match s {
+                Standing::Unrecorded => payment_new(v),
+                Standing::Done => keep(0),
+                Standing::Cancelled => keep(7),
+            },
+            Action::Status => match s {
+                Standing::Unrecorded => keep(6),
+                Standing::Done => keep(0),
+                Standing::Cancelled => keep(7),
+            },
+            Action::Cancel => match s {
+                Standing::Unrecorded => keep(9),
+                Standing::Done => cancel_done(v),
+                Standing::Cancelled => keep(0),
+            },
         },
-        Action::Status => match s {
-            Standing::Unrecorded => keep(6),
-            Standing::Done => keep(0),
-            Standing::Cancelled => keep(7),
-        },
-        Action::Cancel => match s {
-            Standing::Unrecorded => keep(9),
-            Standing::Done => cancel_done(v),
-            Standing::Cancelled => keep(0),
-        },
+        1..=5 | 31..=32 => keep(fault),
+        _ => keep(31),
     }
 }

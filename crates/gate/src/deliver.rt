@@ -6,58 +6,17 @@ use crate::plan;
 use answers::write;
 use fields::date;
 use message::request;
-use message::request::Asked;
 use message::request::RequestRead;
 use table::Gate;
 use table::valid;
 ghost use mathlib.Core.Path.{_≡_};
 ghost use mathlib.Core.Bool.{true};
 ghost use Prim.Native.Nat.{_<_};
-ghost use Rattle.fields.specs.Lists.{written, cursorAfter};
-ghost use Rattle.answers.specs.Answer.{answerBytes};
 ghost use Rattle.table.specs.Table.{Rows};
 ghost use Rattle.table.specs.Valid.{Ready, tableGood};
-ghost use Rattle.gate.specs.Deliver.{noRecord, answerOf, Delivered, respond, deliverRead, deliver};
+ghost use Rattle.gate.specs.Deliver.{Delivered, respond, deliver};
 
-// Decides on a request, makes the change and writes the answer.
-fn answer_asked(
-    nums: &mut [[u64; 6]],
-    numbers: &mut [[u8; 30]],
-    dates: &mut [[[u8; 19]; 3]],
-    g: Gate,
-    clock: [u8; 19],
-    q: Asked,
-    out: &mut [u8],
-) -> Reply
-    requires { ⌜ Ready g (record { nums = now nums; numbers = now numbers; dates = now dates }) ⌝ }
-    requires { ⌜ tableGood g (record { nums = now nums; numbers = now numbers; dates = now dates }) ≡ true ⌝ }
-    requires { ⌜ q .amount < 1000000000 ⌝ }
-    ensures { λ r. ⌜ _≡_ {A = Delivered}
-        (record { code = r .code; gate = r .gate; rows = record { nums = now (nums .exit); numbers = now (numbers .exit); dates = now (dates .exit) }; out = now (out .exit); size = r .size })
-        (respond g (record { nums = now (nums .entry); numbers = now (numbers .entry); dates = now (dates .entry) }) clock q (now (out .entry))) ⌝ }
-{
-    let p = plan::make_plan(nums, numbers, dates, g, q);
-    let o = change::make_change(nums, numbers, dates, g, clock, q, p);
-    let d = p.decided;
-    let code = d.code;
-    let a = q.action;
-    let subject = o.subject;
-    let size = write::write_answer(answering::answer_of(a, code, subject, clock), out, 0);
-    let gate = o.gate;
-    Reply { code, gate, size }
-}
-
-// Writes the answer to a request that has a fault, and tells its length.
-fn answer_fault(q: Asked, fault: u64, clock: [u8; 19], out: &mut [u8]) -> usize
-    ensures { λ r. ⌜ (r ≡ cursorAfter (now (out .entry)) 0 (answerBytes (answerOf (q .action) fault noRecord clock)))
-        × (now (out .exit) ≡ written (now (out .entry)) 0 (answerBytes (answerOf (q .action) fault noRecord clock))) ⌝ }
-{
-    let a = q.action;
-    let r = plan::no_record();
-    write::write_answer(answering::answer_of(a, fault, r, clock), out, 0)
-}
-
-// Answers a request as it was read: its fault, or by the decision on it.
+// Decides on a request as it was read, makes the change and writes the answer.
 fn answer_read(
     nums: &mut [[u64; 6]],
     numbers: &mut [[u8; 30]],
@@ -72,18 +31,18 @@ fn answer_read(
     requires { ⌜ q .asked .amount < 1000000000 ⌝ }
     ensures { λ r. ⌜ _≡_ {A = Delivered}
         (record { code = r .code; gate = r .gate; rows = record { nums = now (nums .exit); numbers = now (numbers .exit); dates = now (dates .exit) }; out = now (out .exit); size = r .size })
-        (deliverRead g (record { nums = now (nums .entry); numbers = now (numbers .entry); dates = now (dates .entry) }) clock q (now (out .entry))) ⌝ }
+        (respond g (record { nums = now (nums .entry); numbers = now (numbers .entry); dates = now (dates .entry) }) clock (q .fault) (q .asked) (now (out .entry))) ⌝ }
 {
     let asked = q.asked;
-    if q.fault != 0 {
-        let size = answer_fault(asked, q.fault, clock, out);
-        return Reply {
-            code: q.fault,
-            gate: g,
-            size,
-        };
-    }
-    answer_asked(nums, numbers, dates, g, clock, asked, out)
+    let p = plan::make_plan(nums, numbers, dates, g, q);
+    let o = change::make_change(nums, numbers, dates, g, clock, q, p);
+    let d = p.decided;
+    let code = d.code;
+    let a = asked.action;
+    let subject = o.subject;
+    let size = write::write_answer(answering::answer_of(a, code, subject, clock), out, 0);
+    let gate = o.gate;
+    Reply { code, gate, size }
 }
 
 // A request delivered to the gate: 68, 50 and 51 keep all; any other code is answered in the buffer.

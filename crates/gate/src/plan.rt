@@ -8,6 +8,7 @@ use fields::date;
 use fields::number::Number;
 use lists::Found;
 use message::request::Asked;
+use message::request::RequestRead;
 use table::Gate;
 use table::Record;
 use table::accounts;
@@ -141,25 +142,26 @@ pub(crate) fn found_record(
     }
 }
 
-// The decision for a request, with what it concerns.
+// The decision for a request as it was read, with what it concerns.
 pub(crate) fn make_plan(
     nums: &[[u64; 6]],
     numbers: &[[u8; 30]],
     dates: &[[[u8; 19]; 3]],
     g: Gate,
-    q: Asked,
+    q: RequestRead,
 ) -> Plan
     requires { ⌜ Ready g (record { nums = now nums; numbers = now numbers; dates = now dates }) ⌝ }
     requires { ⌜ tableGood g (record { nums = now nums; numbers = now numbers; dates = now dates }) ≡ true ⌝ }
-    ensures { λ p. ⌜ p ≡ planOf g (recordsOf (record { nums = now (nums .entry); numbers = now (numbers .entry); dates = now (dates .entry) }) (g .used)) (length (now (nums .entry))) q ⌝ }
+    ensures { λ p. ⌜ p ≡ planOf g (recordsOf (record { nums = now (nums .entry); numbers = now (numbers .entry); dates = now (dates .entry) }) (g .used)) (length (now (nums .entry))) (q .fault) (q .asked) ⌝ }
 {
     let used = g.used;
-    let found = rows::find_record(nums, numbers, dates, used, q.receipt);
+    let asked = q.asked;
+    let found = rows::find_record(nums, numbers, dates, used, asked.receipt);
     let payment = found_record(nums, numbers, dates, used, found);
-    let account = account_of(g, q, payment);
-    let v = view_of(g, nums.len(), q, payment, account);
-    let a = q.action;
-    let decided = decision::decide(a, standing(found, payment), v);
+    let account = account_of(g, asked, payment);
+    let v = view_of(g, nums.len(), asked, payment, account);
+    let a = asked.action;
+    let decided = decision::decide(q.fault, a, standing(found, payment), v);
     Plan {
         decided,
         found,

@@ -6,17 +6,17 @@ use Rattle.gate.proofs.change.make_change.Tie as tie
 
 append-requires : tie.Need-append-requires
 append-requires c κs =
-    let s = c .before .before .before .before .before .before .before in
+    let s = c .before .before .before .before .before .before .before .before in
     let t : Rows = record { nums = s .args .nums .now; numbers = s .args .numbers .now; dates = s .args .dates .now } in
     let is = s .pre .1 .1 .0 in
-    (s .pre .0, (plan-room (s .args .g) t (s .args .q) (s .args .p) is (c .before .before .before .enum-told2 .given .1), plan-account (s .args .g) t (s .args .q) (s .args .p) is (s .pre .0 .sound), s .pre .1 .1 .1))
+    (s .pre .0, (plan-room (s .args .g) t (s .args .q .fault) (s .args .q .asked) (s .args .p) is (c .before .before .before .enum-told2 .given .1), plan-account (s .args .g) t (s .args .q .fault) (s .args .q .asked) (s .args .p) is (s .pre .0 .sound), s .pre .1 .1 .1))
 
 revoke-requires : tie.Need-revoke-requires
 revoke-requires c κs =
-    let s = c .before .before .before .before .before .before .before in
+    let s = c .before .before .before .before .before .before .before .before in
     let t : Rows = record { nums = s .args .nums .now; numbers = s .args .numbers .now; dates = s .args .dates .now } in
     let is = s .pre .1 .1 .0 in
-    (s .pre .0, (plan-found (s .args .g) t (s .args .q) (s .args .p) is (s .pre .1 .0), plan-account (s .args .g) t (s .args .q) (s .args .p) is (s .pre .0 .sound), plan-amount (s .args .g) t (s .args .q) (s .args .p) is (s .pre .1 .0)))
+    (s .pre .0, (plan-found (s .args .g) t (s .args .q .fault) (s .args .q .asked) (s .args .p) is (s .pre .1 .0), plan-account (s .args .g) t (s .args .q .fault) (s .args .q .asked) (s .args .p) is (s .pre .0 .sound), plan-amount (s .args .g) t (s .args .q .fault) (s .args .q .asked) (s .args .p) is (s .pre .1 .0)))
 
 ruleset laws = (kept, recorded, cancelled, needs)
 
