@@ -8,7 +8,7 @@ use mathlib.Core.Bool.{Bool, true, false, cond}
 use lib.Dec.{eqb}
 use lib.ListN.{length, take, drop, length-append, length-take, length-drop}
 use lib.Seq.{take-all, take-at, length-take-le, take-append-seam, take-append-add}
-use borrow.Author.Tests.{eq-eqb, ne-eqb}
+use borrow.Author.Tests.{ne-eqb, le-leb, lt-leb}
 use Rattle.fields.specs.Lists.{over, written, cursorAfter}
 use Rattle.fields.specs.Digits.{decimal}
 use Rattle.fields.proofs.OutLaws.{cursor-moves, written-over}
@@ -61,17 +61,31 @@ module _ (d : List ℕ) (at : ℕ) where
 
   -- a piece that a test picks
   module _ (xs ys : List ℕ) (r : ℕ) (e : List ℕ) where
-    pub grown-eq : (n k : ℕ) → n ≡ k → Grown d at xs r e → Grown d at (cond (eqb n k) xs ys) r e
-    grown-eq n k h g = rw (eq-eqb n k h) g
-
-    pub grown-ne : (n k : ℕ) → (n ≡ k → ⊥) → Grown d at ys r e → Grown d at (cond (eqb n k) xs ys) r e
-    grown-ne n k h g = rw (ne-eqb n k h) g
-
     pub grown-if : (used : Bool) → used ≡ true → Grown d at xs r e → Grown d at (cond used xs ys) r e
     grown-if used h g = rw h g
 
     pub grown-if-not : (used : Bool) → used ≡ false → Grown d at ys r e → Grown d at (cond used xs ys) r e
     grown-if-not used h g = rw h g
+
+  -- the message of a code that a match has found, and of any other
+  module _ (r : ℕ) (e : List ℕ) (n : ℕ) where
+    pub grown-code : (k : ℕ) → n ≡ k → Grown d at (messageOf k) r e → Grown d at (messageOf n) r e
+    grown-code k h g = rw h g
+
+    pub grown-other : (n ≡ 30 → ⊥) → (n ≡ 31 → ⊥) → (n ≡ 32 → ⊥) → Grown d at [] r e → Grown d at (messageOf n) r e
+    unfolding messageOf
+    grown-other a b c g = rw (ne-eqb n 30 a, ne-eqb n 31 b, ne-eqb n 32 c) g
+
+-- whether a code has one, by the range that a match has found
+module _ (n : ℕ) where
+  pub message-in : 30 ≤ n → n < 33 → true ≡ hasMessage n
+  message-in l h = rw (le-leb 30 n l, le-leb n 32 (omega arith)) refl
+
+  pub message-under : n < 30 → false ≡ hasMessage n
+  message-under h = rw (lt-leb 30 n h) refl
+
+  pub message-over : 33 ≤ n → false ≡ hasMessage n
+  message-over h = rw (le-leb 30 n (omega arith), lt-leb n 32 h) refl
 
 -- ---- what a local text holds
 pub grown-whole : (z xs : List ℕ) (r : ℕ) (e : List ℕ) → Grown z 0 xs r e → length xs ≤ length z → take r e ≡ xs

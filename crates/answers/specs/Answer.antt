@@ -1,9 +1,9 @@
 -- Document 01, "Gate": the bytes of an answer.
 use Prim.Native.Nat.{ℕ}
 use mathlib.Core.List.{List, [], _∷_, _++_}
-use mathlib.Core.Bool.{Bool, true, cond}
+use mathlib.Core.Bool.{Bool, cond}
 use lib.Dec.{eqb}
-use Rattle.fields.specs.Digits.{decimal}
+use Rattle.fields.specs.Digits.{within, decimal}
 use Rattle.answers.specs.declared.answer.Answer.{Answer}
 
 -- the first line, which gives the encoding
@@ -42,7 +42,7 @@ elementIf used name content = cond used (element name content) []
 
 -- the codes 30, 31 and 32 are told in words too: `table full`, `bad request`, `bad reason`
 abbrev pub hasMessage : ℕ → Bool
-hasMessage code = cond (eqb code 30) true (cond (eqb code 31) true (eqb code 32))
+hasMessage code = within 30 32 code
 
 unfoldable pub messageOf : ℕ → List ℕ
 messageOf code =

@@ -52,29 +52,22 @@ fn add_number(used: bool, opener: &[u8], n: u64, closer: &[u8], dst: &mut [u8], 
 fn has_message(code: u64) -> bool
     ensures { λ r. ⌜ r ≡ hasMessage code ⌝ }
 {
-    if code == 30 {
-        return true;
+    match code {
+        30..=32 => true,
+        _ => false,
     }
-    if code == 31 {
-        return true;
-    }
-    code == 32
 }
 
 // Adds the text of a code's message.
 fn add_text(code: u64, dst: &mut [u8], at: usize) -> usize
     ensures { λ r. ⌜ Grown (now (dst .entry)) at (messageOf code) r (now (dst .exit)) ⌝ }
 {
-    if code == 30 {
-        return add_bytes(b"table full", dst, at);
+    match code {
+        30 => add_bytes(b"table full", dst, at),
+        31 => add_bytes(b"bad request", dst, at),
+        32 => add_bytes(b"bad reason", dst, at),
+        _ => at,
     }
-    if code == 31 {
-        return add_bytes(b"bad request", dst, at);
-    }
-    if code == 32 {
-        return add_bytes(b"bad reason", dst, at);
-    }
-    at
 }
 
 // Adds a code's message, where it has one.

@@ -7,12 +7,13 @@ use mathlib.Core.Bool.{Bool, true, false, cond, not, _&&_, _||_}
 use mathlib.Core.List.{List, [], _∷_}
 use lib.Dec.{eqb, leb}
 use lib.ListN.{length, take}
-use borrow.Author.Tests.{leb-true}
+use borrow.Author.Tests.{leb-true, le-leb, ne-eqb}
 use Rattle.fields.specs.Lists.{written, cursorAfter}
 use Rattle.fields.specs.Date.{isWritten}
 use Rattle.fields.proofs.Tests.{cond-elim, no-claim}
 use Rattle.fields.proofs.OutLaws.{cursor-moves, text-back}
 use Rattle.message.specs.declared.action.Action.{Action}
+use Rattle.message.specs.declared.action.Action.the-variants.{Check, Payment, Status, Cancel}
 use Rattle.message.specs.declared.request.Asked.{Asked}
 use Rattle.message.specs.Request.{requestRead}
 use Rattle.answers.specs.declared.answer.Answer.{Answer}
@@ -22,14 +23,15 @@ use Rattle.table.specs.declared.Record.{Record}
 use Rattle.table.specs.declared.Gate.{Gate}
 use Rattle.lists.specs.declared.Found.{Found}
 use Rattle.table.specs.Table.{Rows, recordsOf, findRecord}
-use Rattle.table.specs.Valid.{tableGood}
+use Rattle.table.specs.Valid.{tableGood, Ready}
+use Rattle.table.proofs.TableLaws.{rows-kept}
 use Rattle.gate.specs.declared.decision.Standing.{Standing}
 use Rattle.gate.specs.declared.decision.View.{View}
 use Rattle.gate.specs.declared.decision.Change.{Change}
 use Rattle.gate.specs.declared.decision.Change.the-variants.{Keep, Append, Revoke}
 use Rattle.gate.specs.declared.plan.Plan.{Plan}
 use Rattle.gate.specs.Decision.{isFault, faultCode, decision}
-use Rattle.gate.specs.Deliver.{noRecord, recordFound, standingOf, accountOf, viewOf, planWith, planOf, nextAuthcode, makeRecord, revoked, Changed, changed, answerOf, Delivered, undelivered, respond, deliver}
+use Rattle.gate.specs.Deliver.{noRecord, recordFound, standingOf, accountOf, viewOf, planWith, planOf, nextAuthcode, makeRecord, revoked, Changed, changed, settles, answersAuthcode, answersDate, answerDate, answerOf, Delivered, undelivered, respond, deliver}
 use Rattle.gate.proofs.AnswerGood.{gate-answers}
 use Rattle.gate.proofs.GoodLaws.{used-few}
 use Rattle.gate.proofs.CodeLaws.{oneOf, answerCodes, isSilent, not-in, decision-by, fault-by, Told, subject, decided-told, known-found, told-fits, again-same}
@@ -233,3 +235,35 @@ module _ (g : Gate) (t : Rows) (clock params out : List ℕ) where
       go true false c = refl
       go true true false = refl
       go true true true = refl
+
+-- ---- a request with a fault: it is answered with the fault's number, and nothing moves
+-- a code other than 0 and 7 tells nothing of a record
+unsettled-same : (a : Action) (c : ℕ) (r r′ : Record) (clock : List ℕ) → settles c ≡ false → eqb c 0 ≡ false → eqb c 7 ≡ false → answerOf a c r clock ≡ answerOf a c r′ clock
+unfolding answerOf answersAuthcode answersDate answerDate
+unsettled-same Check c r r′ clock h z s = refl
+unsettled-same Payment c r r′ clock h z s = rw (h, z, s)
+unsettled-same Status c r r′ clock h z s = rw h
+unsettled-same Cancel c r r′ clock h z s = rw h
+
+module _ (g : Gate) (t : Rows) (ready : Ready g t) (clock params out : List ℕ) (good : tableGood g t ≡ true) (room : 512 ≤ length out) (dated : isWritten clock ≡ true) where
+  abbrev fault : ℕ
+  fault = (requestRead params) .fault
+
+  abbrev refusal : Answer
+  refusal = answerOf (asks params) fault noRecord clock
+
+  pub fault-answered : (fault ≡ 0 → ⊥)
+      → deliver g t clock params out ≡ record { code = fault; gate = g; rows = t; out = written out 0 (answerBytes refusal); size = cursorAfter out 0 (answerBytes refusal) }
+  unfolding deliver respond planOf planWith decision changed
+  fault-answered n =
+      rw (good, le-leb 512 (length out) room, dated, ne-eqb fault 0 n, fault-kept params n, rows-kept t (g .used) (ready .whole))
+      (ap (λ (x : Answer). record { code = fault; gate = g; rows = t; out = written out 0 (answerBytes x); size = cursorAfter out 0 (answerBytes x) }) same)
+    where
+      seven : eqb fault 7 ≡ false
+      seven = fault-by (λ (c : ℕ). eqb c 7 ≡ false) refl refl refl refl refl refl refl refl params
+
+      r : Record
+      r = recordFound (recordsOf t (g .used)) (findRecord ((requestRead params) .asked .receipt) (recordsOf t (g .used)))
+
+      same : answerOf (asks params) fault r clock ≡ refusal
+      same = unsettled-same (asks params) fault r noRecord clock (rw (ne-eqb fault 0 n, seven) refl) (ne-eqb fault 0 n) seven

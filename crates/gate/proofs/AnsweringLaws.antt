@@ -35,19 +35,18 @@ module _ (a : Action) (code : ℕ) (r : Record) (clock d : List ℕ) where
   unfolding answerDate
   date-7 q e = q ∙ rw (eq-eqb _ _ e)
 
-  module _ (n : code ≡ 7 → ⊥) where
-    pub date-other : d ≡ clock → (code ≡ 0 → ⊥) → d ≡ answerDate a code r clock
+  pub date-other : d ≡ clock → (code ≡ 0 → ⊥) → (code ≡ 7 → ⊥) → d ≡ answerDate a code r clock
+  unfolding answerDate
+  date-other q m n = q ∙ rw (ne-eqb _ _ n, ne-eqb _ _ m)
+
+  module _ (z : code ≡ 0) (t : Bool) (et : t ≡ isCancel a) where
+    pub date-cancel : d ≡ r .cancel → t ≡ true → d ≡ answerDate a code r clock
     unfolding answerDate
-    date-other q m = q ∙ rw (ne-eqb _ _ n, ne-eqb _ _ m)
+    date-cancel q h = q ∙ rw (z, ← et, h)
 
-    module _ (z : code ≡ 0) (t : Bool) (et : t ≡ isCancel a) where
-      pub date-cancel : d ≡ r .cancel → t ≡ true → d ≡ answerDate a code r clock
-      unfolding answerDate
-      date-cancel q h = q ∙ rw (ne-eqb _ _ n, eq-eqb _ _ z, ← et, h)
-
-      pub date-credit : d ≡ r .credit → t ≡ false → d ≡ answerDate a code r clock
-      unfolding answerDate
-      date-credit q h = q ∙ rw (ne-eqb _ _ n, eq-eqb _ _ z, ← et, h)
+    pub date-credit : d ≡ r .credit → t ≡ false → d ≡ answerDate a code r clock
+    unfolding answerDate
+    date-credit q h = q ∙ rw (z, ← et, h)
 
   pub answer-is : (p s : Bool) → p ≡ answersAuthcode a code → s ≡ answersDate a code → (n : ℕ) → n ≡ cond p (r .authcode) 0
       → (e : List ℕ) → e ≡ answerDate a code r clock → d ≡ cond s e emptyDate

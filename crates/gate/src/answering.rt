@@ -60,13 +60,11 @@ pub fn answer_date(a: Action, code: u64, r: Record, clock: [u8; 19]) -> [u8; 19]
 {
     let cancelled = r.cancel;
     let credited = r.credit;
-    if code == 7 {
-        return cancelled;
+    match code {
+        0 => { if is_cancel(a) { cancelled } else { credited } }
+        7 => cancelled,
+        _ => clock,
     }
-    if code != 0 {
-        return clock;
-    }
-    if is_cancel(a) { cancelled } else { credited }
 }
 
 // The authcode that an answer carries, 0 where it has none.

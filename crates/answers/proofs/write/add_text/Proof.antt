@@ -1,10 +1,10 @@
 use borrow.Author.Needs.{needs}
-use Rattle.answers.proofs.AnswerTextLaws.{grown-none, grown-eq, grown-ne}
+use Rattle.answers.proofs.AnswerTextLaws.{grown-none, grown-code, grown-other}
 use Rattle.answers.specs.Answer.{messageOf}
 use Rattle.answers.proofs.write.add_text.Statement.{statement}
 use Rattle.answers.proofs.write.add_text.Tie as tie
 
-ruleset laws = (grown-none, grown-eq, grown-ne, needs)
+ruleset laws = (grown-none, grown-code, grown-other, needs)
 
 pub add-text-spec : {M : Type 1} → statement M
 unfolding messageOf
@@ -14,13 +14,13 @@ add-text-spec =
     (λ c. search laws)
     (λ c κs. search laws)
     (λ c. search laws)
-    (λ c. search laws)
+    (λ c κs. search laws)
     (λ c. search laws)
     (λ c κs. search laws)
     (λ c. search laws)
     (λ c. search laws)
     (λ c. search laws)
-    (λ c κs. search laws)
+    (λ c. search laws)
     (λ c. search laws)
     (λ c. search laws)
     (λ c. search laws))

@@ -9,8 +9,8 @@ pub answer-date-spec : {M : Type 1} → statement M
 answer-date-spec =
     tie.close
     (tie.spec
-    (λ c. search laws)
-    (λ c. search laws)
     (λ c κs. search laws)
+    (λ c. search laws)
+    (λ c. search laws)
     (λ c. search laws)
     (λ c. search laws))
