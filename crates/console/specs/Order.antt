@@ -13,7 +13,7 @@ use Rattle.fields.specs.Lists.{find, eqList}
 use Rattle.fields.specs.Digits.{digitsRead, decimal}
 use Rattle.fields.specs.Codes.{kindRead}
 use Rattle.fields.specs.Number.{numberRead}
-use Rattle.fields.specs.Calendar.{dayRead}
+use Rattle.fields.specs.Calendar.{dayFault, dayRead}
 use Rattle.fields.specs.Date.{dateRead}
 use Rattle.coding.specs.Params.{splitAt}
 use Rattle.table.specs.declared.Account.{Account}
@@ -59,10 +59,13 @@ unread x t = record { code = 99; console = x; rows = t }
 abbrev pub replied : Rows → Reply → Turn
 replied t r = record { code = r .code; console = record { started = true; gate = r .gate }; rows = t }
 
--- C day: a day that is a date starts the session
+-- C day: a day that is a date starts the session, and a day that is none is 99
+abbrev pub startAt : Console → DayRead → Console
+startAt x NoDate = x
+startAt x (Good d) = record { started = true; gate = withClosed (x .gate) d }
+
 abbrev pub startOn : Console → Rows → DayRead → Turn
-startOn x t NoDate = unread x t
-startOn x t (Good d) = record { code = 0; console = record { started = true; gate = withClosed (x .gate) d }; rows = t }
+startOn x t d = record { code = dayFault 99 d; console = startAt x d; rows = t }
 
 unfoldable pub startTurn : Console → Rows → List ℕ → Turn
 startTurn x t l = cond (hasLetter 67 l && eqb (fieldCount l) 2) (startOn x t (dayRead (fieldAt 1 l))) (unread x t)

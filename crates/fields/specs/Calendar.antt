@@ -22,6 +22,11 @@ isDate y m d = leb 2000 y && (leb y 2099 && (leb 1 m && (leb m 12 && (leb 1 d &&
 unfoldable pub dayOf : ℕ → ℕ → ℕ → DayRead
 dayOf y m d = cond (isDate y m d) (Good (record { year = y; month = m; day = d })) NoDate
 
+-- the fault number of a day whose own is `code`: 0 where it is a date
+abbrev pub dayFault : ℕ → DayRead → ℕ
+dayFault code NoDate = code
+dayFault code (Good d) = 0
+
 abbrev pub isDay : Day → Bool
 isDay x = isDate (x .year) (x .month) (x .day)
 
