@@ -58,9 +58,9 @@ module _ (b : Book) (e : Entry) (unfrozen : isFrozen b (e .date) ≡ false) wher
   cancel-opens (inr (inr h)) = rw (h, unfrozen) refl
 
 -- a request has room in 512 bytes
-request-room : (q : Request) → length (q .date) ≡ 19 → length (q .number .bytes) ≡ 30 → length (requestText q) ≤ 512
+request-room : (q : Request) → length (q .date) ≡ 19 → length (requestText q) ≤ 512
 unfolding requestText
-request-room q dated sized = cond-elim (λ (s : List ℕ). length s ≤ 512) (isAsked q) (requestBytes q) [] (λ good. request-fits q dated sized good) (λ _. omega arith)
+request-room q dated = cond-elim (λ (s : List ℕ). length s ≤ 512) (isAsked q) (requestBytes q) [] (λ good. request-fits q dated good) (λ _. omega arith)
 
 -- what an answer says
 paid-is : (a : Action) (code : ℕ) → (a ≡ Payment) ⊎ (a ≡ Status) → code ≡ 0 → meaning a code ≡ Paid
@@ -135,14 +135,14 @@ module _ (b : Book) (t : BookRows) (good : bookGood b t ≡ true) (six : (j : �
         rw (good, le-leb 512 (length out) room, forms a refl, place-here, getD-entries t (b .used) i noEntry used, free, set-here (writtenEntry a entry)) refl
 
     -- gives 0, leaves its entry written and all others, and its request at the start of the buffer
-    pub write-gives : length (entry .number .bytes) ≡ 30
-        → ((writeRequest b t a (entry .receipt) reason out) .code ≡ 0)
+    pub write-gives :
+        ((writeRequest b t a (entry .receipt) reason out) .code ≡ 0)
         × ((writeRequest b t a (entry .receipt) reason out) .rows ≡ bookWith t i (writtenEntry a entry))
         × (take ((writeRequest b t a (entry .receipt) reason out) .size) ((writeRequest b t a (entry .receipt) reason out) .out) ≡ requestText (requestOf a entry reason))
     unfolding requestOf
-    write-gives sized =
+    write-gives =
         let q : Request = requestOf a entry reason in
-        let fits : length (requestText q) ≤ length out = omega (arith, room, request-room q (written-parts (entry .date) (parts .date) .size) sized) in (
+        let fits : length (requestText q) ≤ length out = omega (arith, room, request-room q (written-parts (entry .date) (parts .date) .size)) in (
           ap (λ (k : Wrote). k .code) write-is,
           ap (λ (k : Wrote). k .rows) write-is,
           ap (λ (k : Wrote). take (k .size) (k .out)) write-is ∙ text-back out (requestText q) fits,
@@ -181,13 +181,13 @@ module _ (b : Book) (t : BookRows) (good : bookGood b t ≡ true) (six : (j : �
 -- ---- a check
 module _ (b : Book) (t : BookRows) (n : Number) (k amount : ℕ) (out : List ℕ) where
   -- of well formed fields gives 0, leaves the book, and its request at the start of the buffer
-  pub check-gives : bookGood b t ≡ true → 512 ≤ length out → isNumber n ≡ true → isKind k ≡ true → isAmount amount ≡ true → length (n .bytes) ≡ 30
+  pub check-gives : bookGood b t ≡ true → 512 ≤ length out → isNumber n ≡ true → isKind k ≡ true → isAmount amount ≡ true
       → ((writeCheck b t n k amount out) .code ≡ 0)
       × ((writeCheck b t n k amount out) .rows ≡ t)
       × (take ((writeCheck b t n k amount out) .size) ((writeCheck b t n k amount out) .out) ≡ requestText (checkOf n k amount))
   unfolding checkOf
-  check-gives good room number kind amounts sized =
+  check-gives good room number kind amounts =
       let q : Request = checkOf n k amount in
       let is : writeCheck b t n k amount out ≡ wrote t out (requestText q) = unfold writeCheck in rw (good, le-leb 512 (length out) room, number, kind, amounts) refl in
-      let fits : length (requestText q) ≤ length out = omega (arith, room, request-room q refl sized) in
+      let fits : length (requestText q) ≤ length out = omega (arith, room, request-room q refl) in
       (ap (λ (w : Wrote). w .code) is, ap (λ (w : Wrote). w .rows) is, ap (λ (w : Wrote). take (w .size) (w .out)) is ∙ text-back out (requestText q) fits)

@@ -79,12 +79,12 @@ rest-kept out xs j h = go (leb (0 + length xs) (length out)) refl
     go true e = bytes-past out 0 xs j (omega (arith, h, cursor-moves out 0 xs (leb-true (0 + length xs) (length out) e)))
     go false e = ap (λ (d : List ℕ). getD d j 0) (sym (buffer-stays out 0 xs (leb-false (0 + length xs) (length out) e)))
 
-read-back : (q : Request) (out : List ℕ) → length (q .date) ≡ 19 → length (q .number .bytes) ≡ 30 → isAsked q ≡ true → 512 ≤ length out
+read-back : (q : Request) (out : List ℕ) → length (q .date) ≡ 19 → isAsked q ≡ true → 512 ≤ length out
     → requestRead (take (cursorAfter out 0 (requestText q)) (written out 0 (requestText q))) ≡ record { fault = 0; asked = askedAgain q }
 unfolding requestText
-read-back q out dated sized good room =
-    let l : length (requestBytes q) ≤ length out = omega (arith, room, request-fits q dated sized good) in
-    rw (good, text-back out (requestBytes q) l) (request-again q dated sized good)
+read-back q out dated good room =
+    let l : length (requestBytes q) ≤ length out = omega (arith, room, request-fits q dated good) in
+    rw (good, text-back out (requestBytes q) l) (request-again q dated good)
 
 -- ---- the call: all stays with a fault, or the entry that was found is written
 module _ (b : Book) (t : BookRows) (a : Action) (receipt reason : ℕ) (out : List ℕ) where
@@ -132,17 +132,17 @@ module _ (b : Book) (t : BookRows) (a : Action) (receipt reason : ℕ) (out : Li
       rw same (entry-from t es i noEntry k ∙ getD-set-same (entriesOf t (b .used)) i (writtenEntry a (entryAt t i)) noEntry l))
 
   -- ---- a request that is written reads back as the fields of its entry
-  pub write-again : (i : ℕ) → placeOf b t receipt ≡ At i → length ((entryAt t i) .number .bytes) ≡ 30 → (writeRequest b t a receipt reason out) .code ≡ 0
+  pub write-again : (i : ℕ) → placeOf b t receipt ≡ At i → (writeRequest b t a receipt reason out) .code ≡ 0
       → requestRead (take ((writeRequest b t a receipt reason out) .size) ((writeRequest b t a receipt reason out) .out))
       ≡ record { fault = 0; asked = askedAgain (requestOf a (entryAt t i) reason) }
   unfolding requestOf
-  write-again i found sized =
+  write-again i found =
       write-cases (λ (k : Wrote). k .code ≡ 0 → requestRead (take (k .size) (k .out)) ≡ record { fault = 0; asked = askedAgain (requestOf a (entryAt t i) reason) })
       (λ code n z. absurd (n z))
       (λ j good room forms e free z.
       let same : j ≡ i = same-place j i (sym e ∙ found) in
       ap (λ (n : ℕ). requestRead (take (cursorAfter out 0 (requestText (requestOf a (entryAt t n) reason))) (written out 0 (requestText (requestOf a (entryAt t n) reason))))) same
-      ∙ read-back (requestOf a (entryAt t i) reason) out (written-parts ((entryAt t i) .date) (entry-parts (entryAt t i) (found-fields b t receipt i good found) .date) .size) sized
+      ∙ read-back (requestOf a (entryAt t i) reason) out (written-parts ((entryAt t i) .date) (entry-parts (entryAt t i) (found-fields b t receipt i good found) .date) .size)
       (asked-good a (entryAt t i) receipt reason (found-fields b t receipt i good found) forms) room)
 
   -- ---- what it leaves of a book that is ready
@@ -213,10 +213,10 @@ module _ (b : Book) (t : BookRows) (n : Number) (k amount : ℕ) (out : List ℕ
       (λ room h l. rest-kept out (requestText (checkOf n k amount)) j l)
 
   -- one that is written reads back as its account and amount
-  pub check-again : length (n .bytes) ≡ 30 → (writeCheck b t n k amount out) .code ≡ 0
+  pub check-again : (writeCheck b t n k amount out) .code ≡ 0
       → requestRead (take ((writeCheck b t n k amount out) .size) ((writeCheck b t n k amount out) .out)) ≡ record { fault = 0; asked = askedAgain (checkOf n k amount) }
   unfolding checkOf
-  check-again sized =
+  check-again =
       check-cases (λ (w : Wrote). w .code ≡ 0 → requestRead (take (w .size) (w .out)) ≡ record { fault = 0; asked = askedAgain (checkOf n k amount) })
       (λ code m z. absurd (m z))
-      (λ room h z. read-back (checkOf n k amount) out refl sized (check-asked n k amount ∙ h) room)
+      (λ room h z. read-back (checkOf n k amount) out refl (check-asked n k amount ∙ h) room)

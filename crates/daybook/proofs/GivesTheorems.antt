@@ -21,7 +21,7 @@ use Rattle.registry.specs.Line.{lineAgain}
 use Rattle.registry.specs.Registry.{registryFault, registryLines}
 use Rattle.book.specs.declared.Book.{Book}
 use Rattle.book.specs.declared.Entry.{Entry}
-use Rattle.book.specs.Entries.{BookRows, WholeBook, entryAt, entriesOf, bookWith, bookFrom}
+use Rattle.book.specs.Entries.{BookRows, WholeBook, entriesOf, bookWith, bookFrom}
 use Rattle.book.specs.BookValid.{dayCount, bookGood}
 use Rattle.book.proofs.EntryLaws.{book-more}
 use Rattle.book.proofs.BookLaws.{good-lent}
@@ -59,11 +59,11 @@ module _ (b : Book) (t : BookRows) (day : Day) (out : List ℕ) where
         done
 
     -- these bytes read back, without a fault, as the day's entries that are not cancelled, in their order
-    pub registry-back : ((i : ℕ) → i < b .used → length ((entryAt t i) .number .bytes) ≡ 30)
-        → (registryFault day (take (call .size) (call .out)) ≡ 0) × (registryLines (take (call .size) (call .out)) ≡ map lineAgain (map entryLine (listed day entries)))
-    registry-back numbers = (
-      ap (registryFault day) registry-text ∙ registry-reads b t day book-was-good numbers,
-      ap registryLines registry-text ∙ registry-holds b t day book-was-good numbers,
+    pub registry-back :
+        (registryFault day (take (call .size) (call .out)) ≡ 0) × (registryLines (take (call .size) (call .out)) ≡ map lineAgain (map entryLine (listed day entries)))
+    registry-back = (
+      ap (registryFault day) registry-text ∙ registry-reads b t day book-was-good,
+      ap registryLines registry-text ∙ registry-holds b t day book-was-good,
     )
 
   -- the registry of a date that is not after the frozen day is written

@@ -6,7 +6,7 @@ use mathlib.Core.Bool.{Bool, true, false, cond, not, _&&_}
 use mathlib.Core.List.{List, [], _∷_, _++_, map}
 use lib.Dec.{eqb, leb}
 use lib.ListN.{length, getD, set}
-use borrow.Author.Tests.{lt-ltb, eq-eqb, eqb-true, leb-true, not-true}
+use borrow.Author.Tests.{lt-ltb, eqb-true, leb-true, not-true}
 use Rattle.fields.specs.declared.calendar.Day.{Day}
 use Rattle.fields.specs.declared.calendar.DayRead.{DayRead}
 use Rattle.fields.specs.declared.calendar.DayRead.the-variants.{Good, NoDate}
@@ -17,7 +17,6 @@ use Rattle.fields.proofs.Tests.{both, and-left, and-right, cond-elim, no-claim}
 use Rattle.fields.proofs.DayLaws.{same-day}
 use Rattle.fields.proofs.DigitLaws.{within-low}
 use Rattle.lists.specs.Lists.{allFrom}
-use Rattle.lists.proofs.ListLaws.{all-of}
 use Rattle.registry.specs.declared.line.Line.{Line}
 use Rattle.registry.specs.Line.{isLine, lineAgain}
 use Rattle.registry.specs.Registry.{registryFault, registryLines, registryBytes, rising}
@@ -25,36 +24,29 @@ use Rattle.registry.specs.RegistryText.{everyLine}
 use Rattle.registry.proofs.TextAgain.{on-line, lines-again, registry-again}
 use Rattle.book.specs.declared.Book.{Book}
 use Rattle.book.specs.declared.Entry.{Entry}
-use Rattle.book.specs.Entries.{BookRows, entryAt, entriesOf}
+use Rattle.book.specs.Entries.{BookRows, entriesOf}
 use Rattle.book.specs.BookValid.{entryFields, inTurn, entryGood, dayCount, bookGood}
-use Rattle.book.proofs.EntryLaws.{length-entries, getD-entries}
 use Rattle.book.proofs.BookLaws.{good-book}
 use Rattle.daybook.specs.Acceptance.{isFrozen}
 use Rattle.daybook.specs.Freezing.{isListed, listed, entryLine, registryOf, Listed, unlisted, listOn, writeRegistry}
 use Rattle.daybook.proofs.RegistryLaws.{entry-line, entries-all}
 
 -- ---- it reads back
--- thirty bytes hold the number of an entry
-abbrev thirty : ℕ → Entry → Bool
-thirty i e = eqb (length (e .number .bytes)) 30
-
 module _ (b : Book) (day : Day) where
-  lines-listed : (k : ℕ) (es : List Entry) → allFrom (entryGood b) k es ≡ true → allFrom thirty k es ≡ true → everyLine day (map entryLine (listed day es)) ≡ true
+  lines-listed : (k : ℕ) (es : List Entry) → allFrom (entryGood b) k es ≡ true → everyLine day (map entryLine (listed day es)) ≡ true
   unfolding allFrom listed isListed everyLine entryGood
-  lines-listed k [] h s = refl
-  lines-listed k (e ∷ es) h s =
+  lines-listed k [] h = refl
+  lines-listed k (e ∷ es) h =
       let p = both (inTurn b k e && entryFields e) (allFrom (entryGood b) (k + 1) es) h in
-      let q = both (thirty k e) (allFrom thirty (k + 1) es) s in
       go (onDay day (dateDay (e .date))) refl (not (eqb (e .state) 4))
       (entry-line e (and-right (inTurn b k e) (entryFields e) (p .0)))
-      (eqb-true _ _ (q .0))
-      (lines-listed (k + 1) es (p .1) (q .1))
+      (lines-listed (k + 1) es (p .1))
     where
-      go : (o : Bool) → onDay day (dateDay (e .date)) ≡ o → (u : Bool) → isLine (entryLine e) ≡ true → length (e .number .bytes) ≡ 30 → everyLine day (map entryLine (listed day es)) ≡ true
+      go : (o : Bool) → onDay day (dateDay (e .date)) ≡ o → (u : Bool) → isLine (entryLine e) ≡ true → everyLine day (map entryLine (listed day es)) ≡ true
           → everyLine day (map entryLine (cond (o && u) (e ∷ listed day es) (listed day es))) ≡ true
-      go true on true l n m = rw (on-line day (entryLine e) (record { size = n; good = l; on = on }), m)
-      go true on false l n m = m
-      go false on u l n m = m
+      go true on true l m = rw (on-line day (entryLine e) (record { good = l; on = on }), m)
+      go true on false l m = m
+      go false on u l m = m
 
   lines-rise : (n k : ℕ) (es : List Entry) → allFrom (entryGood b) k es ≡ true → n < b .first + k → rising n (map entryLine (listed day es)) ≡ true
   unfolding allFrom listed rising entryGood inTurn
@@ -80,19 +72,13 @@ lines-count day (e ∷ es) = go (onDay day (dateDay (e .date))) (not (eqb (e .st
     go true false m = omega arith
     go false u m = m
 
--- for a good book whose numbers are held in thirty bytes, as its rows hold them
-module _ (b : Book) (t : BookRows) (day : Day) (good : bookGood b t ≡ true) (numbers : (i : ℕ) → i < b .used → length ((entryAt t i) .number .bytes) ≡ 30) where
+-- for a good book
+module _ (b : Book) (t : BookRows) (day : Day) (good : bookGood b t ≡ true) where
   abbrev entries : List Entry
   entries = entriesOf t (b .used)
 
-  all-thirty : allFrom thirty 0 entries ≡ true
-  all-thirty = all-of thirty entries (entryAt t 0) (λ i l. ap (thirty i) (getD-entries t (b .used) i (entryAt t 0) (below i l)) ∙ eq-eqb _ _ (numbers i (below i l)))
-    where
-      below : (i : ℕ) → i < length entries → i < b .used
-      below i l = omega (arith, l, length-entries t (b .used))
-
   all-lines : everyLine day (map entryLine (listed day entries)) ≡ true
-  all-lines = lines-listed b day 0 entries (entries-all b t good) all-thirty
+  all-lines = lines-listed b day 0 entries (entries-all b t good)
 
   -- the registry of a day has no fault
   pub registry-reads : registryFault day (registryOf day entries) ≡ 0

@@ -80,15 +80,15 @@ module _ (s : List ℕ) where
 module _ (x : Number) where
   pub valid-none : x .len < 1 → false ≡ isNumber x
   unfolding isNumber
-  valid-none h = simp (lt-leb _ _ h)
+  valid-none h = simp (lt-leb _ _ h, and-false)
 
   pub valid-long : 30 < x .len → false ≡ isNumber x
   unfolding isNumber
   valid-long h = simp (lt-leb _ _ h, and-false)
 
-  pub valid-bytes : 1 ≤ x .len → x .len ≤ 30 → (a : List ℕ) → a ≡ numberText x → (t : Bool) → t ≡ every numberByte a → t ≡ isNumber x
+  pub valid-bytes : length (x .bytes) ≡ 30 → 1 ≤ x .len → x .len ≤ 30 → (a : List ℕ) → a ≡ numberText x → (t : Bool) → t ≡ every numberByte a → t ≡ isNumber x
   unfolding isNumber
-  valid-bytes l m a ea t e = e ∙ rw ea (simp (le-leb _ _ l, le-leb _ _ m))
+  valid-bytes k l m a ea t e = e ∙ rw ea (simp (eq-eqb _ _ k, le-leb _ _ l, le-leb _ _ m))
 
   pub text-cursor : (d : List ℕ) (at r : ℕ) (a : List ℕ) → a ≡ numberText x → r ≡ cursorAfter d at a → r ≡ cursorAfter d at (numberText x)
   text-cursor d at r a ea e = e ∙ rw ea
@@ -127,36 +127,45 @@ same-sym x y h = text-same y x (sym (same-length x y h)) (sym (same-text x y h))
 pub same-trans : (x y z : Number) → sameNumber x y ≡ true → sameNumber y z ≡ true → sameNumber x z ≡ true
 same-trans x y z h g = text-same x z (same-length x y h ∙ same-length y z g) (same-text x y h ∙ same-text y z g)
 
--- what is the same as a number is one
-pub same-is-number : (x y : Number) → sameNumber x y ≡ true → isNumber x ≡ true → isNumber y ≡ true
-unfolding isNumber
-same-is-number x y s h =
-    ap (λ (l : ℕ). leb 1 l && (leb l 30 && every numberByte (numberText y))) (sym (same-length x y s))
-    ∙ ap (λ (t : List ℕ). leb 1 (x .len) && (leb (x .len) 30 && every numberByte t)) (sym (same-text x y s))
-    ∙ h
-
 -- ---- what is written is read back
 pub text-of : (s : List ℕ) → numberText (numberOf s) ≡ s
 text-of s = take-append-seam s (drop (length s) (replicate 30 0))
 
-module _ (x : Number) (size : length (x .bytes) ≡ 30) (good : isNumber x ≡ true) where
-  len-some : 1 ≤ x .len
+padded-thirty : (s : List ℕ) → length s ≤ 30 → length (padded s) ≡ 30
+padded-thirty s l = simp (length-append, length-drop, length-replicate) (omega arith)
+
+-- the number of a text that is one
+pub text-number : (s : List ℕ) → isNumberText s ≡ true → isNumber (numberOf s) ≡ true
+unfolding isNumber isNumberText
+text-number s h =
+    let l : length s ≤ 30 = leb-true (length s) 30 (and-left (leb (length s) 30) (every numberByte s) (and-right (leb 1 (length s)) _ h)) in
+    rw (padded-thirty s l, text-of s) h
+
+module _ (x : Number) (good : isNumber x ≡ true) where
+  -- a number is held in thirty bytes
+  pub number-thirty : length (x .bytes) ≡ 30
   unfolding isNumber
-  len-some = leb-true 1 (x .len) (and-left (leb 1 (x .len)) (leb (x .len) 30 && every numberByte (numberText x)) good)
+  number-thirty = eqb-true _ _ (and-left (eqb (length (x .bytes)) 30) (leb 1 (x .len) && (leb (x .len) 30 && every numberByte (numberText x))) good)
+
+  len-good : leb 1 (x .len) && (leb (x .len) 30 && every numberByte (numberText x)) ≡ true
+  unfolding isNumber
+  len-good = and-right (eqb (length (x .bytes)) 30) (leb 1 (x .len) && (leb (x .len) 30 && every numberByte (numberText x))) good
 
   rest-good : leb (x .len) 30 && every numberByte (numberText x) ≡ true
-  unfolding isNumber
-  rest-good = and-right (leb 1 (x .len)) (leb (x .len) 30 && every numberByte (numberText x)) good
+  rest-good = and-right (leb 1 (x .len)) (leb (x .len) 30 && every numberByte (numberText x)) len-good
 
   pub text-length : length (numberText x) ≡ x .len
-  text-length = length-take-le (x .len) (x .bytes) (omega (arith, leb-true (x .len) 30 (and-left (leb (x .len) 30) (every numberByte (numberText x)) rest-good)))
+  text-length = length-take-le (x .len) (x .bytes) (omega (arith, number-thirty, leb-true (x .len) 30 (and-left (leb (x .len) 30) (every numberByte (numberText x)) rest-good)))
+
+  pub text-short : length (numberText x) ≤ 30
+  text-short = rw text-length (leb-true (x .len) 30 (and-left (leb (x .len) 30) (every numberByte (numberText x)) rest-good))
 
   pub text-bytes : every numberByte (numberText x) ≡ true
   text-bytes = and-right (leb (x .len) 30) (every numberByte (numberText x)) rest-good
 
   pub text-good : isNumberText (numberText x) ≡ true
-  unfolding isNumberText isNumber
-  text-good = rw text-length good
+  unfolding isNumberText
+  text-good = rw text-length len-good
 
   pub number-again : numberRead (numberText x) ≡ record { ok = true; number = numberOf (numberText x) }
   unfolding numberRead

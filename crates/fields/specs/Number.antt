@@ -16,9 +16,9 @@ numberByte b = leb 33 b && leb b 126
 abbrev pub numberText : Number → List ℕ
 numberText x = take (x .len) (x .bytes)
 
--- 1 to 30 bytes
+-- 1 to 30 bytes, held in thirty
 unfoldable pub isNumber : Number → Bool
-isNumber x = leb 1 (x .len) && (leb (x .len) 30 && every numberByte (numberText x))
+isNumber x = eqb (length (x .bytes)) 30 && (leb 1 (x .len) && (leb (x .len) 30 && every numberByte (numberText x)))
 
 unfoldable pub isNumberText : List ℕ → Bool
 isNumberText s = leb 1 (length s) && (leb (length s) 30 && every numberByte s)

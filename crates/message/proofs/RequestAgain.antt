@@ -5,7 +5,7 @@ use native.Mathlib.Omega.{arith}
 use mathlib.Core.Path.{_≡_, refl, ap}
 use mathlib.Core.List.{List, [], _∷_, append-nil}
 use mathlib.Core.Bool.{Bool, true, false, not, _&&_, _||_}
-use lib.ListN.{length, length-take}
+use lib.ListN.{length}
 use borrow.Author.Tests.{lt-ltb, le-leb}
 use Rattle.fields.specs.declared.digits.Digits.the-variants.{Value, Malformed}
 use Rattle.fields.specs.declared.number.Number.{Number}
@@ -21,7 +21,7 @@ use Rattle.fields.proofs.DigitLaws.{within-low, within-high}
 use Rattle.fields.proofs.DecimalLaws.{decimal-digits}
 use Rattle.fields.proofs.CodeLaws.{code-length, receipt-again, kind-again, reason-again}
 use Rattle.fields.proofs.AmountLaws.{amount-again, amount-bytes, amount-length}
-use Rattle.fields.proofs.NumberLaws.{byte-below-256, text-bytes, number-again}
+use Rattle.fields.proofs.NumberLaws.{byte-below-256, text-bytes, text-short, number-again}
 use Rattle.fields.proofs.DateLaws.{date-again, date-bytes}
 use Rattle.coding.specs.Url.{isPlain}
 use Rattle.coding.specs.Units.{isByte}
@@ -69,11 +69,10 @@ codeEntry used name k low high v some fit word w =
     plainEntry used name (decimal v) k (λ _. every-weaker isDigit isPlain (decimal v) digit-plain (decimal-digits v))
     (λ e. code-length k low high v some fit word (w e))
 
-abbrev numberEntry : (used : Bool) (x : Number) → length (x .bytes) ≡ 30 → (used ≡ true → isNumber x ≡ true) → Entry
-numberEntry used x size w =
-    let l : length (numberText x) ≤ 30 = simp length-take (omega arith) in
-    entry used numberName (numberText x) 90 (λ e. every-weaker numberByte isByte (numberText x) number-is-byte (text-bytes x size (w e)))
-    (λ _. le-trans (coded-length (numberText x)) (omega arith))
+abbrev numberEntry : (used : Bool) (x : Number) → (used ≡ true → isNumber x ≡ true) → Entry
+numberEntry used x w =
+    entry used numberName (numberText x) 90 (λ e. every-weaker numberByte isByte (numberText x) number-is-byte (text-bytes x (w e)))
+    (λ e. le-trans (coded-length (numberText x)) (omega (arith, text-short x (w e))))
 
 -- ---- the fields of a request
 if-used : (u p : Bool) → not u || p ≡ true → u ≡ true → p ≡ true
@@ -114,7 +113,7 @@ unfolding fieldFault firstFault fieldsRead askedOf
 fields-again a t r k m y n d er en ek em ed ey = rw (er, en, ek, em, ed, ey)
 
 -- ---- the request
-module _ (q : Asked) (dated : length (q .date) ≡ 19) (sized : length (q .number .bytes) ≡ 30) (good : isAsked q ≡ true) where
+module _ (q : Asked) (dated : length (q .date) ≡ 19) (good : isAsked q ≡ true) where
   parts : AskedParts q
   parts = asked-parts q good
 
@@ -122,7 +121,7 @@ module _ (q : Asked) (dated : length (q .date) ≡ 19) (sized : length (q .numbe
   ofAction = plainEntry true actionName (actionWord (q .action)) 7 (λ _. word-plain (q .action)) (λ _. word-length (q .action))
 
   abbrev ofNumber : Entry
-  ofNumber = numberEntry (hasAccount (q .action)) (q .number) sized (parts .number)
+  ofNumber = numberEntry (hasAccount (q .action)) (q .number) (parts .number)
 
   abbrev ofKind : Entry
   ofKind = codeEntry (hasAccount (q .action)) kindName 3 0 999 (q .kind) (omega arith) (omega arith) (omega arith) (parts .kind)
@@ -174,7 +173,7 @@ module _ (q : Asked) (dated : length (q .date) ≡ 19) (sized : length (q .numbe
       (fields-again (q .action) (slotsFor entries) _ _ _ _ _ _
       (field-again Value (q .receipt) 0 Malformed receiptRead ofReceipt (λ e. receipt-again (q .receipt) (parts .receipt e)))
       (field-again (λ n. record { ok = true; number = n }) (numberOf (numberText (q .number))) unusedNumber noNumber numberRead ofNumber
-      (λ e. number-again (q .number) sized (parts .number e)))
+      (λ e. number-again (q .number) (parts .number e)))
       (field-again Value (q .kind) 0 (Value 1) kindRead ofKind (λ e. kind-again (q .kind) (parts .kind e)))
       (field-again Value (q .amount) 0 Malformed amountRead ofAmount (λ e. amount-read (parts .amount e)))
       (field-again (λ d. record { ok = true; date = d }) (q .date) emptyDate noDate dateRead ofDate (λ e. date-again (q .date) (parts .date e)))

@@ -1,26 +1,25 @@
--- What a request that was read without fault holds: each field that the action has is in its range, and arrays have their lengths.
+-- What a request that was read without fault holds: each field that the action has is in its range, and the date has its length.
 use Prim.Native.Nat.{ℕ, suc}
 use native.Mathlib.Omega.{arith}
-use mathlib.Core.Path.{_≡_, refl, _∙_}
+use mathlib.Core.Path.{_≡_, refl}
 use mathlib.Core.Bool.{Bool, true, false, cond, not, _&&_, _||_}
 use mathlib.Core.List.{List, _∷_}
 use lib.Dec.{eqb, leb}
-use lib.ListN.{length, drop, getD, replicate, length-append, length-drop}
-use borrow.Author.Tests.{eqb-true, eqb-false, leb-true}
+use lib.ListN.{length, getD}
+use borrow.Author.Tests.{eqb-true, eqb-false}
 use Rattle.fields.specs.declared.digits.Digits.{Digits}
 use Rattle.fields.specs.declared.digits.Digits.the-variants.{Value, Malformed}
 use Rattle.fields.specs.declared.number.NumberRead.{NumberRead}
 use Rattle.fields.specs.declared.date.DateRead.{DateRead}
-use Rattle.fields.specs.Lists.{every}
 use Rattle.fields.specs.Digits.{faultOf}
 use Rattle.fields.specs.Amount.{isAmount, amountRead}
 use Rattle.fields.specs.Codes.{isReceipt, isKind, isReason, receiptRead, kindRead, reasonRead}
-use Rattle.fields.specs.Number.{numberByte, isNumber, isNumberText, numberOf, noNumber, numberRead}
+use Rattle.fields.specs.Number.{isNumber, isNumberText, noNumber, numberRead}
 use Rattle.fields.specs.Date.{isWritten, emptyDate, noDate, dateRead}
-use Rattle.fields.proofs.Tests.{and-left, and-right, cond-elim, no-claim}
+use Rattle.fields.proofs.Tests.{cond-elim, no-claim}
 use Rattle.fields.proofs.DigitLaws.{range-within}
 use Rattle.fields.proofs.AmountLaws.{amount-within}
-use Rattle.fields.proofs.NumberLaws.{text-of}
+use Rattle.fields.proofs.NumberLaws.{text-number}
 use Rattle.fields.proofs.DateLaws.{written-parts}
 use Rattle.coding.specs.Url.{decoded}
 use Rattle.message.specs.declared.action.Action.{Action}
@@ -43,7 +42,6 @@ pub record AskedGood (q : Asked) : Type 0 where
   pub date : hasDate (q .action) ≡ true → isWritten (q .date) ≡ true
   pub reason : hasReason (q .action) ≡ true → isReason (q .reason) ≡ true
   pub dated : length (q .date) ≡ 19
-  pub sized : length (q .number .bytes) ≡ 30
 
 -- ---- digit fields
 module _ (good : ℕ → Bool) (code : ℕ) where
@@ -70,24 +68,10 @@ ok-true : (b : Bool) (code : ℕ) → cond b 0 (suc code) ≡ 0 → b ≡ true
 ok-true true code e = refl
 ok-true false code e = absurd (omega arith)
 
-text-number : (s : List ℕ) → isNumberText s ≡ true → isNumber (numberOf s) ≡ true
-unfolding isNumber isNumberText
-text-number s h = rw (text-of s) h
-
-text-thirty : (s : List ℕ) → isNumberText s ≡ true → length ((numberOf s) .bytes) ≡ 30
-unfolding isNumberText
-text-thirty s h =
-    let l = leb-true (length s) 30 (and-left (leb (length s) 30) (every numberByte s) (and-right (leb 1 (length s)) _ h)) in
-    length-append s (drop (length s) (replicate 30 0)) ∙ omega (arith, length-drop {A = ℕ} (length s) (replicate 30 0))
-
 number-reads : (s : List ℕ) → (numberRead s) .ok ≡ true → isNumber ((numberRead s) .number) ≡ true
 unfolding numberRead
 number-reads s =
     cond-elim (λ (r : NumberRead). r .ok ≡ true → isNumber (r .number) ≡ true) (isNumberText s) _ _ (λ h _. text-number s h) (λ _ e. no-claim e)
-
-number-thirty : (s : List ℕ) → length ((numberRead s) .number .bytes) ≡ 30
-unfolding numberRead
-number-thirty s = cond-elim (λ (r : NumberRead). length (r .number .bytes) ≡ 30) (isNumberText s) _ _ (λ h. text-thirty s h) (λ _. refl)
 
 date-reads : (s : List ℕ) → (dateRead s) .ok ≡ true → isWritten ((dateRead s) .date) ≡ true
 unfolding dateRead
@@ -109,12 +93,6 @@ unfolding fieldOf held
 number-good false k e u = no-claim u
 number-good true Absent e u = no-claim e
 number-good true (Holds v) e u = number-reads (decoded v) e
-
-number-sized : (used : Bool) (k : Slot) → length ((numberIn used k) .number .bytes) ≡ 30
-unfolding fieldOf held
-number-sized false k = refl
-number-sized true Absent = refl
-number-sized true (Holds v) = number-thirty (decoded v)
 
 date-good : (used : Bool) (k : Slot) → (dateIn used k) .ok ≡ true → used ≡ true → isWritten ((dateIn used k) .date) ≡ true
 unfolding fieldOf held
@@ -154,7 +132,6 @@ fields-good a t h =
       date = date-good (hasDate a) (getD t 5 Absent) (ok-true _ 4 (date .0));
       reason = field-good isReason 31 Malformed reasonRead (λ v e. no-value v e) (range-within 1 1 5) (hasReason a) (getD t 6 Absent) (reason .0);
       dated = date-sized (hasDate a) (getD t 5 Absent);
-      sized = number-sized (hasAccount a) (getD t 1 Absent);
     }
 
 -- ---- the request
@@ -202,9 +179,6 @@ read-asked s h =
       used-if (hasReason (q .action)) (isReason (q .reason)) (g .reason),
     )
 
--- its date has nineteen bytes, its number thirty
+-- its date has nineteen bytes, also where the action has none
 pub read-dated : (s : List ℕ) → (requestRead s) .fault ≡ 0 → length ((requestRead s) .asked .date) ≡ 19
 read-dated s h = (read-good s h) .dated
-
-pub read-sized : (s : List ℕ) → (requestRead s) .fault ≡ 0 → length ((requestRead s) .asked .number .bytes) ≡ 30
-read-sized s h = (read-good s h) .sized

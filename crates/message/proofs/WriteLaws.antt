@@ -43,13 +43,13 @@ module _ (q : Asked) (d : List ℕ) (at : ℕ) (t : Bool) (test : t ≡ isAsked 
   unfolding requestText
   refused-kept h e g = g ∙ rw (← test, not-true t h) (written-none d at)
 
-  module _ (h : not t ≡ false) (date : length (q .date) ≡ 19) (bytes : length (q .number .bytes) ≡ 30) (z : List ℕ) (size : length z ≡ 256) (n : ℕ) (x : List ℕ)
+  module _ (h : not t ≡ false) (date : length (q .date) ≡ 19) (z : List ℕ) (size : length z ≡ 256) (n : ℕ) (x : List ℕ)
       (en : n ≡ cursorAll (requestTexts q) z 0) (ex : x ≡ bufferAll (requestTexts q) z 0) (v : List ℕ) (ev : v ≡ take n x) where
     text-is : v ≡ requestText q
     unfolding requestText
     text-is =
         let good : isAsked q ≡ true = sym test ∙ not-false t h in
-        let l : length (joined (requestTexts q)) ≤ length z = rw (texts-joined q) (omega (arith, request-length q date bytes good)) in
+        let l : length (joined (requestTexts q)) ≤ length z = rw (texts-joined q) (omega (arith, request-length q date good)) in
         ev ∙ rw (en, ex, texts-there z (requestTexts q) l, good) (texts-joined q)
 
     pub request-cursor : (r : ℕ) → r ≡ cursorAfter d at v → r ≡ cursorAfter d at (requestText q)

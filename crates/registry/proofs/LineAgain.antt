@@ -59,10 +59,10 @@ module _ (b : ℕ) (low : b < 33) where
   decimal-other : (n : ℕ) → every (other b) (decimal n) ≡ true
   decimal-other n = every-weaker isDigit (other b) (decimal n) digit (decimal-digits n)
 
-  module _ (x : Line) (size : length (x .number .bytes) ≡ 30) (good : isLine x ≡ true) where
+  module _ (x : Line) (good : isLine x ≡ true) where
     number-other : every (other b) (numberText (x .number)) ≡ true
     number-other =
-        every-weaker numberByte (other b) (numberText (x .number)) (λ c h. above c (byte-above-blank c h)) (text-bytes (x .number) size ((is-line x good) .number))
+        every-weaker numberByte (other b) (numberText (x .number)) (λ c h. above c (byte-above-blank c h)) (text-bytes (x .number) ((is-line x good) .number))
 
     date-other : every (other b) (x .date) ≡ true
     date-other = date-bytes (other b) (x .date) digit (above 45 (omega arith)) (above 84 (omega arith)) (above 58 (omega arith)) ((is-line x good) .date)
@@ -71,13 +71,13 @@ module _ (b : ℕ) (low : b < 33) where
     amount-other = amount-bytes (other b) (x .amount) digit (above 46 (omega arith))
 
 -- ---- the line
-module _ (x : Line) (size : length (x .number .bytes) ≡ 30) (good : isLine x ≡ true) where
+module _ (x : Line) (good : isLine x ≡ true) where
   -- no 0D
   pub body-other : every (other 13) (lineBody x) ≡ true
   unfolding every lineBody
   body-other =
       let l : 13 < 33 = omega arith in
-      simp (every-append, number-other 13 l x size good, decimal-other 13 l, date-other 13 l x size good, amount-other 13 l x size good)
+      simp (every-append, number-other 13 l x good, decimal-other 13 l, date-other 13 l x good, amount-other 13 l x good)
 
   pub line-again : lineRead (lineBody x) ≡ record { ok = true; line = lineAgain x }
   unfolding lineBody lineAgain
@@ -93,12 +93,12 @@ module _ (x : Line) (size : length (x .number .bytes) ≡ 30) (good : isLine x �
       let s₁ = k ++ (9 ∷ s₂) in
       let number : NumberRead = record { ok = true; number = numberOf n } in
       let line : LineRead = record { ok = true; line = record { number = numberOf n; kind = x .kind; date = x .date; amount = x .amount; receipt = x .receipt } } in
-      let fn = number-other 9 l x size good in
+      let fn = number-other 9 l x good in
       let fk = decimal-other 9 l (x .kind) in
-      let fd = date-other 9 l x size good in
-      let fa = amount-other 9 l x size good in
+      let fd = date-other 9 l x good in
+      let fa = amount-other 9 l x good in
       sym (line-read (n ++ (9 ∷ s₁)) s₁ s₂ n k number (Value (x .kind)) line
-      (sym (field-seam n s₁ fn)) (sym (number-again (x .number) size (h .number)))
+      (sym (field-seam n s₁ fn)) (sym (number-again (x .number) (h .number)))
       (sym (after-seam n s₁ fn)) (sym (field-seam k s₂ fk)) (sym (kind-again (x .kind) (h .kind))) (sym (after-seam k s₂ fk))
       (line-with number (Value (x .kind)) s₂ s₃ (x .date) a r (record { ok = true; date = x .date }) (Value (x .amount)) (Value (x .receipt)) line
       (sym (field-seam (x .date) s₃ fd)) (sym (date-again (x .date) (h .date))) (sym (after-seam (x .date) s₃ fd))

@@ -3,9 +3,7 @@ use Prim.Native.Nat.{_≤_}
 use native.Mathlib.Omega.{arith}
 use mathlib.Core.Path.{_≡_}
 use mathlib.Core.Bool.{true}
-use lib.Dec.{leb}
-use lib.ListN.{length, length-append, length-take}
-use borrow.Author.Tests.{leb-true}
+use lib.ListN.{length, length-append}
 use Rattle.fields.specs.Digits.{decimal}
 use Rattle.fields.specs.Amount.{isAmount, amountBytes}
 use Rattle.fields.specs.Codes.{isReceipt, isKind}
@@ -14,6 +12,7 @@ use Rattle.fields.specs.Date.{isWritten}
 use Rattle.fields.proofs.Tests.{both}
 use Rattle.fields.proofs.CodeLaws.{code-length}
 use Rattle.fields.proofs.AmountLaws.{amount-length}
+use Rattle.fields.proofs.NumberLaws.{text-short}
 use Rattle.fields.proofs.DateLaws.{written-parts}
 use Rattle.registry.specs.declared.line.Line.{Line}
 use Rattle.registry.specs.Line.{isLine, lineBody, lineBytes, lineText}
@@ -52,20 +51,11 @@ module _ (x : Line) (good : isLine x ≡ true) where
   unfolding lineText
   text-is = rw good
 
-  number-size : length (numberText (x .number)) ≤ 30
-  unfolding isNumber
-  number-size =
-      let n = x .number in
-      let a = both (leb 1 (n .len)) _ ((is-line x good) .number) in
-      let b = both (leb (n .len) 30) _ (a .1) in
-      let l : n .len ≤ 30 = leb-true (n .len) 30 (b .0) in
-      rw length-take (omega arith)
-
   pub sizes : Sizes x
   sizes =
       let h = is-line x good in
       record {
-        number = number-size;
+        number = text-short (x .number) (h .number);
         kind = code-length 3 0 999 (x .kind) (omega arith) (omega arith) (omega arith) (h .kind);
         date = (written-parts (x .date) (h .date)) .size;
         amount = amount-length (x .amount) (h .amount);

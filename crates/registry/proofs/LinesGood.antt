@@ -5,7 +5,7 @@ use mathlib.Core.Path.{_≡_, refl, sym, ap, _∙_}
 use mathlib.Core.List.{List, [], _∷_}
 use mathlib.Core.Bool.{Bool, true, false, cond, _&&_}
 use lib.Dec.{leb}
-use lib.ListN.{length, length-append, length-drop, length-replicate}
+use lib.ListN.{length}
 use borrow.Author.Tests.{leb-true}
 use Rattle.fields.specs.declared.calendar.Day.{Day}
 use Rattle.fields.specs.declared.digits.Digits.{Digits}
@@ -14,12 +14,12 @@ use Rattle.fields.specs.declared.number.NumberRead.{NumberRead}
 use Rattle.fields.specs.declared.date.DateRead.{DateRead}
 use Rattle.fields.specs.Amount.{isAmount, amountRead}
 use Rattle.fields.specs.Codes.{isReceipt, receiptRead, isKind, kindRead}
-use Rattle.fields.specs.Number.{isNumber, isNumberText, padded, numberOf, noNumber, numberRead}
+use Rattle.fields.specs.Number.{isNumber, isNumberText, noNumber, numberRead}
 use Rattle.fields.specs.Date.{isWritten, noDate, dateRead}
 use Rattle.fields.proofs.Tests.{both, cond-elim, no-claim}
 use Rattle.fields.proofs.DigitLaws.{range-within}
 use Rattle.fields.proofs.AmountLaws.{amount-within}
-use Rattle.fields.proofs.NumberLaws.{text-of}
+use Rattle.fields.proofs.NumberLaws.{text-number}
 use Rattle.registry.specs.declared.line.LineRead.{LineRead}
 use Rattle.registry.specs.Line.{field, afterField, noLine, lineOf, lineRead, isLine}
 use Rattle.registry.specs.Registry.{splitLines, countOf, lineCount, goodLine, goodLines, heldLines, registryLines, rising, registryFault}
@@ -29,25 +29,12 @@ use Rattle.registry.proofs.SplitLaws.{count-more, good-more}
 use Rattle.registry.proofs.TextAgain.{on-line}
 
 -- ---- fields that were read
-module _ (f : List ℕ) (good : isNumberText f ≡ true) where
-  number-is : isNumber (numberOf f) ≡ true
-  unfolding isNumber isNumberText
-  number-is = rw (text-of f) good
-
-  number-size : length (padded f) ≡ 30
-  unfolding isNumberText
-  number-size =
-      let a = both (leb 1 (length f)) _ good in
-      let b = both (leb (length f) 30) _ (a .1) in
-      let l : length f ≤ 30 = leb-true (length f) 30 (b .0) in
-      simp (length-append, length-drop, length-replicate) (omega arith)
-
 abbrev NumberGood : NumberRead → Type 0
-NumberGood r = r .ok ≡ true → (isNumber (r .number) ≡ true) × (length (r .number .bytes) ≡ 30)
+NumberGood r = r .ok ≡ true → isNumber (r .number) ≡ true
 
 number-good : (f : List ℕ) → NumberGood (numberRead f)
 unfolding numberRead
-number-good f = cond-elim NumberGood (isNumberText f) _ noNumber (λ e _. (number-is f e, number-size f e)) (λ _ h. no-claim h)
+number-good f = cond-elim NumberGood (isNumberText f) _ noNumber (λ e _. text-number f e) (λ _ h. no-claim h)
 
 date-good : (f : List ℕ) → (dateRead f) .ok ≡ true → isWritten ((dateRead f) .date) ≡ true
 unfolding dateRead
@@ -55,7 +42,7 @@ date-good f = cond-elim (λ r. r .ok ≡ true → isWritten (r .date) ≡ true) 
 
 -- ---- a line that was read
 abbrev LineGood : LineRead → Type 0
-LineGood r = r .ok ≡ true → (isLine (r .line) ≡ true) × (length (r .line .number .bytes) ≡ 30)
+LineGood r = r .ok ≡ true → isLine (r .line) ≡ true
 
 of-good : (n : NumberRead) (k : Digits) (d : DateRead) (a r : Digits) → NumberGood n → ((v : ℕ) → Value v ≡ k → isKind v ≡ true)
     → (d .ok ≡ true → isWritten (d .date) ≡ true) → ((v : ℕ) → Value v ≡ a → isAmount v ≡ true) → ((v : ℕ) → Value v ≡ r → isReceipt v ≡ true)
@@ -67,7 +54,7 @@ of-good n (Value k) d (Value a) (Value r) gn gk gd ga gr h =
     cond-elim LineGood (n .ok && d .ok) _ noLine
     (λ t _.
     let p = both (n .ok) (d .ok) t in
-    (line-is _ (record { number = gn (p .0) .0; kind = gk k refl; date = gd (p .1); amount = ga a refl; receipt = gr r refl }), gn (p .0) .1))
+    line-is _ (record { number = gn (p .0); kind = gk k refl; date = gd (p .1); amount = ga a refl; receipt = gr r refl }))
     (λ _ e. no-claim e)
     h
 
@@ -90,8 +77,7 @@ module _ (day : Day) where
   unfolding goodLine
   good-on l h =
       let p = both ((lineRead l) .ok) _ h in
-      let g = line-good l (p .0) in
-      on-line day ((lineRead l) .line) (record { size = g .1; good = g .0; on = p .1 })
+      on-line day ((lineRead l) .line) (record { good = line-good l (p .0); on = p .1 })
 
   held-good : (ls : List (List ℕ)) → goodLines day ls ≡ true → everyLine day (heldLines ls) ≡ true
   unfolding everyLine heldLines

@@ -8,7 +8,7 @@ use mathlib.Core.Bool.{true, _&&_}
 use lib.Dec.{ltb, eqb}
 use lib.ListN.{length, take, drop, length-append}
 use lib.Seq.{take-append-seam, drop-append-add}
-use borrow.Author.Tests.{le-leb, eqb-true, eq-eqb, not-true}
+use borrow.Author.Tests.{le-leb, not-true}
 use Rattle.fields.specs.declared.calendar.Day.{Day}
 use Rattle.fields.specs.Lists.{every}
 use Rattle.fields.specs.Calendar.{onDay}
@@ -24,20 +24,18 @@ use Rattle.registry.proofs.SplitLaws.{held-line, count-line, good-line}
 
 -- what the test of a day's line says
 pub record LineOn (day : Day) (x : Line) : Type 0 where
-  pub size : length (x .number .bytes) ≡ 30
   pub good : isLine x ≡ true
   pub on : onDay day (dateDay (x .date)) ≡ true
 
 pub line-on : (day : Day) (x : Line) → lineOn day x ≡ true → LineOn day x
 unfolding lineOn
 line-on day x h =
-    let a = both (eqb (length (x .number .bytes)) 30) _ h in
-    let b = both (isLine x) _ (a .1) in
-    record { size = eqb-true _ _ (a .0); good = b .0; on = b .1 }
+    let b = both (isLine x) _ h in
+    record { good = b .0; on = b .1 }
 
 pub on-line : (day : Day) (x : Line) → LineOn day x → lineOn day x ≡ true
 unfolding lineOn
-on-line day x h = rw (eq-eqb _ _ (h .size), h .good, h .on)
+on-line day x h = rw (h .good, h .on)
 
 pub every-line : (day : Day) (x : Line) (xs : List Line) → everyLine day (x ∷ xs) ≡ true → (LineOn day x) × (everyLine day xs ≡ true)
 unfolding everyLine
@@ -71,7 +69,7 @@ module _ (day : Day) (x : Line) (ok : LineOn day x) (ys : List ℕ) where
   seam = append-assoc (lineBody x) (13 ∷ (10 ∷ [])) ys
 
   ends : lineEnd (lineBytes x ++ ys) ≡ length (lineBody x)
-  ends = rw seam (end-behind (lineBody x) ys (body-other x (ok .size) (ok .good)))
+  ends = rw seam (end-behind (lineBody x) ys (body-other x (ok .good)))
 
   ended : lineEnd (lineBytes x ++ ys) < length (lineBytes x ++ ys)
   ended = rw (ends, seam, length-append) (omega arith)
@@ -83,7 +81,7 @@ module _ (day : Day) (x : Line) (ok : LineOn day x) (ys : List ℕ) where
   rest = rw (ends, seam) (drop-append-add (lineBody x) (13 ∷ (10 ∷ ys)) 2)
 
   read : lineRead (lineBody x) ≡ record { ok = true; line = lineAgain x }
-  read = line-again x (ok .size) (ok .good)
+  read = line-again x (ok .good)
 
   held-first : registryLines (lineBytes x ++ ys) ≡ lineAgain x ∷ registryLines ys
   unfolding registryLines

@@ -2,8 +2,7 @@
 use Prim.Native.Nat.{ℕ}
 use mathlib.Core.List.{List, [], _∷_, _++_}
 use mathlib.Core.Bool.{Bool, true, _&&_}
-use lib.ListN.{length, replicate}
-use lib.Dec.{eqb}
+use lib.ListN.{replicate}
 use Rattle.fields.specs.declared.calendar.Day.{Day}
 use Rattle.fields.specs.declared.digits.Digits.{Digits}
 use Rattle.fields.specs.declared.number.NumberRead.{NumberRead}
@@ -29,9 +28,9 @@ rowOf9 = replicate 96 9
 unfoldable pub accountPart : Line → List ℕ
 accountPart x = numberText (x .number) ++ ((9 ∷ decimal (x .kind)) ++ (9 ∷ (x .date)))
 
--- a line that a registry of the day may hold; thirty bytes hold its number
+-- a line that a registry of the day may hold
 unfoldable pub lineOn : Day → Line → Bool
-lineOn day x = eqb (length (x .number .bytes)) 30 && (isLine x && onDay day (dateDay (x .date)))
+lineOn day x = isLine x && onDay day (dateDay (x .date))
 
 unfoldable pub everyLine : Day → List Line → Bool
 everyLine day [] = true

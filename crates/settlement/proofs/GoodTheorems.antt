@@ -1,17 +1,14 @@
 -- Row 68 through a settlement: all its clauses hold after it, but for the bound on balances, which the lines may pass.
-use Prim.Native.Nat.{ℕ, _+_, _<_, _≤_}
-use native.Mathlib.Decide.{ℕ-discrete}
+use Prim.Native.Nat.{ℕ, _<_, _≤_}
 use native.Mathlib.Omega.{arith}
 use mathlib.Core.Path.{_≡_, refl, sym, ap, _∙_}
 use mathlib.Core.Bool.{true, false}
-use mathlib.Core.List.{List, [], _∷_, _++_}
-use lib.ListN.{length, getD, length-append, length-set, length-map, List·getD-append}
-use lib.Seq.{getD-at}
+use mathlib.Core.List.{List, [], _∷_}
+use lib.ListN.{length, getD, length-append, length-set, length-map}
 use borrow.Author.Tests.{leb-false}
 use Rattle.fields.specs.declared.calendar.Day.{Day}
 use Rattle.fields.specs.declared.calendar.DayRead.{DayRead}
 use Rattle.fields.specs.declared.calendar.DayRead.the-variants.{Good, NoDate}
-use Rattle.fields.specs.declared.number.Number.{Number}
 use Rattle.fields.specs.Calendar.{isDay, nextDay, onDay}
 use Rattle.fields.specs.Date.{isWritten}
 use Rattle.fields.proofs.Tests.{no-claim}
@@ -27,12 +24,12 @@ use Rattle.table.specs.Table.{Rows, recordAt, recordsOf, rowsFrom, findRecord}
 use Rattle.table.specs.Accounts.{accountsOf, findAccount, withClosed}
 use Rattle.table.specs.Valid.{recordGood, accountKnown}
 use Rattle.table.proofs.TableLaws.{length-records, getD-records, from-at, from-whole, whole-from}
-use Rattle.gate.specs.Deliver.{noRecord, makeRecord, isFull}
+use Rattle.gate.specs.Deliver.{noRecord, isFull}
 use Rattle.gate.proofs.RowsLaws.{SameNames}
-use Rattle.gate.proofs.KeptLaws.{GateRep, GateBase, gate-facts, base-of, names-thirty, names-apart}
+use Rattle.gate.proofs.KeptLaws.{GateRep, GateBase, gate-facts, base-of, names-apart}
 use Rattle.settlement.specs.Settle.{matches, Verdict, Keeps, Restores, Posts, Unposted, postVerdict, verdictOf, restored, postedRecord, Ledger, applied, settleLine, settleLines, sweptRecord, swept, Settled, settleDay, settle}
 use Rattle.settlement.proofs.HeldLaws.{post-room, verdict-post}
-use Rattle.settlement.proofs.SettleLaws.{Onward, applied-onward, line-onward, swept-onward, Passed, settle-elim, before, after, after-used}
+use Rattle.settlement.proofs.SettleLaws.{line-onward, Passed, settle-elim, before, after, after-used}
 use Rattle.settlement.proofs.BalanceLaws.{sweep-names, settle-names}
 use Rattle.settlement.proofs.LedgerLaws.{LineOk, lines-ok, LedgerGood, lines-good, sweep-good}
 
@@ -44,24 +41,7 @@ next-dated last day h = go (nextDay last) refl h
     go NoDate e h = no-claim h
     go (Good x) e h = ap isDay (sym (same-day x day h)) ∙ next-is-day last x e
 
--- ---- what the lines and the sweep keep: no more records than are lent, and numbers of thirty bytes
-abbrev Sized : Ledger → Type 0
-Sized l = (i : ℕ) → i < length (l .records) → length ((getD (l .records) i noRecord) .number .bytes) ≡ 30
-
-sized-onward : (l l′ : Ledger) → Onward l l′ → length (l′ .records) ≡ length (l .records) → Sized l → Sized l′
-sized-onward l l′ o n s i h =
-    let b : i < length (l .records) = omega (arith, n) in
-    ap (λ (m : Number). length (m .bytes)) (o .keys i b .number) ∙ s i b
-
-sized-more : (rs : List Record) (r : Record) → length (r .number .bytes) ≡ 30 → (g g′ : Gate) → Sized (record { gate = g; records = rs }) → Sized (record { gate = g′; records = rs ++ (r ∷ []) })
-sized-more rs r n g g′ s i h = pick (ℕ-discrete i (length rs))
-  where
-    pick : Dec (i ≡ length rs) → length ((getD (rs ++ (r ∷ [])) i noRecord) .number .bytes) ≡ 30
-    pick (yes e) = ap (λ (y : Record). length (y .number .bytes)) (getD-at rs r [] noRecord i (sym e)) ∙ n
-    pick (no d) =
-        let b : i < length rs = omega (arith, h, length-append rs (r ∷ [])) in
-        ap (λ (y : Record). length (y .number .bytes)) (List·getD-append rs (r ∷ []) noRecord i b) ∙ s i b
-
+-- ---- what the lines and the sweep keep: no more records than are lent
 has-free : (g : Gate) (cap : ℕ) → isFull g cap ≡ false → g .used < cap
 unfolding isFull
 has-free g cap h = leb-false cap (g .used) h
@@ -85,25 +65,6 @@ module _ (clock : List ℕ) (cap : ℕ) where
   unfolding settleLines
   lines-room [] l used room = room
   lines-room (x ∷ xs) l used room = lines-room xs (settleLine clock cap x l) (line-onward clock cap x l .step used) (line-room x l used room)
-
-  line-sized : (x : Line) → LineOk x → (l : Ledger) → Sized l → Sized (settleLine clock cap x l)
-  unfolding settleLine
-  line-sized x ok l s = go (verdictOf (l .gate) (l .records) cap x)
-    where
-      go : (v : Verdict) → Sized (applied clock x v l)
-      go Keeps = unfold applied in s
-      go Unposted = unfold applied in s
-      go (Restores k) =
-          sized-onward l (applied clock x (Restores k) l) (applied-onward clock x (Restores k) l)
-          (unfold applied in length-set (l .records) k (restored (getD (l .records) k noRecord))) s
-      go (Posts a) =
-          unfold applied in
-          sized-more (l .records) (postedRecord (l .gate) clock x) (unfold postedRecord makeRecord in ok .valid .size) (l .gate) ((applied clock x (Posts a) l) .gate) s
-
-  lines-sized : (xs : List Line) → Each LineOk xs → (l : Ledger) → Sized l → Sized (settleLines clock cap xs l)
-  unfolding settleLines
-  lines-sized [] ok l s = s
-  lines-sized (x ∷ xs) ok l s = lines-sized xs (ok .1) (settleLine clock cap x l) (line-sized x (ok .0) l s)
 
 closed-good : (h : Gate) (day : Day) (i : ℕ) (r : Record) → recordGood h i r ≡ true → recordGood (withClosed h day) i r ≡ true
 unfolding recordGood accountKnown
@@ -139,12 +100,6 @@ module _ (g : Gate) (t : Rows) (rep : GateRep g t) (clock : List ℕ) (day : Day
     fine : Each LineOk xs
     fine = lines-ok day xs (registry-lines day text (p .faultless) .lines)
 
-    last-sized : Sized last
-    last-sized =
-        sized-onward mid last (swept-onward clock day xs mid) as-many
-        (lines-sized clock (length (t .nums)) xs fine first
-        (λ i h. let f = at-first i h in ap (λ (r : Record). length (r .number .bytes)) (f .1) ∙ rep .numbers i (f .0)))
-
     last-good : LedgerGood last
     unfolding swept
     last-good =
@@ -174,10 +129,6 @@ module _ (g : Gate) (t : Rows) (rep : GateRep g t) (clock : List ℕ) (day : Day
                 ap (recordGood (withClosed (last .gate) day) i) (from-at t (last .records) i noRecord b) ∙ closed-good (last .gate) day i (getD (last .records) i noRecord) (last-good i b);
           };
           whole = rw (← u) (whole-from t (last .records));
-          names = names-thirty (withClosed g day) _ s (rep .names);
-          numbers = λ i h.
-              let b : i < length (last .records) = omega (arith, u) in
-              ap (λ (r : Record). length (r .number .bytes)) (from-at t (last .records) i noRecord b) ∙ last-sized i b;
           apart = names-apart (withClosed g day) _ s (rep .apart);
         }
 

@@ -15,7 +15,7 @@ use Rattle.fields.specs.Amount.{isAmount}
 use Rattle.fields.specs.Codes.{isReceipt}
 use Rattle.fields.specs.Date.{isWritten}
 use Rattle.fields.proofs.Tests.{both, and-left, cond-elim, no-claim}
-use Rattle.fields.proofs.KeyLaws.{Valid}
+use Rattle.fields.proofs.KeyLaws.{Valid, valid-number}
 use Rattle.registry.specs.declared.line.Line.{Line}
 use Rattle.registry.specs.Line.{isLine}
 use Rattle.registry.specs.Registry.{registryLines}
@@ -62,7 +62,7 @@ lines-ok day (x ∷ xs) h = let p = every-line day x xs h in (one (p .0), lines-
         let k = both _ _ (n .1) in
         let d = both _ _ (k .1) in
         let a = both _ _ (d .1) in
-        record { valid = record { number = n .0; size = o .size; kind = k .0 }; date = d .0; amount = a .0; receipt = a .1 }
+        record { valid = valid-number _ _ (n .0) (k .0); date = d .0; amount = a .0; receipt = a .1 }
 
 -- a record is so at a gate with the same names
 pub record-there : (g g′ : Gate) → SameNames g g′ → (r : Record) → RecordOk g r → RecordOk g′ r

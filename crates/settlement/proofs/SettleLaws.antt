@@ -425,7 +425,7 @@ module _ (day : Day) where
           apart q =
               let fits : matches x (getD (l .records) k noRecord) ≡ true = restores-fits x (l .records) k (l .gate) lent e in
               let same : (getD (l .records) i noRecord) .date ≡ x .date = ap (λ (j : ℕ). (getD (l .records) j noRecord) .date) q ∙ matches-date x (getD (l .records) k noRecord) fits in
-              let today : onDay day (dateDay (x .date)) ≡ true = and-right (isLine x) _ (and-right (eqb (length (x .number .bytes)) 30) _ on) in
+              let today : onDay day (dateDay (x .date)) ≡ true = and-right (isLine x) _ on in
               let z : true ≡ false = sym today ∙ ap (λ (d : List ℕ). onDay day (dateDay d)) (sym same) ∙ off in
               true-not-false z
 

@@ -189,8 +189,8 @@ withTable u = record { gate = u .gate; table = oneRow; book = u .book; bookRows 
 
 table-move : (s : Step) (u : World) → BadTable u → Moves withTable BadTable u (step s u) (step s (withTable u)) (DeliversReport s u) (DeliversReport s (withTable u))
 unfolding accepting checking writing freezing listing answerArrives reportArrives
-table-move (opens n k) u b = stays (open-stays u (b .refused) (n .number) k) (λ day d. d)
-table-move (draws n k kopecks) u b = stays (draw-stays u (b .refused) (n .number) k kopecks) (λ day d. d)
+table-move (opens n k) u b = stays (open-stays u (b .refused) n k) (λ day d. d)
+table-move (draws n k kopecks) u b = stays (draw-stays u (b .refused) n k kopecks) (λ day d. d)
 table-move (accepts n k kopecks date) u b = goes b refl (λ day d. d)
 table-move (writesCheck n k kopecks out) u b = goes b refl (λ day d. d)
 table-move (writesPayment receipt out) u b = goes b refl (λ day d. d)
@@ -273,8 +273,8 @@ book-move : (s : Step) (u : World) → BadBook u → Moves withBook BadBook u (s
 unfolding opening drawing
 book-move (opens n k) u b = goes b refl (λ day d. d)
 book-move (draws n k kopecks) u b = goes b refl (λ day d. d)
-book-move (accepts n k kopecks date) u b = stays (accept-stays u (b .refused) (n .number) k kopecks date) (λ day d. d)
-book-move (writesCheck n k kopecks out) u b = stays (check-stays u (b .refused) (n .number) k kopecks out) (λ day d. d)
+book-move (accepts n k kopecks date) u b = stays (accept-stays u (b .refused) n k kopecks date) (λ day d. d)
+book-move (writesCheck n k kopecks out) u b = stays (check-stays u (b .refused) n k kopecks out) (λ day d. d)
 book-move (writesPayment receipt out) u b = stays (write-stays u (b .refused) Payment receipt 0 out) (λ day d. d)
 book-move (writesStatus receipt out) u b = stays (write-stays u (b .refused) Status receipt 0 out) (λ day d. d)
 book-move (writesCancel receipt reason out) u b = stays (write-stays u (b .refused) Cancel receipt reason out) (λ day d. d)
@@ -316,10 +316,10 @@ module _ (w : World) (st : Start w) (bad : bookGood (w .book) (w .bookRows) ≡ 
 -- ---- both refused: the world stays as it is
 module _ (u : World) (g : BadTable u) (b : BadBook u) where
   idle : (s : Step) → step s u ≡ u
-  idle (opens n k) = open-stays u (g .refused) (n .number) k
-  idle (draws n k kopecks) = draw-stays u (g .refused) (n .number) k kopecks
-  idle (accepts n k kopecks date) = accept-stays u (b .refused) (n .number) k kopecks date
-  idle (writesCheck n k kopecks out) = check-stays u (b .refused) (n .number) k kopecks out
+  idle (opens n k) = open-stays u (g .refused) n k
+  idle (draws n k kopecks) = draw-stays u (g .refused) n k kopecks
+  idle (accepts n k kopecks date) = accept-stays u (b .refused) n k kopecks date
+  idle (writesCheck n k kopecks out) = check-stays u (b .refused) n k kopecks out
   idle (writesPayment receipt out) = write-stays u (b .refused) Payment receipt 0 out
   idle (writesStatus receipt out) = write-stays u (b .refused) Status receipt 0 out
   idle (writesCancel receipt reason out) = write-stays u (b .refused) Cancel receipt reason out

@@ -9,6 +9,7 @@ use lib.Dec.{eqb, leb}
 use lib.ListN.{length, take, getElem?}
 use borrow.Author.Tests.{leb-true, eq-eqb, ne-eqb, not-true, not-false}
 use Rattle.fields.specs.declared.calendar.Day.{Day}
+use Rattle.fields.specs.declared.number.Number.{Number}
 use Rattle.fields.specs.Lists.{written, cursorAfter}
 use Rattle.fields.specs.Amount.{isAmount}
 use Rattle.fields.specs.Calendar.{isDay, dayBefore}
@@ -40,7 +41,7 @@ use Rattle.agent.specs.Writing.{Wrote, requestOf, checkOf, writeCheck}
 use Rattle.book.proofs.PaymentLaws.{entry-parts}
 use Rattle.agent.proofs.MovedLaws.{same-place, found-fields}
 use Rattle.agent.proofs.WritingTheorems.{write-cases}
-use Rattle.channel.specs.World.{Sent, sentRequest, sentAnswer, sentRegistry, sentReport, World, Named, Step, opens, draws, accepts, writesCheck, writesPayment, writesStatus, writesCancel, freezes, writesRegistry, delivers, sentIf, atGate, isAnswered, requestArrives, registryArrives, answerArrives, reportArrives, delivered, opening, drawing, accepting, checking, writing, freezing, listing, step, codeOf}
+use Rattle.channel.specs.World.{Sent, sentRequest, sentAnswer, sentRegistry, sentReport, World, Step, opens, draws, accepts, writesCheck, writesPayment, writesStatus, writesCancel, freezes, writesRegistry, delivers, sentIf, atGate, isAnswered, requestArrives, registryArrives, answerArrives, reportArrives, delivered, opening, drawing, accepting, checking, writing, freezing, listing, step, codeOf}
 use Rattle.channel.specs.Claim.{recordsIn, entryIn, entriesIn}
 
 -- ---- what a call that wrote hands on
@@ -52,9 +53,9 @@ same-sent z m s e = rw e refl
 
 -- ---- a request
 -- malformed fields give no text, others a short one
-text-fits : (q : Asked) → length (q .date) ≡ 19 → length (q .number .bytes) ≡ 30 → length (requestText q) ≤ 512
+text-fits : (q : Asked) → length (q .date) ≡ 19 → length (requestText q) ≤ 512
 unfolding requestText
-text-fits q dated sized = cond-elim (λ (xs : List ℕ). length xs ≤ 512) (isAsked q) _ _ (λ good. request-fits q dated sized good) (λ _. omega arith)
+text-fits q dated = cond-elim (λ (xs : List ℕ). length xs ≤ 512) (isAsked q) _ _ (λ good. request-fits q dated good) (λ _. omega arith)
 
 module _ (w : World) (a : Action) (receipt reason : ℕ) (out : List ℕ) where
   -- a writing that gave 0 found the receipt in the book
@@ -64,38 +65,38 @@ module _ (w : World) (a : Action) (receipt reason : ℕ) (out : List ℕ) where
       write-cases (w .book) (w .bookRows) a receipt reason out (λ (k : Wrote). k .code ≡ 0 → (i : ℕ) × (findEntry receipt (entriesIn w) ≡ At i)) (λ code n z. absurd (n z))
       (λ i good room forms e free z. (i, e))
 
-  -- a payment, a status or a cancel is the text of its entry; an entry's number has its thirty bytes, as an array has
-  pub request-sent : (i : ℕ) → findEntry receipt (entriesIn w) ≡ At i → length ((entryIn w i) .number .bytes) ≡ 30 → (writing w a receipt reason out) .code ≡ 0
+  -- a payment, a status or a cancel is the text of its entry
+  pub request-sent : (i : ℕ) → findEntry receipt (entriesIn w) ≡ At i → (writing w a receipt reason out) .code ≡ 0
       → (writing w a receipt reason out) .world .sent ≡ w .sent ++ (sentRequest a receipt (requestText (requestOf a (entryIn w i) reason)) ∷ [])
   unfolding writing requestOf
-  request-sent i found sized =
+  request-sent i found =
       write-cases (w .book) (w .bookRows) a receipt reason out
       (λ (k : Wrote). k .code ≡ 0 → sentIf (eqb (k .code) 0) (sentRequest a receipt (take (k .size) (k .out))) (w .sent) ≡ w .sent ++ (sentRequest a receipt (requestText (requestOf a (entryIn w i) reason)) ∷ []))
       (λ code n z. absurd (n z))
       (λ j good room forms e free z.
       let same : j ≡ i = same-place j i (sym e ∙ found) in
       let dated = written-parts ((entryIn w i) .date) (entry-parts (entryIn w i) (found-fields (w .book) (w .bookRows) receipt i good found) .date) .size in
-      let fits : length (requestText (requestOf a (entryIn w i) reason)) ≤ length out = omega (arith, room, text-fits (requestOf a (entryIn w i) reason) dated sized) in
+      let fits : length (requestText (requestOf a (entryIn w i) reason)) ≤ length out = omega (arith, room, text-fits (requestOf a (entryIn w i) reason) dated) in
       ap (λ (n : ℕ). w .sent ++ (sentRequest a receipt (take (cursorAfter out 0 (requestText (requestOf a (entryIn w n) reason))) (written out 0 (requestText (requestOf a (entryIn w n) reason)))) ∷ [])) same
       ∙ ap (λ (s : List ℕ). w .sent ++ (sentRequest a receipt s ∷ [])) (text-back out (requestText (requestOf a (entryIn w i) reason)) fits))
 
 -- a check is the text of its own fields, and has no receipt
-pub check-sent : (w : World) (n : Named) (k kopecks : ℕ) (out : List ℕ) → (checking w (n .number) k kopecks out) .code ≡ 0
-    → (checking w (n .number) k kopecks out) .world .sent ≡ w .sent ++ (sentRequest Check 0 (requestText (checkOf (n .number) k kopecks)) ∷ [])
+pub check-sent : (w : World) (n : Number) (k kopecks : ℕ) (out : List ℕ) → (checking w n k kopecks out) .code ≡ 0
+    → (checking w n k kopecks out) .world .sent ≡ w .sent ++ (sentRequest Check 0 (requestText (checkOf n k kopecks)) ∷ [])
 unfolding checking writeCheck checkOf
 check-sent w n k kopecks out =
     cond-elim P (bookGood (w .book) (w .bookRows)) _ _
     (λ _. cond-elim P (leb 512 (length out)) _ _
-    (λ room. cond-elim P (isNumber (n .number) && (isKind k && isAmount kopecks)) _ _
+    (λ room. cond-elim P (isNumber n && (isKind k && isAmount kopecks)) _ _
     (λ _ _.
-    let fits : length text ≤ length out = omega (arith, leb-true 512 (length out) room, text-fits (checkOf (n .number) k kopecks) refl (n .size)) in
+    let fits : length text ≤ length out = omega (arith, leb-true 512 (length out) room, text-fits (checkOf n k kopecks) refl) in
     ap (λ (s : List ℕ). w .sent ++ (sentRequest Check 0 s ∷ [])) (text-back out text fits))
     (λ _ z. absurd (omega arith)))
     (λ _ z. absurd (omega arith)))
     (λ _ z. absurd (omega arith))
   where
     text : List ℕ
-    text = requestText (checkOf (n .number) k kopecks)
+    text = requestText (checkOf n k kopecks)
 
     P : Wrote → Type 0
     P d = d .code ≡ 0 → sentIf (eqb (d .code) 0) (sentRequest Check 0 (take (d .size) (d .out))) (w .sent) ≡ w .sent ++ (sentRequest Check 0 text ∷ [])
