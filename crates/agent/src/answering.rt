@@ -17,6 +17,7 @@ ghost use Prim.Native.Nat.{_<_};
 ghost use Rattle.lists.specs.declared.Found.the-variants.{At};
 ghost use Rattle.book.specs.BookValid.{bookGood, ReadyBook};
 ghost use Rattle.agent.specs.Answering.{Took, authcodeAfter, answeredEntry, takeAt, takeReceipt, checkCode, takeAnswer};
+ghost use Rattle.book.specs.Lent.{lentBook, bookBefore, bookAfter};
 
 // The authcode of an entry after an answer.
 pub(crate) fn authcode_after(credited: bool, x: Answer, e: Entry) -> u64
@@ -57,10 +58,10 @@ pub(crate) fn take_at(
     a: Action,
     text: &[u8],
 ) -> u64
-    requires { ⌜ ReadyBook b (record { nums = now nums; numbers = now numbers; dates = now dates }) × (i < b .used) ⌝ }
+    requires { ⌜ ReadyBook b (lentBook nums numbers dates) × (i < b .used) ⌝ }
     ensures { λ r. ⌜ _≡_ {A = Took}
-        (record { code = r; rows = record { nums = now (nums .exit); numbers = now (numbers .exit); dates = now (dates .exit) } })
-        (takeAt b (record { nums = now (nums .entry); numbers = now (numbers .entry); dates = now (dates .entry) }) a (now (text .entry)) (At i)) ⌝ }
+        (record { code = r; rows = bookAfter nums numbers dates })
+        (takeAt b (bookBefore nums numbers dates) a (now (text .entry)) (At i)) ⌝ }
 {
     let x = read::read_answer(a, text);
     if !x.ok {
@@ -87,10 +88,10 @@ pub(crate) fn take_receipt(
     receipt: u64,
     text: &[u8],
 ) -> u64
-    requires { ⌜ (bookGood b (record { nums = now nums; numbers = now numbers; dates = now dates }) ≡ true) × ReadyBook b (record { nums = now nums; numbers = now numbers; dates = now dates }) ⌝ }
+    requires { ⌜ (bookGood b (lentBook nums numbers dates) ≡ true) × ReadyBook b (lentBook nums numbers dates) ⌝ }
     ensures { λ r. ⌜ _≡_ {A = Took}
-        (record { code = r; rows = record { nums = now (nums .exit); numbers = now (numbers .exit); dates = now (dates .exit) } })
-        (takeReceipt b (record { nums = now (nums .entry); numbers = now (numbers .entry); dates = now (dates .entry) }) a receipt (now (text .entry))) ⌝ }
+        (record { code = r; rows = bookAfter nums numbers dates })
+        (takeReceipt b (bookBefore nums numbers dates) a receipt (now (text .entry))) ⌝ }
 {
     if !codes::is_receipt(receipt) {
         return 60;
@@ -121,8 +122,8 @@ pub fn take_answer(
     text: &[u8],
 ) -> u64
     ensures { λ r. ⌜ _≡_ {A = Took}
-        (record { code = r; rows = record { nums = now (nums .exit); numbers = now (numbers .exit); dates = now (dates .exit) } })
-        (takeAnswer b (record { nums = now (nums .entry); numbers = now (numbers .entry); dates = now (dates .entry) }) a receipt (now (text .entry))) ⌝ }
+        (record { code = r; rows = bookAfter nums numbers dates })
+        (takeAnswer b (bookBefore nums numbers dates) a receipt (now (text .entry))) ⌝ }
 {
     if !valid::book_good(nums, numbers, dates, b) {
         return 68;

@@ -19,6 +19,7 @@ ghost use Rattle.message.specs.declared.action.Action.the-variants.{Payment, St
 ghost use Rattle.lists.specs.declared.Found.the-variants.{At};
 ghost use Rattle.book.specs.BookValid.{ReadyBook};
 ghost use Rattle.agent.specs.Writing.{Wrote, mayWrite, writtenEntry, requestOf, checkOf, formsGood, isOpen, writeAt, writeRequest, writeCheck};
+ghost use Rattle.book.specs.Lent.{lentBook, bookBefore, bookAfter};
 
 // Whether the state allows the writing.
 pub fn may_write(a: Action, s: State) -> bool
@@ -114,10 +115,10 @@ pub(crate) fn write_entry(
     reason: u64,
     out: &mut [u8],
 ) -> Sent
-    requires { ⌜ ReadyBook b (record { nums = now nums; numbers = now numbers; dates = now dates }) × (i < b .used) ⌝ }
+    requires { ⌜ ReadyBook b (lentBook nums numbers dates) × (i < b .used) ⌝ }
     ensures { λ r. ⌜ _≡_ {A = Wrote}
-        (record { code = r .code; rows = record { nums = now (nums .exit); numbers = now (numbers .exit); dates = now (dates .exit) }; out = now (out .exit); size = r .size })
-        (writeAt b (record { nums = now (nums .entry); numbers = now (numbers .entry); dates = now (dates .entry) }) a reason (now (out .entry)) (At i)) ⌝ }
+        (record { code = r .code; rows = bookAfter nums numbers dates; out = now (out .exit); size = r .size })
+        (writeAt b (bookBefore nums numbers dates) a reason (now (out .entry)) (At i)) ⌝ }
 {
     let e = rows::load_entry(nums, numbers, dates, i);
     if !is_open(b, a, e) {
@@ -140,8 +141,8 @@ pub(crate) fn write_for(
     out: &mut [u8],
 ) -> Sent
     ensures { λ r. ⌜ _≡_ {A = Wrote}
-        (record { code = r .code; rows = record { nums = now (nums .exit); numbers = now (numbers .exit); dates = now (dates .exit) }; out = now (out .exit); size = r .size })
-        (writeRequest b (record { nums = now (nums .entry); numbers = now (numbers .entry); dates = now (dates .entry) }) a receipt reason (now (out .entry))) ⌝ }
+        (record { code = r .code; rows = bookAfter nums numbers dates; out = now (out .exit); size = r .size })
+        (writeRequest b (bookBefore nums numbers dates) a receipt reason (now (out .entry))) ⌝ }
 {
     if !valid::book_good(nums, numbers, dates, b) {
         return Sent { code: 68, size: 0 };
@@ -169,8 +170,8 @@ pub fn write_payment(
     out: &mut [u8],
 ) -> Sent
     ensures { λ r. ⌜ _≡_ {A = Wrote}
-        (record { code = r .code; rows = record { nums = now (nums .exit); numbers = now (numbers .exit); dates = now (dates .exit) }; out = now (out .exit); size = r .size })
-        (writeRequest b (record { nums = now (nums .entry); numbers = now (numbers .entry); dates = now (dates .entry) }) Payment receipt 0 (now (out .entry))) ⌝ }
+        (record { code = r .code; rows = bookAfter nums numbers dates; out = now (out .exit); size = r .size })
+        (writeRequest b (bookBefore nums numbers dates) Payment receipt 0 (now (out .entry))) ⌝ }
 {
     write_for(nums, numbers, dates, b, Action::Payment, receipt, 0, out)
 }
@@ -185,8 +186,8 @@ pub fn write_status(
     out: &mut [u8],
 ) -> Sent
     ensures { λ r. ⌜ _≡_ {A = Wrote}
-        (record { code = r .code; rows = record { nums = now (nums .exit); numbers = now (numbers .exit); dates = now (dates .exit) }; out = now (out .exit); size = r .size })
-        (writeRequest b (record { nums = now (nums .entry); numbers = now (numbers .entry); dates = now (dates .entry) }) Status receipt 0 (now (out .entry))) ⌝ }
+        (record { code = r .code; rows = bookAfter nums numbers dates; out = now (out .exit); size = r .size })
+        (writeRequest b (bookBefore nums numbers dates) Status receipt 0 (now (out .entry))) ⌝ }
 {
     write_for(nums, numbers, dates, b, Action::Status, receipt, 0, out)
 }
@@ -202,8 +203,8 @@ pub fn write_cancel(
     out: &mut [u8],
 ) -> Sent
     ensures { λ r. ⌜ _≡_ {A = Wrote}
-        (record { code = r .code; rows = record { nums = now (nums .exit); numbers = now (numbers .exit); dates = now (dates .exit) }; out = now (out .exit); size = r .size })
-        (writeRequest b (record { nums = now (nums .entry); numbers = now (numbers .entry); dates = now (dates .entry) }) Cancel receipt reason (now (out .entry))) ⌝ }
+        (record { code = r .code; rows = bookAfter nums numbers dates; out = now (out .exit); size = r .size })
+        (writeRequest b (bookBefore nums numbers dates) Cancel receipt reason (now (out .entry))) ⌝ }
 {
     write_for(
         nums,
@@ -244,8 +245,8 @@ pub fn write_check(
     out: &mut [u8],
 ) -> Sent
     ensures { λ r. ⌜ _≡_ {A = Wrote}
-        (record { code = r .code; rows = record { nums = now (nums .entry); numbers = now (numbers .entry); dates = now (dates .entry) }; out = now (out .exit); size = r .size })
-        (writeCheck b (record { nums = now (nums .entry); numbers = now (numbers .entry); dates = now (dates .entry) }) n kind kopecks (now (out .entry))) ⌝ }
+        (record { code = r .code; rows = bookBefore nums numbers dates; out = now (out .exit); size = r .size })
+        (writeCheck b (bookBefore nums numbers dates) n kind kopecks (now (out .entry))) ⌝ }
 {
     if !valid::book_good(nums, numbers, dates, b) {
         return Sent { code: 68, size: 0 };

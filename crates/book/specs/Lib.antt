@@ -1,3 +1,4 @@
 pub mod Entries
+pub mod Lent
 pub mod BookValid
 pub mod BookWalk

@@ -9,6 +9,7 @@ ghost use Prim.Native.Nat.{_<_, _≤_};
 ghost use lib.ListN.{length, replicate};
 ghost use Rattle.fields.specs.Calendar.{isDay};
 ghost use Rattle.book.specs.Entries.{entriesOf};
+ghost use Rattle.book.specs.Lent.{bookBefore};
 ghost use Rattle.book.specs.BookValid.{dayCount, daysGood};
 ghost use Rattle.book.specs.BookWalk.{daySlot};
 
@@ -21,7 +22,7 @@ pub fn count_day(
     day: Day,
 ) -> usize
     requires { ⌜ (used ≤ length (now nums)) × (used ≤ length (now numbers)) × (used ≤ length (now dates)) ⌝ }
-    ensures { λ r. ⌜ r ≡ dayCount day (entriesOf (record { nums = now (nums .entry); numbers = now (numbers .entry); dates = now (dates .entry) }) used) ⌝ }
+    ensures { λ r. ⌜ r ≡ dayCount day (entriesOf (bookBefore nums numbers dates) used) ⌝ }
 {
     let mut n: usize = 0;
     let mut i: usize = 0;
@@ -64,7 +65,7 @@ pub(crate) fn days_good(
     used: usize,
 ) -> bool
     requires { ⌜ (used ≤ length (now nums)) × (used ≤ length (now numbers)) × (used ≤ length (now dates)) ⌝ }
-    ensures { λ r. ⌜ r ≡ daysGood (entriesOf (record { nums = now (nums .entry); numbers = now (numbers .entry); dates = now (dates .entry) }) used) ⌝ }
+    ensures { λ r. ⌜ r ≡ daysGood (entriesOf (bookBefore nums numbers dates) used) ⌝ }
 {
     let mut counts = no_counts();
     let mut i: usize = 0;

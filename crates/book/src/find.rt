@@ -5,6 +5,7 @@ use lists::Found;
 ghost use mathlib.Core.Bool.{true};
 ghost use mathlib.Core.Path.{_≡_};
 ghost use Rattle.book.specs.Entries.{entriesOf, findEntry, stateOf, stateNumber};
+ghost use Rattle.book.specs.Lent.{lentBook, bookBefore};
 ghost use Rattle.book.specs.BookValid.{bookGood};
 
 // The entry of a receipt: receipts are consecutive, so its place is known.
@@ -15,8 +16,8 @@ pub fn find_entry(
     b: Book,
     receipt: u64,
 ) -> Found
-    requires { ⌜ bookGood b (record { nums = now nums; numbers = now numbers; dates = now dates }) ≡ true ⌝ }
-    ensures { λ r. ⌜ r ≡ findEntry receipt (entriesOf (record { nums = now (nums .entry); numbers = now (numbers .entry); dates = now (dates .entry) }) (b .used)) ⌝ }
+    requires { ⌜ bookGood b (lentBook nums numbers dates) ≡ true ⌝ }
+    ensures { λ r. ⌜ r ≡ findEntry receipt (entriesOf (bookBefore nums numbers dates) (b .used)) ⌝ }
 {
     if receipt < b.first {
         return Found::Nothing;

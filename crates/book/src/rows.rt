@@ -5,7 +5,8 @@ ghost use mathlib.Core.Path.{_≡_};
 ghost use mathlib.Core.List.{[]};
 ghost use Prim.Native.Nat.{_<_};
 ghost use lib.ListN.{length, getD};
-ghost use Rattle.book.specs.Entries.{BookRows, entryFrom, entryAt, bookWith};
+ghost use Rattle.book.specs.Entries.{entryFrom, entryAt, bookWith};
+ghost use Rattle.book.specs.Lent.{bookBefore, bookAfter};
 
 // The entry of these numbers, account number and date.
 fn entry_of(w: [u64; 6], bytes: [u8; 30], date: [u8; 19]) -> Entry
@@ -30,7 +31,7 @@ fn entry_of(w: [u64; 6], bytes: [u8; 30], date: [u8; 19]) -> Entry
 // The entry at i.
 pub fn load_entry(nums: &[[u64; 6]], numbers: &[[u8; 30]], dates: &[[u8; 19]], i: usize) -> Entry
     requires { ⌜ (i < length (now nums)) × (i < length (now numbers)) × (i < length (now dates)) ⌝ }
-    ensures { λ r. ⌜ r ≡ entryAt (record { nums = now (nums .entry); numbers = now (numbers .entry); dates = now (dates .entry) }) i ⌝ }
+    ensures { λ r. ⌜ r ≡ entryAt (bookBefore nums numbers dates) i ⌝ }
     ensures { λ r. ⌜ length (getD (now (nums .entry)) i []) ≡ 6 ⌝ }
     ensures { λ r. ⌜ (length (r .number .bytes) ≡ 30) × (length (r .date) ≡ 19) ⌝ }
 {
@@ -49,8 +50,7 @@ pub fn store_entry(
     e: Entry,
 )
     requires { ⌜ (i < length (now nums)) × (i < length (now numbers)) × (i < length (now dates)) ⌝ }
-    ensures { λ _. ⌜ _≡_ {A = BookRows} (record { nums = now (nums .exit); numbers = now (numbers .exit); dates = now (dates .exit) })
-        (bookWith (record { nums = now (nums .entry); numbers = now (numbers .entry); dates = now (dates .entry) }) i e) ⌝ }
+    ensures { λ _. ⌜ bookAfter nums numbers dates ≡ bookWith (bookBefore nums numbers dates) i e ⌝ }
 {
     let number = e.number;
     let len = number.len as u64;

@@ -14,6 +14,7 @@ ghost use lib.ListN.{length};
 ghost use Rattle.fields.specs.Codes.{isReceipt};
 ghost use Rattle.lists.specs.Lists.{allFrom};
 ghost use Rattle.book.specs.Entries.{entriesOf, WholeBook};
+ghost use Rattle.book.specs.Lent.{bookBefore};
 ghost use Rattle.book.specs.BookValid.{entryFields, entryGood, bookHead, bookGood, ReadyBook};
 
 // Whether the fields of an entry are in their ranges.
@@ -58,8 +59,8 @@ fn entry_good(b: Book, i: usize, e: Entry) -> bool
 fn entries_good(nums: &[[u64; 6]], numbers: &[[u8; 30]], dates: &[[u8; 19]], b: Book) -> bool
     requires { ⌜ (b .used ≤ length (now nums)) × (b .used ≤ length (now numbers)) × (b .used ≤ length (now dates)) ⌝ }
     requires { ⌜ (isReceipt (b .first) ≡ true) × (b .used ≤ 4096) ⌝ }
-    ensures { λ r. ⌜ r ≡ allFrom (entryGood b) 0 (entriesOf (record { nums = now (nums .entry); numbers = now (numbers .entry); dates = now (dates .entry) }) (b .used)) ⌝ }
-    ensures { λ r. ⌜ (r ≡ true → WholeBook (record { nums = now (nums .entry); numbers = now (numbers .entry); dates = now (dates .entry) }) (b .used)) ⌝ }
+    ensures { λ r. ⌜ r ≡ allFrom (entryGood b) 0 (entriesOf (bookBefore nums numbers dates) (b .used)) ⌝ }
+    ensures { λ r. ⌜ (r ≡ true → WholeBook (bookBefore nums numbers dates) (b .used)) ⌝ }
 {
     let used = b.used;
     let mut i: usize = 0;
@@ -86,8 +87,8 @@ fn head_good(b: Book) -> bool
 
 // Whether a lent book is in its ranges.
 pub fn book_good(nums: &[[u64; 6]], numbers: &[[u8; 30]], dates: &[[u8; 19]], b: Book) -> bool
-    ensures { λ r. ⌜ r ≡ bookGood b (record { nums = now (nums .entry); numbers = now (numbers .entry); dates = now (dates .entry) }) ⌝ }
-    ensures { λ r. ⌜ (r ≡ true → ReadyBook b (record { nums = now (nums .entry); numbers = now (numbers .entry); dates = now (dates .entry) })) ⌝ }
+    ensures { λ r. ⌜ r ≡ bookGood b (bookBefore nums numbers dates) ⌝ }
+    ensures { λ r. ⌜ (r ≡ true → ReadyBook b (bookBefore nums numbers dates)) ⌝ }
 {
     if !lists::is_lent(b.used, nums.len(), numbers.len(), dates.len()) {
         return false;

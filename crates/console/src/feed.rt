@@ -8,7 +8,7 @@ use fields::scan;
 ghost use mathlib.Core.Path.{_≡_};
 ghost use Prim.Native.Nat.{_+_, _*_, _≤_};
 ghost use lib.ListN.{length};
-ghost use Rattle.table.specs.Table.{Rows};
+ghost use Rattle.table.specs.Lent.{before, after};
 ghost use Rattle.console.specs.Sums.{Summable};
 ghost use Rattle.console.specs.Feed.{emptied};
 ghost use Rattle.console.specs.Parts.{Part, feedPart, lastPart, Ran, runAll, EndedAt};
@@ -50,8 +50,8 @@ pub(crate) fn end_line(
     at: usize,
 ) -> Session
     requires { ⌜ Summable (x .gate) × (at + 64 ≤ length (now out)) ⌝ }
-    ensures { λ r. ⌜ EndedAt x h (record { nums = now (nums .entry); numbers = now (numbers .entry); dates = now (dates .entry) }) (now (out .entry)) at
-        (r .console) (r .held) (record { nums = now (nums .exit); numbers = now (numbers .exit); dates = now (dates .exit) }) (now (out .exit)) (r .size) ⌝ }
+    ensures { λ r. ⌜ EndedAt x h (before nums numbers dates) (now (out .entry)) at
+        (r .console) (r .held) (after nums numbers dates) (now (out .exit)) (r .size) ⌝ }
     ensures { λ r. ⌜ Summable (r .console .gate) ⌝ }
 {
     let bytes = h.bytes;
@@ -79,8 +79,8 @@ pub fn feed(
 ) -> Session
     requires { ⌜ Summable (x .gate) × (64 * length (now input) ≤ length (now out)) ⌝ }
     ensures { λ r. ⌜ _≡_ {A = Part}
-        (record { console = r .console; held = r .held; rows = record { nums = now (nums .exit); numbers = now (numbers .exit); dates = now (dates .exit) }; out = now (out .exit); size = r .size })
-        (feedPart x h (record { nums = now (nums .entry); numbers = now (numbers .entry); dates = now (dates .entry) }) (now (input .entry)) (now (out .entry))) ⌝ }
+        (record { console = r .console; held = r .held; rows = after nums numbers dates; out = now (out .exit); size = r .size })
+        (feedPart x h (before nums numbers dates) (now (input .entry)) (now (out .entry))) ⌝ }
     ensures { λ r. ⌜ Summable (r .console .gate) ⌝ }
 {
     let mut console = x;
@@ -123,8 +123,8 @@ pub fn finish(
 ) -> Session
     requires { ⌜ Summable (x .gate) × (at + 64 ≤ length (now out)) ⌝ }
     ensures { λ r. ⌜ _≡_ {A = Part}
-        (record { console = r .console; held = r .held; rows = record { nums = now (nums .exit); numbers = now (numbers .exit); dates = now (dates .exit) }; out = now (out .exit); size = r .size })
-        (lastPart x h (record { nums = now (nums .entry); numbers = now (numbers .entry); dates = now (dates .entry) }) (now (out .entry)) at) ⌝ }
+        (record { console = r .console; held = r .held; rows = after nums numbers dates; out = now (out .exit); size = r .size })
+        (lastPart x h (before nums numbers dates) (now (out .entry)) at) ⌝ }
 {
     if h.len == 0 {
         return Session {
@@ -145,8 +145,8 @@ pub fn run_session(
     out: &mut [u8],
 ) -> Whole
     ensures { λ r. ⌜ _≡_ {A = Ran}
-        (record { ok = r .ok; rows = record { nums = now (nums .exit); numbers = now (numbers .exit); dates = now (dates .exit) }; out = now (out .exit); size = r .size })
-        (runAll (record { nums = now (nums .entry); numbers = now (numbers .entry); dates = now (dates .entry) }) (now (input .entry)) (now (out .entry))) ⌝ }
+        (record { ok = r .ok; rows = after nums numbers dates; out = now (out .exit); size = r .size })
+        (runAll (before nums numbers dates) (now (input .entry)) (now (out .entry))) ⌝ }
 {
     if out.len() / 64 <= input.len() {
         return Whole { ok: false, size: 0 };

@@ -15,6 +15,7 @@ ghost use mathlib.Core.Path.{_≡_};
 ghost use mathlib.Core.Bool.{true};
 ghost use Rattle.fields.specs.declared.digits.Digits.the-variants.{Value};
 ghost use Rattle.table.specs.Table.{Rows};
+ghost use Rattle.table.specs.Lent.{before, after};
 ghost use Rattle.console.specs.declared.turn.Turned.{Turned};
 ghost use Rattle.console.specs.Order.{Turn, kindIn, startTurn, openTurn, drawOf, drawTurn, askTurn, orderTurn, lineTurn};
 
@@ -86,8 +87,8 @@ fn open_turn(
     line: &[u8],
 ) -> Turned
     ensures { λ r. ⌜ _≡_ {A = Turn}
-        (record { code = r .code; console = r .console; rows = record { nums = now (nums .entry); numbers = now (numbers .entry); dates = now (dates .entry) } })
-        (openTurn x (record { nums = now (nums .entry); numbers = now (numbers .entry); dates = now (dates .entry) }) (now (line .entry))) ⌝ }
+        (record { code = r .code; console = r .console; rows = before nums numbers dates })
+        (openTurn x (before nums numbers dates) (now (line .entry))) ⌝ }
 {
     let n = number::read_number(line::field_at(line, 1));
     let kind = kind_in(codes::read_kind(line::field_at(line, 2)));
@@ -106,8 +107,8 @@ fn draw_of(
     kopecks: u64,
 ) -> Turned
     ensures { λ r. ⌜ _≡_ {A = Turn}
-        (record { code = r .code; console = r .console; rows = record { nums = now (nums .entry); numbers = now (numbers .entry); dates = now (dates .entry) } })
-        (drawOf x (record { nums = now (nums .entry); numbers = now (numbers .entry); dates = now (dates .entry) }) (now (line .entry)) (Value kopecks)) ⌝ }
+        (record { code = r .code; console = r .console; rows = before nums numbers dates })
+        (drawOf x (before nums numbers dates) (now (line .entry)) (Value kopecks)) ⌝ }
 {
     let n = number::read_number(line::field_at(line, 1));
     let kind = kind_in(codes::read_kind(line::field_at(line, 2)));
@@ -125,8 +126,8 @@ fn draw_turn(
     line: &[u8],
 ) -> Turned
     ensures { λ r. ⌜ _≡_ {A = Turn}
-        (record { code = r .code; console = r .console; rows = record { nums = now (nums .entry); numbers = now (numbers .entry); dates = now (dates .entry) } })
-        (drawTurn x (record { nums = now (nums .entry); numbers = now (numbers .entry); dates = now (dates .entry) }) (now (line .entry))) ⌝ }
+        (record { code = r .code; console = r .console; rows = before nums numbers dates })
+        (drawTurn x (before nums numbers dates) (now (line .entry))) ⌝ }
 {
     let Digits::Value(kopecks) = digits::read_digits(line::field_at(line, 3), 15) else {
         return not_read(x);
@@ -143,8 +144,8 @@ fn ask_turn(
     line: &[u8],
 ) -> Turned
     ensures { λ r. ⌜ _≡_ {A = Turn}
-        (record { code = r .code; console = r .console; rows = record { nums = now (nums .exit); numbers = now (numbers .exit); dates = now (dates .exit) } })
-        (askTurn x (record { nums = now (nums .entry); numbers = now (numbers .entry); dates = now (dates .entry) }) (now (line .entry))) ⌝ }
+        (record { code = r .code; console = r .console; rows = after nums numbers dates })
+        (askTurn x (before nums numbers dates) (now (line .entry))) ⌝ }
 {
     let mut out = [0u8; 512];
     let d = date::read_date(line::field_at(line, 1));
@@ -163,8 +164,8 @@ fn order_turn(
     line: &[u8],
 ) -> Turned
     ensures { λ r. ⌜ _≡_ {A = Turn}
-        (record { code = r .code; console = r .console; rows = record { nums = now (nums .exit); numbers = now (numbers .exit); dates = now (dates .exit) } })
-        (orderTurn x (record { nums = now (nums .entry); numbers = now (numbers .entry); dates = now (dates .entry) }) (now (line .entry))) ⌝ }
+        (record { code = r .code; console = r .console; rows = after nums numbers dates })
+        (orderTurn x (before nums numbers dates) (now (line .entry))) ⌝ }
 {
     if line::has_form(line, 79, 3) {
         return open_turn(nums, numbers, dates, x, line);
@@ -187,8 +188,8 @@ pub fn turn(
     line: &[u8],
 ) -> Turned
     ensures { λ r. ⌜ _≡_ {A = Turn}
-        (record { code = r .code; console = r .console; rows = record { nums = now (nums .exit); numbers = now (numbers .exit); dates = now (dates .exit) } })
-        (lineTurn x (record { nums = now (nums .entry); numbers = now (numbers .entry); dates = now (dates .entry) }) (now (line .entry))) ⌝ }
+        (record { code = r .code; console = r .console; rows = after nums numbers dates })
+        (lineTurn x (before nums numbers dates) (now (line .entry))) ⌝ }
 {
     if x.started {
         order_turn(nums, numbers, dates, x, line)

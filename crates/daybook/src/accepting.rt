@@ -16,6 +16,7 @@ ghost use Prim.Native.Nat.{_<_, _≤_};
 ghost use lib.ListN.{length};
 ghost use Rattle.fields.specs.Date.{dateDay};
 ghost use Rattle.book.specs.Entries.{entriesOf};
+ghost use Rattle.book.specs.Lent.{lentBook, bookBefore, bookAfter};
 ghost use Rattle.book.specs.BookValid.{bookGood, ReadyBook};
 ghost use Rattle.daybook.specs.Acceptance.{Accepted, madeEntry, mayAccept, dayOpen, hasPlace, acceptTo, accept};
 
@@ -54,7 +55,7 @@ pub(crate) fn day_open(
     written: [u8; 19],
 ) -> bool
     requires { ⌜ (used ≤ length (now nums)) × (used ≤ length (now numbers)) × (used ≤ length (now dates)) ⌝ }
-    ensures { λ r. ⌜ r ≡ dayOpen (entriesOf (record { nums = now (nums .entry); numbers = now (numbers .entry); dates = now (dates .entry) }) used) (dateDay written) ⌝ }
+    ensures { λ r. ⌜ r ≡ dayOpen (entriesOf (bookBefore nums numbers dates) used) (dateDay written) ⌝ }
 {
     let DayRead::Good(day) = date::day_of_date(written) else {
         return false;
@@ -70,8 +71,8 @@ pub(crate) fn has_place(
     b: Book,
     written: [u8; 19],
 ) -> bool
-    requires { ⌜ (bookGood b (record { nums = now nums; numbers = now numbers; dates = now dates }) ≡ true) × ReadyBook b (record { nums = now nums; numbers = now numbers; dates = now dates }) ⌝ }
-    ensures { λ r. ⌜ r ≡ hasPlace b (record { nums = now (nums .entry); numbers = now (numbers .entry); dates = now (dates .entry) }) written ⌝ }
+    requires { ⌜ (bookGood b (lentBook nums numbers dates) ≡ true) × ReadyBook b (lentBook nums numbers dates) ⌝ }
+    ensures { λ r. ⌜ r ≡ hasPlace b (bookBefore nums numbers dates) written ⌝ }
 {
     let used = b.used;
     if nums.len() <= used {
@@ -110,10 +111,10 @@ pub(crate) fn accept_to(
     kopecks: u64,
     written: [u8; 19],
 ) -> Receipted
-    requires { ⌜ (bookGood b (record { nums = now nums; numbers = now numbers; dates = now dates }) ≡ true) × ReadyBook b (record { nums = now nums; numbers = now numbers; dates = now dates }) ⌝ }
+    requires { ⌜ (bookGood b (lentBook nums numbers dates) ≡ true) × ReadyBook b (lentBook nums numbers dates) ⌝ }
     ensures { λ r. ⌜ _≡_ {A = Accepted}
-        (record { code = r .code; book = r .book; rows = record { nums = now (nums .exit); numbers = now (numbers .exit); dates = now (dates .exit) }; receipt = r .receipt })
-        (acceptTo b (record { nums = now (nums .entry); numbers = now (numbers .entry); dates = now (dates .entry) }) n kind kopecks written) ⌝ }
+        (record { code = r .code; book = r .book; rows = bookAfter nums numbers dates; receipt = r .receipt })
+        (acceptTo b (bookBefore nums numbers dates) n kind kopecks written) ⌝ }
 {
     if !may_accept(b, n, kind, kopecks, written) {
         return Receipted {
@@ -153,8 +154,8 @@ pub fn accept(
     written: [u8; 19],
 ) -> Receipted
     ensures { λ r. ⌜ _≡_ {A = Accepted}
-        (record { code = r .code; book = r .book; rows = record { nums = now (nums .exit); numbers = now (numbers .exit); dates = now (dates .exit) }; receipt = r .receipt })
-        (accept b (record { nums = now (nums .entry); numbers = now (numbers .entry); dates = now (dates .entry) }) n kind kopecks written) ⌝ }
+        (record { code = r .code; book = r .book; rows = bookAfter nums numbers dates; receipt = r .receipt })
+        (accept b (bookBefore nums numbers dates) n kind kopecks written) ⌝ }
 {
     if !valid::book_good(nums, numbers, dates, b) {
         return Receipted {

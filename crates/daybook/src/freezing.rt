@@ -6,6 +6,7 @@ ghost use mathlib.Core.Path.{_≡_};
 ghost use mathlib.Core.Bool.{_&&_};
 ghost use Rattle.fields.specs.Calendar.{nextDay, onDay};
 ghost use Rattle.daybook.specs.Freezing.{freeze};
+ghost use Rattle.book.specs.Lent.{bookBefore};
 
 pub struct Froze {
     pub code: u64,
@@ -32,7 +33,7 @@ pub fn freeze(
     b: Book,
     day: Day,
 ) -> Froze
-    ensures { λ r. ⌜ r ≡ freeze b (record { nums = now (nums .entry); numbers = now (numbers .entry); dates = now (dates .entry) }) day ⌝ }
+    ensures { λ r. ⌜ r ≡ freeze b (bookBefore nums numbers dates) day ⌝ }
 {
     if !valid::book_good(nums, numbers, dates, b) {
         return Froze { code: 68, book: b };

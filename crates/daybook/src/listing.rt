@@ -13,6 +13,7 @@ ghost use Prim.Native.Nat.{_≤_};
 ghost use lib.ListN.{length};
 ghost use Rattle.fields.specs.Lists.{written, cursorAfter};
 ghost use Rattle.book.specs.Entries.{entriesOf};
+ghost use Rattle.book.specs.Lent.{lentBook, bookBefore};
 ghost use Rattle.book.specs.BookValid.{bookGood, ReadyBook};
 ghost use Rattle.daybook.specs.Freezing.{isListed, entryLine, registryOf, Listed, writeRegistry};
 
@@ -51,10 +52,10 @@ pub(crate) fn write_lines(
     day: Day,
     out: &mut [u8],
 ) -> usize
-    requires { ⌜ (bookGood b (record { nums = now nums; numbers = now numbers; dates = now dates }) ≡ true) × ReadyBook b (record { nums = now nums; numbers = now numbers; dates = now dates }) ⌝ }
+    requires { ⌜ (bookGood b (lentBook nums numbers dates) ≡ true) × ReadyBook b (lentBook nums numbers dates) ⌝ }
     requires { ⌜ 65536 ≤ length (now out) ⌝ }
-    ensures { λ r. ⌜ (r ≡ cursorAfter (now (out .entry)) 0 (registryOf day (entriesOf (record { nums = now (nums .entry); numbers = now (numbers .entry); dates = now (dates .entry) }) (b .used))))
-        × (now (out .exit) ≡ written (now (out .entry)) 0 (registryOf day (entriesOf (record { nums = now (nums .entry); numbers = now (numbers .entry); dates = now (dates .entry) }) (b .used)))) ⌝ }
+    ensures { λ r. ⌜ (r ≡ cursorAfter (now (out .entry)) 0 (registryOf day (entriesOf (bookBefore nums numbers dates) (b .used))))
+        × (now (out .exit) ≡ written (now (out .entry)) 0 (registryOf day (entriesOf (bookBefore nums numbers dates) (b .used)))) ⌝ }
 {
     let used = b.used;
     let mut at: usize = 0;
@@ -82,7 +83,7 @@ pub fn write_registry(
     out: &mut [u8],
 ) -> Sent
     ensures { λ r. ⌜ _≡_ {A = Listed} (record { code = r .code; out = now (out .exit); size = r .size })
-        (writeRegistry b (record { nums = now (nums .entry); numbers = now (numbers .entry); dates = now (dates .entry) }) day (now (out .entry))) ⌝ }
+        (writeRegistry b (bookBefore nums numbers dates) day (now (out .entry))) ⌝ }
 {
     if !valid::book_good(nums, numbers, dates, b) {
         return Sent { code: 68, size: 0 };

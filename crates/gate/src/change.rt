@@ -13,7 +13,8 @@ ghost use mathlib.Core.List.{[], _∷_, _++_};
 ghost use mathlib.Core.Bool.{true};
 ghost use Prim.Native.Nat.{_+_, _<_, _≤_};
 ghost use lib.ListN.{length};
-ghost use Rattle.table.specs.Table.{Rows, recordsOf, rowsFrom, Whole};
+ghost use Rattle.table.specs.Table.{recordsOf, rowsFrom, Whole};
+ghost use Rattle.table.specs.Lent.{lent, before, after};
 ghost use Rattle.table.specs.Accounts.{withUsed};
 ghost use Rattle.table.specs.Valid.{Sound, Ready, tableGood};
 ghost use Rattle.gate.specs.Deliver.{Within, makeRecord, revoked, creditedAt, debitedAt, replacedAt, planOf, changed, Made};
@@ -85,10 +86,8 @@ fn replace_at(
     f: Found,
     r: Record,
 )
-    requires { ⌜ Whole (record { nums = now nums; numbers = now numbers; dates = now dates }) used × Within f used ⌝ }
-    ensures { λ _. ⌜ _≡_ {A = Rows} (record { nums = now (nums .exit); numbers = now (numbers .exit); dates = now (dates .exit) })
-        (rowsFrom (record { nums = now (nums .entry); numbers = now (numbers .entry); dates = now (dates .entry) })
-        (replacedAt (recordsOf (record { nums = now (nums .entry); numbers = now (numbers .entry); dates = now (dates .entry) }) used) f r)) ⌝ }
+    requires { ⌜ Whole (lent nums numbers dates) used × Within f used ⌝ }
+    ensures { λ _. ⌜ after nums numbers dates ≡ rowsFrom (before nums numbers dates) (replacedAt (recordsOf (before nums numbers dates) used) f r) ⌝ }
 {
     if let Found::At(i) = f {
         rows::store(nums, numbers, dates, i, r);
@@ -105,12 +104,10 @@ fn append(
     q: Asked,
     account: Found,
 ) -> Outcome
-    requires { ⌜ Ready g (record { nums = now nums; numbers = now numbers; dates = now dates }) ⌝ }
+    requires { ⌜ Ready g (lent nums numbers dates) ⌝ }
     requires { ⌜ (g .used < length (now nums)) × Within account (g .count) × (q .amount < 1000000000) ⌝ }
     ensures { λ o. ⌜ (o .gate ≡ withUsed (creditedAt g account (q .amount)) (g .used + 1)) × (o .subject ≡ makeRecord g clock q) ⌝ }
-    ensures { λ o. ⌜ _≡_ {A = Rows} (record { nums = now (nums .exit); numbers = now (numbers .exit); dates = now (dates .exit) })
-        (rowsFrom (record { nums = now (nums .entry); numbers = now (numbers .entry); dates = now (dates .entry) })
-        (recordsOf (record { nums = now (nums .entry); numbers = now (numbers .entry); dates = now (dates .entry) }) (g .used) ++ (makeRecord g clock q ∷ []))) ⌝ }
+    ensures { λ o. ⌜ after nums numbers dates ≡ rowsFrom (before nums numbers dates) (recordsOf (before nums numbers dates) (g .used) ++ (makeRecord g clock q ∷ [])) ⌝ }
 {
     let used = g.used;
     let r = make_record(g, clock, q);
@@ -134,12 +131,10 @@ fn revoke(
     r: Record,
     account: Found,
 ) -> Outcome
-    requires { ⌜ Ready g (record { nums = now nums; numbers = now numbers; dates = now dates }) ⌝ }
+    requires { ⌜ Ready g (lent nums numbers dates) ⌝ }
     requires { ⌜ Within f (g .used) × Within account (g .count) × (r .amount < 1000000000) ⌝ }
     ensures { λ o. ⌜ (o .gate ≡ debitedAt g account (r .amount)) × (o .subject ≡ revoked clock r) ⌝ }
-    ensures { λ o. ⌜ _≡_ {A = Rows} (record { nums = now (nums .exit); numbers = now (numbers .exit); dates = now (dates .exit) })
-        (rowsFrom (record { nums = now (nums .entry); numbers = now (numbers .entry); dates = now (dates .entry) })
-        (replacedAt (recordsOf (record { nums = now (nums .entry); numbers = now (numbers .entry); dates = now (dates .entry) }) (g .used)) f (revoked clock r))) ⌝ }
+    ensures { λ o. ⌜ after nums numbers dates ≡ rowsFrom (before nums numbers dates) (replacedAt (recordsOf (before nums numbers dates) (g .used)) f (revoked clock r)) ⌝ }
 {
     let used = g.used;
     let next = revoke_record(clock, r);
@@ -160,13 +155,13 @@ pub(crate) fn make_change(
     q: RequestRead,
     p: Plan,
 ) -> Outcome
-    requires { ⌜ Ready g (record { nums = now nums; numbers = now numbers; dates = now dates }) ⌝ }
-    requires { ⌜ tableGood g (record { nums = now nums; numbers = now numbers; dates = now dates }) ≡ true ⌝ }
-    requires { ⌜ (p ≡ planOf g (recordsOf (record { nums = now nums; numbers = now numbers; dates = now dates }) (g .used)) (length (now nums)) (q .fault) (q .asked)) × (q .asked .amount < 1000000000) ⌝ }
-    ensures { λ o. ⌜ Made (record { nums = now (nums .entry); numbers = now (numbers .entry); dates = now (dates .entry) })
-        (changed (p .decided .change) g (recordsOf (record { nums = now (nums .entry); numbers = now (numbers .entry); dates = now (dates .entry) }) (g .used)) clock (q .asked) p)
+    requires { ⌜ Ready g (lent nums numbers dates) ⌝ }
+    requires { ⌜ tableGood g (lent nums numbers dates) ≡ true ⌝ }
+    requires { ⌜ (p ≡ planOf g (recordsOf (lent nums numbers dates) (g .used)) (length (now nums)) (q .fault) (q .asked)) × (q .asked .amount < 1000000000) ⌝ }
+    ensures { λ o. ⌜ Made (before nums numbers dates)
+        (changed (p .decided .change) g (recordsOf (before nums numbers dates) (g .used)) clock (q .asked) p)
         (o .gate) (o .subject)
-        (record { nums = now (nums .exit); numbers = now (numbers .exit); dates = now (dates .exit) }) ⌝ }
+        (after nums numbers dates) ⌝ }
 {
     let asked = q.asked;
     let d = p.decided;

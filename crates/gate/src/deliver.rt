@@ -12,7 +12,7 @@ use table::valid;
 ghost use mathlib.Core.Path.{_≡_};
 ghost use mathlib.Core.Bool.{true};
 ghost use Prim.Native.Nat.{_<_};
-ghost use Rattle.table.specs.Table.{Rows};
+ghost use Rattle.table.specs.Lent.{lent, before, after};
 ghost use Rattle.table.specs.Valid.{Ready, tableGood};
 ghost use Rattle.gate.specs.Deliver.{Delivered, respond, deliver};
 
@@ -26,12 +26,12 @@ fn answer_read(
     q: RequestRead,
     out: &mut [u8],
 ) -> Reply
-    requires { ⌜ Ready g (record { nums = now nums; numbers = now numbers; dates = now dates }) ⌝ }
-    requires { ⌜ tableGood g (record { nums = now nums; numbers = now numbers; dates = now dates }) ≡ true ⌝ }
+    requires { ⌜ Ready g (lent nums numbers dates) ⌝ }
+    requires { ⌜ tableGood g (lent nums numbers dates) ≡ true ⌝ }
     requires { ⌜ q .asked .amount < 1000000000 ⌝ }
     ensures { λ r. ⌜ _≡_ {A = Delivered}
-        (record { code = r .code; gate = r .gate; rows = record { nums = now (nums .exit); numbers = now (numbers .exit); dates = now (dates .exit) }; out = now (out .exit); size = r .size })
-        (respond g (record { nums = now (nums .entry); numbers = now (numbers .entry); dates = now (dates .entry) }) clock (q .fault) (q .asked) (now (out .entry))) ⌝ }
+        (record { code = r .code; gate = r .gate; rows = after nums numbers dates; out = now (out .exit); size = r .size })
+        (respond g (before nums numbers dates) clock (q .fault) (q .asked) (now (out .entry))) ⌝ }
 {
     let asked = q.asked;
     let p = plan::make_plan(nums, numbers, dates, g, q);
@@ -56,8 +56,8 @@ pub fn deliver(
     out: &mut [u8],
 ) -> Reply
     ensures { λ r. ⌜ _≡_ {A = Delivered}
-        (record { code = r .code; gate = r .gate; rows = record { nums = now (nums .exit); numbers = now (numbers .exit); dates = now (dates .exit) }; out = now (out .exit); size = r .size })
-        (deliver g (record { nums = now (nums .entry); numbers = now (numbers .entry); dates = now (dates .entry) }) clock (now (params .entry)) (now (out .entry))) ⌝ }
+        (record { code = r .code; gate = r .gate; rows = after nums numbers dates; out = now (out .exit); size = r .size })
+        (deliver g (before nums numbers dates) clock (now (params .entry)) (now (out .entry))) ⌝ }
 {
     if !valid::table_good(nums, numbers, dates, g) {
         return Reply {

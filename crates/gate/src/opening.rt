@@ -11,7 +11,7 @@ ghost use mathlib.Core.Path.{_≡_};
 ghost use mathlib.Core.Bool.{_&&_};
 ghost use Rattle.fields.specs.Codes.{isKind};
 ghost use Rattle.fields.specs.Number.{isNumber};
-ghost use Rattle.table.specs.Table.{Rows};
+ghost use Rattle.table.specs.Lent.{before};
 ghost use Rattle.table.specs.Valid.{Sound};
 ghost use Rattle.gate.specs.Deliver.{Within};
 ghost use Rattle.gate.specs.Opening.{openTo, openCall, drawOn, drawFrom, drawCall};
@@ -67,7 +67,7 @@ pub fn open_call(
     n: Number,
     kind: u64,
 ) -> Reply
-    ensures { λ r. ⌜ r ≡ openCall g (record { nums = now (nums .entry); numbers = now (numbers .entry); dates = now (dates .entry) }) n kind ⌝ }
+    ensures { λ r. ⌜ r ≡ openCall g (before nums numbers dates) n kind ⌝ }
 {
     if !valid::table_good(nums, numbers, dates, g) {
         return Reply {
@@ -135,7 +135,7 @@ pub fn draw_call(
     kind: u64,
     kopecks: u64,
 ) -> Reply
-    ensures { λ r. ⌜ r ≡ drawCall g (record { nums = now (nums .entry); numbers = now (numbers .entry); dates = now (dates .entry) }) n kind kopecks ⌝ }
+    ensures { λ r. ⌜ r ≡ drawCall g (before nums numbers dates) n kind kopecks ⌝ }
 {
     if !valid::table_good(nums, numbers, dates, g) {
         return Reply {

@@ -16,7 +16,8 @@ use table::rows;
 ghost use mathlib.Core.Path.{_≡_};
 ghost use Prim.Native.Nat.{_≤_, _<_};
 ghost use lib.ListN.{length};
-ghost use Rattle.table.specs.Table.{Rows, recordsOf, findRecord};
+ghost use Rattle.table.specs.Table.{recordsOf, findRecord};
+ghost use Rattle.table.specs.Lent.{lent, before};
 ghost use mathlib.Core.Bool.{true};
 ghost use Rattle.table.specs.Valid.{Sound, Ready, tableGood};
 ghost use Rattle.gate.specs.Deliver.{Within, noRecord, recordFound, standingOf, dateClosed, accountOf, dateOf, isShort, isFull, viewOf, planWith, planOf};
@@ -134,7 +135,7 @@ pub(crate) fn found_record(
     f: Found,
 ) -> Record
     requires { ⌜ (used ≤ length (now nums)) × (used ≤ length (now numbers)) × (used ≤ length (now dates)) × Within f used ⌝ }
-    ensures { λ r. ⌜ r ≡ recordFound (recordsOf (record { nums = now (nums .entry); numbers = now (numbers .entry); dates = now (dates .entry) }) used) f ⌝ }
+    ensures { λ r. ⌜ r ≡ recordFound (recordsOf (before nums numbers dates) used) f ⌝ }
 {
     match f {
         Found::At(i) => rows::load(nums, numbers, dates, i),
@@ -150,9 +151,9 @@ pub(crate) fn make_plan(
     g: Gate,
     q: RequestRead,
 ) -> Plan
-    requires { ⌜ Ready g (record { nums = now nums; numbers = now numbers; dates = now dates }) ⌝ }
-    requires { ⌜ tableGood g (record { nums = now nums; numbers = now numbers; dates = now dates }) ≡ true ⌝ }
-    ensures { λ p. ⌜ p ≡ planOf g (recordsOf (record { nums = now (nums .entry); numbers = now (numbers .entry); dates = now (dates .entry) }) (g .used)) (length (now (nums .entry))) (q .fault) (q .asked) ⌝ }
+    requires { ⌜ Ready g (lent nums numbers dates) ⌝ }
+    requires { ⌜ tableGood g (lent nums numbers dates) ≡ true ⌝ }
+    ensures { λ p. ⌜ p ≡ planOf g (recordsOf (before nums numbers dates) (g .used)) (length (now (nums .entry))) (q .fault) (q .asked) ⌝ }
 {
     let used = g.used;
     let asked = q.asked;

@@ -8,7 +8,7 @@ ghost use mathlib.Core.Path.{_≡_};
 ghost use Prim.Native.Nat.{_≤_};
 ghost use lib.ListN.{length};
 ghost use Rattle.registry.specs.Registry.{lineCount, registryLines};
-ghost use Rattle.table.specs.Table.{Rows};
+ghost use Rattle.table.specs.Lent.{lent, before, after};
 ghost use Rattle.settlement.specs.Settle.{Ledger, settleLines, anyMatches};
 ghost use Rattle.settlement.specs.Steps.{Held, Left, ledgerOf};
 
@@ -21,13 +21,13 @@ pub(crate) fn settle_lines(
     clock: [u8; 19],
     s: &[u8],
 ) -> Gate
-    requires { ⌜ Held g (record { nums = now nums; numbers = now numbers; dates = now dates }) 10000000000000 × (lineCount (now s) ≤ 512) ⌝ }
-    ensures { λ r. ⌜ Left (record { nums = now (nums .entry); numbers = now (numbers .entry); dates = now (dates .entry) })
-        (settleLines clock (length (now (nums .entry))) (registryLines (now (s .entry))) (ledgerOf g (record { nums = now (nums .entry); numbers = now (numbers .entry); dates = now (dates .entry) })))
-        r (record { nums = now (nums .exit); numbers = now (numbers .exit); dates = now (dates .exit) }) ⌝ }
-    ensures { λ r. ⌜ Held r (record { nums = now (nums .exit); numbers = now (numbers .exit); dates = now (dates .exit) }) 11000000000000 ⌝ }
-    ensures { λ r. ⌜ _≡_ {A = Ledger} (settleLines clock (length (now (nums .entry))) (registryLines (now (s .entry))) (ledgerOf g (record { nums = now (nums .entry); numbers = now (numbers .entry); dates = now (dates .entry) })))
-        (ledgerOf r (record { nums = now (nums .exit); numbers = now (numbers .exit); dates = now (dates .exit) })) ⌝ }
+    requires { ⌜ Held g (lent nums numbers dates) 10000000000000 × (lineCount (now s) ≤ 512) ⌝ }
+    ensures { λ r. ⌜ Left (before nums numbers dates)
+        (settleLines clock (length (now (nums .entry))) (registryLines (now (s .entry))) (ledgerOf g (before nums numbers dates)))
+        r (after nums numbers dates) ⌝ }
+    ensures { λ r. ⌜ Held r (after nums numbers dates) 11000000000000 ⌝ }
+    ensures { λ r. ⌜ _≡_ {A = Ledger} (settleLines clock (length (now (nums .entry))) (registryLines (now (s .entry))) (ledgerOf g (before nums numbers dates)))
+        (ledgerOf r (after nums numbers dates)) ⌝ }
 {
     let mut gate = g;
     let mut at: usize = 0;

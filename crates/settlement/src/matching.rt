@@ -8,7 +8,8 @@ ghost use mathlib.Core.Path.{_≡_};
 ghost use Prim.Native.Nat.{_≤_};
 ghost use lib.ListN.{length};
 ghost use Rattle.lists.specs.Lists.{firstFrom};
-ghost use Rattle.table.specs.Table.{Rows, recordsOf};
+ghost use Rattle.table.specs.Table.{recordsOf};
+ghost use Rattle.table.specs.Lent.{before};
 ghost use Rattle.settlement.specs.Settle.{matches};
 
 // Whether a line and a record are the same in all four.
@@ -43,7 +44,7 @@ pub fn find_match(
     x: Line,
 ) -> Found
     requires { ⌜ (used ≤ length (now nums)) × (used ≤ length (now numbers)) × (used ≤ length (now dates)) ⌝ }
-    ensures { λ r. ⌜ r ≡ firstFrom (matches x) 0 (recordsOf (record { nums = now (nums .entry); numbers = now (numbers .entry); dates = now (dates .entry) }) used) ⌝ }
+    ensures { λ r. ⌜ r ≡ firstFrom (matches x) 0 (recordsOf (before nums numbers dates) used) ⌝ }
 {
     let mut i: usize = 0;
     while i < used {

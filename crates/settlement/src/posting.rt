@@ -14,7 +14,8 @@ ghost use mathlib.Core.List.{[], _∷_, _++_};
 ghost use mathlib.Core.Bool.{true};
 ghost use Prim.Native.Nat.{_+_, _<_, _≤_};
 ghost use lib.ListN.{length};
-ghost use Rattle.table.specs.Table.{Rows, findRecord, recordsOf};
+ghost use Rattle.table.specs.Table.{findRecord, recordsOf};
+ghost use Rattle.table.specs.Lent.{lent, before, after};
 ghost use Rattle.table.specs.Accounts.{accountsOf, findAccount};
 ghost use Rattle.gate.specs.Deliver.{creditedAt, Within};
 ghost use Rattle.settlement.specs.Settle.{restored, postedRecord, applied, Posts, settleLine};
@@ -71,10 +72,10 @@ pub(crate) fn settle_match(
     i: usize,
     x: Line,
 ) -> Gate
-    requires { ⌜ Held g (record { nums = now nums; numbers = now numbers; dates = now dates }) 10000000000000000 × (i < g .used) × (x .amount < 1000000000) ⌝ }
-    ensures { λ r. ⌜ Left (record { nums = now (nums .entry); numbers = now (numbers .entry); dates = now (dates .entry) })
-        (matchedLine x i (ledgerOf g (record { nums = now (nums .entry); numbers = now (numbers .entry); dates = now (dates .entry) })))
-        r (record { nums = now (nums .exit); numbers = now (numbers .exit); dates = now (dates .exit) }) ⌝ }
+    requires { ⌜ Held g (lent nums numbers dates) 10000000000000000 × (i < g .used) × (x .amount < 1000000000) ⌝ }
+    ensures { λ r. ⌜ Left (before nums numbers dates)
+        (matchedLine x i (ledgerOf g (before nums numbers dates)))
+        r (after nums numbers dates) ⌝ }
 {
     let r = rows::load(nums, numbers, dates, i);
     if r.state == 1 {
@@ -95,11 +96,11 @@ pub(crate) fn post_line(
     x: Line,
     a: usize,
 ) -> Gate
-    requires { ⌜ Held g (record { nums = now nums; numbers = now numbers; dates = now dates }) 10000000000000000 ⌝ }
+    requires { ⌜ Held g (lent nums numbers dates) 10000000000000000 ⌝ }
     requires { ⌜ (a < g .count) × (g .used < length (now nums)) × (x .amount < 1000000000) ⌝ }
-    ensures { λ r. ⌜ Left (record { nums = now (nums .entry); numbers = now (numbers .entry); dates = now (dates .entry) })
-        (applied clock x (Posts a) (ledgerOf g (record { nums = now (nums .entry); numbers = now (numbers .entry); dates = now (dates .entry) })))
-        r (record { nums = now (nums .exit); numbers = now (numbers .exit); dates = now (dates .exit) }) ⌝ }
+    ensures { λ r. ⌜ Left (before nums numbers dates)
+        (applied clock x (Posts a) (ledgerOf g (before nums numbers dates)))
+        r (after nums numbers dates) ⌝ }
 {
     let used = g.used;
     let r = posted_record(g, clock, x);
@@ -118,10 +119,10 @@ pub(crate) fn settle_new(
     clock: [u8; 19],
     x: Line,
 ) -> Gate
-    requires { ⌜ Held g (record { nums = now nums; numbers = now numbers; dates = now dates }) 10000000000000000 × (x .amount < 1000000000) ⌝ }
-    ensures { λ r. ⌜ Left (record { nums = now (nums .entry); numbers = now (numbers .entry); dates = now (dates .entry) })
-        (newLine clock (length (now (nums .entry))) x (ledgerOf g (record { nums = now (nums .entry); numbers = now (numbers .entry); dates = now (dates .entry) })))
-        r (record { nums = now (nums .exit); numbers = now (numbers .exit); dates = now (dates .exit) }) ⌝ }
+    requires { ⌜ Held g (lent nums numbers dates) 10000000000000000 × (x .amount < 1000000000) ⌝ }
+    ensures { λ r. ⌜ Left (before nums numbers dates)
+        (newLine clock (length (now (nums .entry))) x (ledgerOf g (before nums numbers dates)))
+        r (after nums numbers dates) ⌝ }
 {
     let used = g.used;
     if nums.len() <= used {
@@ -147,10 +148,10 @@ pub(crate) fn settle_line(
     clock: [u8; 19],
     x: Line,
 ) -> Gate
-    requires { ⌜ Held g (record { nums = now nums; numbers = now numbers; dates = now dates }) 10000000000000000 × (x .amount < 1000000000) ⌝ }
-    ensures { λ r. ⌜ Left (record { nums = now (nums .entry); numbers = now (numbers .entry); dates = now (dates .entry) })
-        (settleLine clock (length (now (nums .entry))) x (ledgerOf g (record { nums = now (nums .entry); numbers = now (numbers .entry); dates = now (dates .entry) })))
-        r (record { nums = now (nums .exit); numbers = now (numbers .exit); dates = now (dates .exit) }) ⌝ }
+    requires { ⌜ Held g (lent nums numbers dates) 10000000000000000 × (x .amount < 1000000000) ⌝ }
+    ensures { λ r. ⌜ Left (before nums numbers dates)
+        (settleLine clock (length (now (nums .entry))) x (ledgerOf g (before nums numbers dates)))
+        r (after nums numbers dates) ⌝ }
 {
     let used = g.used;
     let found = matching::find_match(nums, numbers, dates, used, x);

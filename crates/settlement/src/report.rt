@@ -10,7 +10,8 @@ ghost use Prim.Native.Nat.{_≤_};
 ghost use lib.ListN.{length};
 ghost use Rattle.fields.specs.Lists.{over};
 ghost use Rattle.registry.specs.Registry.{lineCount, registryLines};
-ghost use Rattle.table.specs.Table.{Rows, recordsOf};
+ghost use Rattle.table.specs.Table.{recordsOf};
+ghost use Rattle.table.specs.Lent.{before};
 ghost use Rattle.settlement.specs.Settle.{matches, isDone, anyDone, reportOf};
 
 // Whether a record is done and the line matches it.
@@ -33,7 +34,7 @@ pub(crate) fn any_done(
     x: Line,
 ) -> bool
     requires { ⌜ (used ≤ length (now nums)) × (used ≤ length (now numbers)) × (used ≤ length (now dates)) ⌝ }
-    ensures { λ b. ⌜ b ≡ anyDone x (recordsOf (record { nums = now (nums .entry); numbers = now (numbers .entry); dates = now (dates .entry) }) used) ⌝ }
+    ensures { λ b. ⌜ b ≡ anyDone x (recordsOf (before nums numbers dates) used) ⌝ }
 {
     let mut i: usize = 0;
     while i < used {
@@ -64,7 +65,7 @@ pub(crate) fn write_report(
 ) -> usize
     requires { ⌜ (used ≤ length (now nums)) × (used ≤ length (now numbers)) × (used ≤ length (now dates)) × (lineCount (now s) ≤ length (now out)) ⌝ }
     ensures { λ r. ⌜ r ≡ length (registryLines (now (s .entry))) ⌝ }
-    ensures { λ _. ⌜ now (out .exit) ≡ over (now (out .entry)) 0 (reportOf (registryLines (now (s .entry))) (recordsOf (record { nums = now (nums .entry); numbers = now (numbers .entry); dates = now (dates .entry) }) used)) ⌝ }
+    ensures { λ _. ⌜ now (out .exit) ≡ over (now (out .entry)) 0 (reportOf (registryLines (now (s .entry))) (recordsOf (before nums numbers dates) used)) ⌝ }
 {
     let mut n: usize = 0;
     let mut at: usize = 0;

@@ -11,7 +11,7 @@ ghost use mathlib.Core.Path.{_≡_};
 ghost use Prim.Native.Nat.{_≤_};
 ghost use lib.ListN.{length};
 ghost use Rattle.registry.specs.Registry.{lineCount, registryLines};
-ghost use Rattle.table.specs.Table.{Rows};
+ghost use Rattle.table.specs.Lent.{lent, before, after};
 ghost use Rattle.settlement.specs.Settle.{Settled, settleText, settle};
 ghost use Rattle.settlement.specs.Steps.{Held};
 
@@ -26,11 +26,11 @@ pub(crate) fn settle_text(
     s: &[u8],
     out: &mut [u8],
 ) -> Reply
-    requires { ⌜ Held g (record { nums = now nums; numbers = now numbers; dates = now dates }) 10000000000000 ⌝ }
+    requires { ⌜ Held g (lent nums numbers dates) 10000000000000 ⌝ }
     requires { ⌜ (lineCount (now s) ≤ 512) × (length (registryLines (now s)) ≤ 512) × (512 ≤ length (now out)) ⌝ }
     ensures { λ r. ⌜ _≡_ {A = Settled}
-        (record { code = r .code; gate = r .gate; rows = record { nums = now (nums .exit); numbers = now (numbers .exit); dates = now (dates .exit) }; report = now (out .exit); size = r .size })
-        (settleText g (record { nums = now (nums .entry); numbers = now (numbers .entry); dates = now (dates .entry) }) clock day (now (s .entry)) (now (out .entry))) ⌝ }
+        (record { code = r .code; gate = r .gate; rows = after nums numbers dates; report = now (out .exit); size = r .size })
+        (settleText g (before nums numbers dates) clock day (now (s .entry)) (now (out .entry))) ⌝ }
 {
     let closed = g.closed;
     if day.follows(closed) {
@@ -71,8 +71,8 @@ pub fn settle(
     out: &mut [u8],
 ) -> Reply
     ensures { λ r. ⌜ _≡_ {A = Settled}
-        (record { code = r .code; gate = r .gate; rows = record { nums = now (nums .exit); numbers = now (numbers .exit); dates = now (dates .exit) }; report = now (out .exit); size = r .size })
-        (settle g (record { nums = now (nums .entry); numbers = now (numbers .entry); dates = now (dates .entry) }) clock day (now (s .entry)) (now (out .entry))) ⌝ }
+        (record { code = r .code; gate = r .gate; rows = after nums numbers dates; report = now (out .exit); size = r .size })
+        (settle g (before nums numbers dates) clock day (now (s .entry)) (now (out .entry))) ⌝ }
 {
     if !valid::table_good(nums, numbers, dates, g) {
         return Reply {

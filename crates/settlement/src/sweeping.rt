@@ -11,7 +11,7 @@ ghost use mathlib.Core.Path.{_≡_};
 ghost use Prim.Native.Nat.{_<_, _≤_};
 ghost use lib.ListN.{length};
 ghost use Rattle.registry.specs.Registry.{registryLines};
-ghost use Rattle.table.specs.Table.{Rows};
+ghost use Rattle.table.specs.Lent.{lent, before, after};
 ghost use Rattle.table.specs.Accounts.{accountsOf, findAccount};
 ghost use Rattle.gate.specs.Deliver.{revoked, debitedAt};
 ghost use Rattle.settlement.specs.Settle.{Ledger, isStray, swept};
@@ -65,10 +65,10 @@ pub(crate) fn sweep_at(
     s: &[u8],
     i: usize,
 ) -> Gate
-    requires { ⌜ Held g (record { nums = now nums; numbers = now numbers; dates = now dates }) 10000000000000000 × (i < g .used) ⌝ }
-    ensures { λ r. ⌜ Left (record { nums = now (nums .entry); numbers = now (numbers .entry); dates = now (dates .entry) })
-        (sweptAt clock day (registryLines (now (s .entry))) i (ledgerOf g (record { nums = now (nums .entry); numbers = now (numbers .entry); dates = now (dates .entry) })))
-        r (record { nums = now (nums .exit); numbers = now (numbers .exit); dates = now (dates .exit) }) ⌝ }
+    requires { ⌜ Held g (lent nums numbers dates) 10000000000000000 × (i < g .used) ⌝ }
+    ensures { λ r. ⌜ Left (before nums numbers dates)
+        (sweptAt clock day (registryLines (now (s .entry))) i (ledgerOf g (before nums numbers dates)))
+        r (after nums numbers dates) ⌝ }
 {
     let r = rows::load(nums, numbers, dates, i);
     if !is_stray(r, day, s) {
@@ -89,13 +89,13 @@ pub(crate) fn sweep(
     day: Day,
     s: &[u8],
 ) -> Gate
-    requires { ⌜ Held g (record { nums = now nums; numbers = now numbers; dates = now dates }) 11000000000000 ⌝ }
-    ensures { λ r. ⌜ Left (record { nums = now (nums .entry); numbers = now (numbers .entry); dates = now (dates .entry) })
-        (swept clock day (registryLines (now (s .entry))) (ledgerOf g (record { nums = now (nums .entry); numbers = now (numbers .entry); dates = now (dates .entry) })))
-        r (record { nums = now (nums .exit); numbers = now (numbers .exit); dates = now (dates .exit) }) ⌝ }
-    ensures { λ r. ⌜ Held r (record { nums = now (nums .exit); numbers = now (numbers .exit); dates = now (dates .exit) }) 16000000000000 ⌝ }
-    ensures { λ r. ⌜ _≡_ {A = Ledger} (swept clock day (registryLines (now (s .entry))) (ledgerOf g (record { nums = now (nums .entry); numbers = now (numbers .entry); dates = now (dates .entry) })))
-        (ledgerOf r (record { nums = now (nums .exit); numbers = now (numbers .exit); dates = now (dates .exit) })) ⌝ }
+    requires { ⌜ Held g (lent nums numbers dates) 11000000000000 ⌝ }
+    ensures { λ r. ⌜ Left (before nums numbers dates)
+        (swept clock day (registryLines (now (s .entry))) (ledgerOf g (before nums numbers dates)))
+        r (after nums numbers dates) ⌝ }
+    ensures { λ r. ⌜ Held r (after nums numbers dates) 16000000000000 ⌝ }
+    ensures { λ r. ⌜ _≡_ {A = Ledger} (swept clock day (registryLines (now (s .entry))) (ledgerOf g (before nums numbers dates)))
+        (ledgerOf r (after nums numbers dates)) ⌝ }
 {
     let used = g.used;
     let mut gate = g;

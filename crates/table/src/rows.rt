@@ -6,7 +6,8 @@ ghost use mathlib.Core.Path.{_≡_};
 ghost use mathlib.Core.List.{[]};
 ghost use Prim.Native.Nat.{_<_, _≤_};
 ghost use lib.ListN.{length, getD};
-ghost use Rattle.table.specs.Table.{Rows, recordFrom, recordAt, rowsWith, recordsOf, findRecord};
+ghost use Rattle.table.specs.Table.{recordFrom, recordAt, rowsWith, recordsOf, findRecord};
+ghost use Rattle.table.specs.Lent.{before, after};
 
 // The record of these numbers, account number and dates.
 fn record_of(w: [u64; 6], bytes: [u8; 30], d: [[u8; 19]; 3]) -> Record
@@ -36,7 +37,7 @@ fn record_of(w: [u64; 6], bytes: [u8; 30], d: [[u8; 19]; 3]) -> Record
 // The record at i.
 pub fn load(nums: &[[u64; 6]], numbers: &[[u8; 30]], dates: &[[[u8; 19]; 3]], i: usize) -> Record
     requires { ⌜ (i < length (now nums)) × (i < length (now numbers)) × (i < length (now dates)) ⌝ }
-    ensures { λ r. ⌜ r ≡ recordAt (record { nums = now (nums .entry); numbers = now (numbers .entry); dates = now (dates .entry) }) i ⌝ }
+    ensures { λ r. ⌜ r ≡ recordAt (before nums numbers dates) i ⌝ }
     ensures { λ r. ⌜ (length (getD (now (nums .entry)) i []) ≡ 6) × (length (getD (now (dates .entry)) i []) ≡ 3) ⌝ }
     ensures { λ r. ⌜ (length (r .number .bytes) ≡ 30) × (length (r .date) ≡ 19) × (length (r .credit) ≡ 19) × (length (r .cancel) ≡ 19) ⌝ }
 {
@@ -55,8 +56,7 @@ pub fn store(
     r: Record,
 )
     requires { ⌜ (i < length (now nums)) × (i < length (now numbers)) × (i < length (now dates)) ⌝ }
-    ensures { λ _. ⌜ _≡_ {A = Rows} (record { nums = now (nums .exit); numbers = now (numbers .exit); dates = now (dates .exit) })
-        (rowsWith (record { nums = now (nums .entry); numbers = now (numbers .entry); dates = now (dates .entry) }) i r) ⌝ }
+    ensures { λ _. ⌜ after nums numbers dates ≡ rowsWith (before nums numbers dates) i r ⌝ }
 {
     let number = r.number;
     let len = number.len as u64;
@@ -80,7 +80,7 @@ pub fn find_record(
     receipt: u64,
 ) -> Found
     requires { ⌜ used ≤ length (now nums) ⌝ }
-    ensures { λ r. ⌜ r ≡ findRecord receipt (recordsOf (record { nums = now (nums .entry); numbers = now (numbers .entry); dates = now (dates .entry) }) used) ⌝ }
+    ensures { λ r. ⌜ r ≡ findRecord receipt (recordsOf (before nums numbers dates) used) ⌝ }
 {
     let mut i: usize = 0;
     while i < used {

@@ -13,7 +13,8 @@ ghost use Prim.Native.Nat.{_<_, _≤_};
 ghost use lib.Dec.{ltb};
 ghost use lib.ListN.{length};
 ghost use Rattle.lists.specs.Lists.{allFrom};
-ghost use Rattle.table.specs.Table.{Rows, recordsOf, Whole};
+ghost use Rattle.table.specs.Table.{recordsOf, Whole};
+ghost use Rattle.table.specs.Lent.{before};
 ghost use Rattle.table.specs.Accounts.{isAccount};
 ghost use Rattle.table.specs.Valid.{accountKnown, recordGood, tableGood, Ready};
 
@@ -86,8 +87,8 @@ fn is_known(g: Gate, r: Record) -> bool
 fn records_good(nums: &[[u64; 6]], numbers: &[[u8; 30]], dates: &[[[u8; 19]; 3]], g: Gate) -> bool
     requires { ⌜ (g .used ≤ length (now nums)) × (g .used ≤ length (now numbers)) × (g .used ≤ length (now dates)) ⌝ }
     requires { ⌜ (g .count ≤ 256) × (g .used ≤ 4096) ⌝ }
-    ensures { λ b. ⌜ b ≡ allFrom (recordGood g) 0 (recordsOf (record { nums = now (nums .entry); numbers = now (numbers .entry); dates = now (dates .entry) }) (g .used)) ⌝ }
-    ensures { λ b. ⌜ (b ≡ true → Whole (record { nums = now (nums .entry); numbers = now (numbers .entry); dates = now (dates .entry) }) (g .used)) ⌝ }
+    ensures { λ b. ⌜ b ≡ allFrom (recordGood g) 0 (recordsOf (before nums numbers dates) (g .used)) ⌝ }
+    ensures { λ b. ⌜ (b ≡ true → Whole (before nums numbers dates) (g .used)) ⌝ }
 {
     let used = g.used;
     let count = g.count;
@@ -116,8 +117,8 @@ fn records_good(nums: &[[u64; 6]], numbers: &[[u8; 30]], dates: &[[[u8; 19]; 3]]
 
 // Whether a lent gate and table are in their ranges.
 pub fn table_good(nums: &[[u64; 6]], numbers: &[[u8; 30]], dates: &[[[u8; 19]; 3]], g: Gate) -> bool
-    ensures { λ b. ⌜ b ≡ tableGood g (record { nums = now (nums .entry); numbers = now (numbers .entry); dates = now (dates .entry) }) ⌝ }
-    ensures { λ b. ⌜ (b ≡ true → Ready g (record { nums = now (nums .entry); numbers = now (numbers .entry); dates = now (dates .entry) })) ⌝ }
+    ensures { λ b. ⌜ b ≡ tableGood g (before nums numbers dates) ⌝ }
+    ensures { λ b. ⌜ (b ≡ true → Ready g (before nums numbers dates)) ⌝ }
 {
     if !lists::is_lent(g.used, nums.len(), numbers.len(), dates.len()) {
         return false;
