@@ -7,10 +7,11 @@ ghost use mathlib.Core.Path.{_≡_};
 ghost use lib.ListN.{length};
 ghost use Rattle.console.specs.Sums.{Summable};
 
-// A session, and whether its input goes on.
+// A session, whether its input goes on, and whether what it printed was written.
 struct Stage {
     session: Session,
     going: bool,
+    written: bool,
 }
 
 // The table that is lent: 256 records.
@@ -52,6 +53,11 @@ fn begin() -> Session
     }
 }
 
+// Says on standard error what went wrong.
+fn complain(text: &[u8]) {
+    io::write_all(2, text);
+}
+
 // Reads once, feeds what came and prints.
 fn feed_some(
     nums: &mut [[u64; 6]],
@@ -65,20 +71,25 @@ fn feed_some(
     let mut input = input_part();
     let mut out = io::large_buffer();
     let got = libc::read(0, &mut input);
+    if got < 0 {
+        complain(b"session: cannot read standard input\n");
+    }
     let n = io::count(got, &input);
     if n == 0 {
         return Stage {
             session: s,
             going: false,
+            written: true,
         };
     }
     let console = s.console;
     let held = s.held;
     let next = feed::feed(nums, numbers, dates, console, held, &input[..n], &mut out);
-    let going = io::write_all(1, scan::first_bytes(&out, next.size));
+    let written = io::write_all(1, scan::first_bytes(&out, next.size));
     Stage {
         session: next,
-        going,
+        going: written,
+        written,
     }
 }
 
@@ -88,39 +99,54 @@ fn feed_all(
     numbers: &mut [[u8; 30]],
     dates: &mut [[[u8; 19]; 3]],
     s: Session,
-) -> Session
+) -> Stage
     requires { ⌜ Summable (s .console .gate) ⌝ }
-    ensures { λ r. ⌜ Summable (r .console .gate) ⌝ }
+    ensures { λ r. ⌜ Summable (r .session .console .gate) ⌝ }
 {
     let mut session = s;
     let mut turns = u64::MAX;
     while 0 < turns {
         let stage = feed_some(nums, numbers, dates, session);
-        session = stage.session;
         if !stage.going {
-            return session;
+            return stage;
         }
+        session = stage.session;
         turns -= 1;
     }
-    session
+    Stage {
+        session,
+        going: true,
+        written: true,
+    }
+}
+
+// Prints the last line, where no 0A ends it.
+fn print_last(
+    nums: &mut [[u64; 6]],
+    numbers: &mut [[u8; 30]],
+    dates: &mut [[[u8; 19]; 3]],
+    s: Session,
+) -> bool
+    requires { ⌜ Summable (s .console .gate) ⌝ }
+{
+    let mut out = [0u8; 64];
+    let console = s.console;
+    let held = s.held;
+    let last = feed::finish(nums, numbers, dates, console, held, &mut out, 0);
+    io::write_all(1, scan::first_bytes(&out, last.size))
 }
 
 fn main() {
     let mut nums = empty_nums();
     let mut numbers = empty_numbers();
     let mut dates = empty_dates();
-    let s = feed_all(&mut nums, &mut numbers, &mut dates, begin());
-    let mut out = [0u8; 64];
-    let console = s.console;
-    let held = s.held;
-    let last = feed::finish(
-        &mut nums,
-        &mut numbers,
-        &mut dates,
-        console,
-        held,
-        &mut out,
-        0,
-    );
-    io::write_all(1, scan::first_bytes(&out, last.size));
+    let stage = feed_all(&mut nums, &mut numbers, &mut dates, begin());
+    let mut written = stage.written;
+    if written {
+        let session = stage.session;
+        written = print_last(&mut nums, &mut numbers, &mut dates, session);
+    }
+    if !written {
+        complain(b"session: cannot write standard output\n");
+    }
 }
