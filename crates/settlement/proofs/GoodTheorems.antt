@@ -25,8 +25,8 @@ use Rattle.table.specs.Accounts.{accountsOf, findAccount, withClosed}
 use Rattle.table.specs.Valid.{recordGood, accountKnown}
 use Rattle.table.proofs.TableLaws.{length-records, getD-records, from-at, from-whole, whole-from}
 use Rattle.gate.specs.Deliver.{noRecord, isFull}
-use Rattle.gate.proofs.RowsLaws.{SameNames}
-use Rattle.gate.proofs.KeptLaws.{GateRep, GateBase, gate-facts, base-of, names-apart}
+use Rattle.gate_theorems.proofs.RowsLaws.{SameNames}
+use Rattle.gate_theorems.proofs.KeptLaws.{GateRep, GateBase, gate-facts, base-of, names-apart}
 use Rattle.settlement.specs.Settle.{matches, Verdict, Keeps, Restores, Posts, Unposted, postVerdict, verdictOf, restored, postedRecord, Ledger, applied, settleLine, settleLines, sweptRecord, swept, Settled, settleDay, settle}
 use Rattle.settlement.proofs.HeldLaws.{post-room, verdict-post}
 use Rattle.settlement.proofs.SettleLaws.{line-onward, Passed, settle-elim, before, after, after-used}

@@ -33,7 +33,7 @@ use Rattle.table.specs.Valid.{tableGood}
 use Rattle.table.proofs.TableLaws.{length-records, getD-records, from-at, records-from}
 use borrow.Author.Tests.{leb-true, eqb-true, eqb-false, not-true}
 use Rattle.gate.specs.Deliver.{noRecord, revoked, debitedAt, isFull}
-use Rattle.gate.proofs.RecordsLaws.{debit-used}
+use Rattle.gate.proofs.ChangeLaws.{debit-used}
 use Rattle.settlement.specs.Settle.{matches, isDone, Verdict, Keeps, Restores, Posts, Unposted, postVerdict, matchVerdict, verdictOf, restored, postedRecord, Ledger, applied, settleLine, settleLines, anyMatches, isStray, sweptRecord, sweptGate, sweepGates, swept, anyDone, reportOf, Settled, unsettled, reported, settleDay, settleText, settle}
 use Rattle.settlement.proofs.HeldLaws.{credit-used}
 

@@ -30,7 +30,7 @@ use Rattle.registry.proofs.LinesGood.{lines-good}
 use Rattle.lists.specs.declared.Found.the-variants.{At}
 use Rattle.table.specs.Table.{recordsOf}
 use Rattle.gate.specs.Deliver.{Delivered, deliver}
-use Rattle.gate.proofs.AnsweredTheorems.{answerTo as gateAnswer, deliver-text, deliver-told, deliver-silent}
+use Rattle.gate_theorems.proofs.AnsweredTheorems.{answerTo as gateAnswer, deliver-text, deliver-told, deliver-silent}
 use Rattle.settlement.specs.Settle.{reportOf, Settled, settleDay, settle}
 use Rattle.settlement.proofs.SettleLaws.{report-length, settled-by, fault-keeps, report-now}
 use Rattle.book.specs.Entries.{findEntry}
