@@ -40,7 +40,7 @@ use Rattle.daybook.proofs.RegistryLaws.{registry-few}
 use Rattle.agent.specs.Writing.{Wrote, requestOf, checkOf, writeCheck}
 use Rattle.book.proofs.PaymentLaws.{entry-parts}
 use Rattle.agent.proofs.MovedLaws.{same-place, found-fields}
-use Rattle.agent.proofs.WritingTheorems.{write-cases}
+use Rattle.agent_theorems.proofs.WritingTheorems.{write-cases}
 use Rattle.channel.specs.World.{Sent, sentRequest, sentAnswer, sentRegistry, sentReport, World, Step, opens, draws, accepts, writesCheck, writesPayment, writesStatus, writesCancel, freezes, writesRegistry, delivers, sentIf, atGate, isAnswered, requestArrives, registryArrives, answerArrives, reportArrives, delivered, opening, drawing, accepting, checking, writing, freezing, listing, step, codeOf}
 use Rattle.channel.specs.Claim.{recordsIn, entryIn, entriesIn}
 
