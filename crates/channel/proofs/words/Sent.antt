@@ -32,7 +32,8 @@ use Rattle.table.specs.Table.{recordsOf}
 use Rattle.gate.specs.Deliver.{Delivered, deliver}
 use Rattle.gate_theorems.proofs.AnsweredTheorems.{answerTo as gateAnswer, deliver-text, deliver-told, deliver-silent}
 use Rattle.settlement.specs.Settle.{reportOf, Settled, settleDay, settle}
-use Rattle.settlement.proofs.SettleLaws.{report-length, settled-by, fault-keeps, report-now}
+use Rattle.settlement.proofs.DayLaws.{report-length}
+use Rattle.settlement_theorems.proofs.SettleLaws.{settled-by, fault-keeps, report-now}
 use Rattle.book.specs.Entries.{findEntry}
 use Rattle.book.specs.BookValid.{bookGood}
 use Rattle.daybook.specs.Freezing.{registryOf, Listed, listOn, writeRegistry}
