@@ -2,7 +2,3 @@ pub mod MeaningLaws
 pub mod WritingLaws
 pub mod AnsweringLaws
 pub mod MovedLaws
-pub mod AnswerTheorems
-pub mod WritingTheorems
-pub mod AlikeTheorems
-pub mod GivesTheorems

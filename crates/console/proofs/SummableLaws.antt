@@ -39,11 +39,11 @@ use Rattle.gate.specs.declared.Reply.{Reply}
 use Rattle.gate.specs.Opening.{openTo, openCall, drawOn, drawFrom, drawCall}
 use Rattle.gate.specs.Deliver.{isShort, debitedAt, deliver, respond, Delivered}
 use Rattle.gate.proofs.DeliverLaws.{asked-amount}
-use Rattle.gate.proofs.OutcomeLaws.{Outcome, stays, appends, revokes, outcome}
-use Rattle.gate.proofs.KeepsLaws.{delivered-by}
+use Rattle.gate_theorems.proofs.OutcomeLaws.{Outcome, stays, appends, revokes, outcome}
+use Rattle.gate_theorems.proofs.KeepsLaws.{delivered-by}
 use Rattle.gate.proofs.GoodLaws.{Near, near-table}
-use Rattle.gate.proofs.RowsLaws.{SameNames, names-moved, names-debited}
-use Rattle.gate.proofs.CallLaws.{near-debited, opened-other, opened-new}
+use Rattle.gate_theorems.proofs.RowsLaws.{SameNames, names-moved, names-debited}
+use Rattle.gate_theorems.proofs.CallLaws.{near-debited, opened-other, opened-new}
 use Rattle.console.specs.declared.Console.{Console}
 use Rattle.console.specs.Order.{Turn, fieldAt, fieldCount, hasLetter, paramsIn, kindIn, drawOf, startOn, startTurn, openTurn, drawTurn, askTurn, orderTurn, lineTurn}
 use Rattle.console.specs.Sums.{Summable}

@@ -31,7 +31,7 @@ use Rattle.gate.specs.declared.plan.Plan.{Plan}
 use Rattle.gate.specs.Decision.{keeps, paymentNew, cancelDone, decision}
 use Rattle.gate.specs.Deliver.{Within, recordFound, standingOf, accountOf, isFull, viewOf, planWith, planOf, makeRecord, revoked, creditedAt, debitedAt, replacedAt, Changed, changed, Made}
 use Rattle.gate.proofs.PlanLaws.{found-within, found-amount, account-within}
-use Rattle.gate.proofs.OutcomeLaws.{append-of}
+use Rattle.gate.proofs.DecisionLaws.{append-of}
 
 -- ---- balances of the account that was found
 module _ (g : Gate) (f : Found) (a : ℕ) (is : f ≡ At a) where
@@ -46,6 +46,12 @@ module _ (g : Gate) (f : Found) (a : ℕ) (is : f ≡ At a) where
 
   pub debit-there : (n : ℕ) (r : Gate) → r ≡ debited g a n → r ≡ debitedAt g f n
   debit-there n r e = e ∙ rw is
+
+-- a debit keeps the number of records
+pub debit-used : (g : Gate) (f : Found) (n : ℕ) → (debitedAt g f n) .used ≡ g .used
+unfolding debited
+debit-used g Nothing n = refl
+debit-used g (At a) n = refl
 
 -- ---- the place that was found
 module _ (t : Rows) (used : ℕ) (whole : Whole t used) (f : Found) (within : Within f used) (r : Record) where

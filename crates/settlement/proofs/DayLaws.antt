@@ -1,8 +1,8 @@
 -- Laws of a day that is settled.
-use Prim.Native.Nat.{ℕ, _+_, _≤_}
+use Prim.Native.Nat.{ℕ, suc, _+_, _≤_}
 use native.Mathlib.Omega.{arith}
-use mathlib.Core.Path.{_≡_, sym, ap, _∙_}
-use mathlib.Core.List.{List}
+use mathlib.Core.Path.{_≡_, refl, sym, ap, _∙_}
+use mathlib.Core.List.{List, [], _∷_}
 use lib.ListN.{length, length-map}
 use Rattle.fields.specs.declared.calendar.Day.{Day}
 use Rattle.fields.specs.Lists.{over, written}
@@ -15,7 +15,12 @@ use Rattle.table.specs.Accounts.{withClosed}
 use Rattle.settlement.specs.Settle.{Ledger, settleLines, sweptRecord, swept, reportOf, Settled, settleDay}
 use Rattle.settlement.specs.Steps.{Left, ledgerOf}
 use Rattle.settlement.proofs.HeldLaws.{from-from}
-use Rattle.settlement.proofs.SettleLaws.{report-length}
+
+-- one byte a line
+pub report-length : (xs : List Line) (rs : List Record) → length (reportOf xs rs) ≡ length xs
+unfolding reportOf
+report-length [] rs = refl
+report-length (x ∷ xs) rs = ap suc (report-length xs rs)
 
 pub report-written : (xs : List Line) (rs : List Record) (out : List ℕ) → length xs ≤ 512 → 512 ≤ length out → over out 0 (reportOf xs rs) ≡ written out 0 (reportOf xs rs)
 report-written xs rs out a b = written-over out 0 (reportOf xs rs) (omega (arith, report-length xs rs))

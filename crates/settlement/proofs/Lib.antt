@@ -1,14 +1,8 @@
-pub mod BalanceLaws
-pub mod Cases
 pub mod DayLaws
-pub mod GivesTheorems
-pub mod GoodTheorems
 pub mod HeldLaws
-pub mod LedgerLaws
 pub mod LinesLaws
 pub mod MatchLaws
 pub mod PostLaws
 pub mod ReportLaws
-pub mod SettleLaws
 pub mod SweepLaws
 pub mod TextLaws

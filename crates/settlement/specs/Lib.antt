@@ -1,4 +1,2 @@
-pub mod Balances
-pub mod Cases
 pub mod Settle
 pub mod Steps

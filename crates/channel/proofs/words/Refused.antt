@@ -25,7 +25,7 @@ use Rattle.gate.specs.declared.Reply.{Reply}
 use Rattle.gate.specs.Deliver.{Delivered}
 use Rattle.gate.specs.Opening.{replies, openCall, drawCall}
 use Rattle.gate.proofs.GoodLaws.{good-table}
-use Rattle.gate.proofs.KeepsLaws.{refused-table}
+use Rattle.gate_theorems.proofs.KeepsLaws.{refused-table}
 use Rattle.settlement.specs.Settle.{Settled, unsettled, settle}
 use Rattle.book.specs.declared.Book.{Book}
 use Rattle.book.specs.declared.Entry.{Entry}

@@ -30,9 +30,10 @@ use Rattle.registry.proofs.LinesGood.{lines-good}
 use Rattle.lists.specs.declared.Found.the-variants.{At}
 use Rattle.table.specs.Table.{recordsOf}
 use Rattle.gate.specs.Deliver.{Delivered, deliver}
-use Rattle.gate.proofs.AnsweredTheorems.{answerTo as gateAnswer, deliver-text, deliver-told, deliver-silent}
+use Rattle.gate_theorems.proofs.AnsweredTheorems.{answerTo as gateAnswer, deliver-text, deliver-told, deliver-silent}
 use Rattle.settlement.specs.Settle.{reportOf, Settled, settleDay, settle}
-use Rattle.settlement.proofs.SettleLaws.{report-length, settled-by, fault-keeps, report-now}
+use Rattle.settlement.proofs.DayLaws.{report-length}
+use Rattle.settlement_theorems.proofs.SettleLaws.{settled-by, fault-keeps, report-now}
 use Rattle.book.specs.Entries.{findEntry}
 use Rattle.book.specs.BookValid.{bookGood}
 use Rattle.daybook.specs.Freezing.{registryOf, Listed, listOn, writeRegistry}
@@ -40,7 +41,7 @@ use Rattle.daybook.proofs.RegistryLaws.{registry-few}
 use Rattle.agent.specs.Writing.{Wrote, requestOf, checkOf, writeCheck}
 use Rattle.book.proofs.PaymentLaws.{entry-parts}
 use Rattle.agent.proofs.MovedLaws.{same-place, found-fields}
-use Rattle.agent.proofs.WritingTheorems.{write-cases}
+use Rattle.agent_theorems.proofs.WritingTheorems.{write-cases}
 use Rattle.channel.specs.World.{Sent, sentRequest, sentAnswer, sentRegistry, sentReport, World, Step, opens, draws, accepts, writesCheck, writesPayment, writesStatus, writesCancel, freezes, writesRegistry, delivers, sentIf, atGate, isAnswered, requestArrives, registryArrives, answerArrives, reportArrives, delivered, opening, drawing, accepting, checking, writing, freezing, listing, step, codeOf}
 use Rattle.channel.specs.Claim.{recordsIn, entryIn, entriesIn}
 

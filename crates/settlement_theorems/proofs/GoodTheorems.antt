@@ -25,13 +25,13 @@ use Rattle.table.specs.Accounts.{accountsOf, findAccount, withClosed}
 use Rattle.table.specs.Valid.{recordGood, accountKnown}
 use Rattle.table.proofs.TableLaws.{length-records, getD-records, from-at, from-whole, whole-from}
 use Rattle.gate.specs.Deliver.{noRecord, isFull}
-use Rattle.gate.proofs.RowsLaws.{SameNames}
-use Rattle.gate.proofs.KeptLaws.{GateRep, GateBase, gate-facts, base-of, names-apart}
+use Rattle.gate_theorems.proofs.RowsLaws.{SameNames}
+use Rattle.gate_theorems.proofs.KeptLaws.{GateRep, GateBase, gate-facts, base-of, names-apart}
 use Rattle.settlement.specs.Settle.{matches, Verdict, Keeps, Restores, Posts, Unposted, postVerdict, verdictOf, restored, postedRecord, Ledger, applied, settleLine, settleLines, sweptRecord, swept, Settled, settleDay, settle}
 use Rattle.settlement.proofs.HeldLaws.{post-room, verdict-post}
-use Rattle.settlement.proofs.SettleLaws.{line-onward, Passed, settle-elim, before, after, after-used}
-use Rattle.settlement.proofs.BalanceLaws.{sweep-names, settle-names}
-use Rattle.settlement.proofs.LedgerLaws.{LineOk, lines-ok, LedgerGood, lines-good, sweep-good}
+use Rattle.settlement_theorems.proofs.SettleLaws.{line-onward, Passed, settle-elim, before, after, after-used}
+use Rattle.settlement_theorems.proofs.BalanceLaws.{sweep-names, settle-names}
+use Rattle.settlement_theorems.proofs.LedgerLaws.{LineOk, lines-ok, LedgerGood, lines-good, sweep-good}
 
 -- a day that comes next is a date
 next-dated : (last day : Day) → onDay day (nextDay last) ≡ true → isDay day ≡ true

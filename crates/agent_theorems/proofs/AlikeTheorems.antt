@@ -17,11 +17,11 @@ use Rattle.book.proofs.EntryLaws.{EntryRoom, entries-set, getD-entries}
 use Rattle.daybook.specs.Acceptance.{isFrozen}
 use Rattle.daybook.specs.Freezing.{isListed, listed, registryOf, writeRegistry}
 use Rattle.daybook.proofs.ListedTheorems.{registry-same, writing-same, unfrozen-off, listed-set}
 use Rattle.agent.specs.Answering.{takeAnswer}
 use Rattle.agent.specs.Writing.{writeRequest}
 use Rattle.agent.proofs.MovedLaws.{placeOf, Left, kept, moved, room-at, good-kept}
-use Rattle.agent.proofs.AnswerTheorems.{answer-left}
-use Rattle.agent.proofs.WritingTheorems.{write-left}
+use Rattle.agent_theorems.proofs.AnswerTheorems.{answer-left}
+use Rattle.agent_theorems.proofs.WritingTheorems.{write-left}
 
 module _ (b : Book) (t : BookRows) (ready : ReadyBook b t) (day : Day) (past : dayBefore (b .frozen) day ≡ false) where
   -- an entry of an unfrozen day is in no registry of a frozen one, before and after it is moved

@@ -36,9 +36,9 @@ use Rattle.message.specs.Request as MR
 use Rattle.answers.specs.Answer as AN
 use Rattle.registry.specs.Line as RL
 use Rattle.registry.specs.Registry as RR
 use Rattle.settlement.specs.Settle.{settle}
 use Rattle.settlement.specs.Settle as S
-use Rattle.settlement.specs.Cases.{answer1, amountMost, amountOver, oneKopeck, noKopecks, pointAlone, threeDecimals, oneDecimal, receiptMost, receiptLong, receiptZero, leapDate, noLeapDate, day19, account12, opens, atStart, pays, paysAgain, draws, cancelsDrawn, cancels, paysCancelled, settlesNone, settlesLine, paysLate, settlesLater}
+use Rattle.settlement_theorems.specs.Cases.{answer1, amountMost, amountOver, oneKopeck, noKopecks, pointAlone, threeDecimals, oneDecimal, receiptMost, receiptLong, receiptZero, leapDate, noLeapDate, day19, account12, opens, atStart, pays, paysAgain, draws, cancelsDrawn, cancels, paysCancelled, settlesNone, settlesLine, paysLate, settlesLater}
 
 pub record K : Type 0 where
   -- the start is the opening call's own: closed 2005-09-19, account12 type 1 open at 0

@@ -25,16 +25,16 @@ use Rattle.lists.specs.declared.Found.{Found}
 use Rattle.table.specs.Table.{Rows, recordsOf, findRecord}
 use Rattle.table.specs.Valid.{tableGood, Ready}
 use Rattle.table.proofs.TableLaws.{rows-kept}
 use Rattle.gate.specs.declared.decision.Standing.{Standing}
 use Rattle.gate.specs.declared.decision.View.{View}
 use Rattle.gate.specs.declared.decision.Change.{Change}
 use Rattle.gate.specs.declared.decision.Change.the-variants.{Keep, Append, Revoke}
 use Rattle.gate.specs.declared.plan.Plan.{Plan}
 use Rattle.gate.specs.Decision.{isFault, faultCode, decision}
 use Rattle.gate.specs.Deliver.{noRecord, recordFound, standingOf, accountOf, viewOf, planWith, planOf, nextAuthcode, makeRecord, revoked, Changed, changed, settles, answersAuthcode, answersDate, answerDate, answerOf, Delivered, undelivered, respond, deliver}
-use Rattle.gate.proofs.AnswerGood.{gate-answers}
+use Rattle.gate_theorems.proofs.AnswerGood.{gate-answers}
 use Rattle.gate.proofs.GoodLaws.{used-few}
-use Rattle.gate.proofs.CodeLaws.{oneOf, answerCodes, isSilent, not-in, decision-by, fault-by, Told, subject, decided-told, known-found, told-fits, again-same}
+use Rattle.gate_theorems.proofs.CodeLaws.{oneOf, answerCodes, isSilent, not-in, decision-by, fault-by, Told, subject, decided-told, known-found, told-fits, again-same}
 
 -- a decision gives one of twelve codes, whatever the fault, the action, the record and the view are
 pub decision-codes : (f : ℕ) (a : Action) (s : Standing) (v : View) → oneOf answerCodes ((decision f a s v) .code) ≡ true

@@ -29,11 +29,11 @@ use Rattle.table.specs.Table.{Rows, recordAt, recordsOf, rowsFrom, Whole}
 use Rattle.table.specs.Accounts.{isAccount, accountsOf, findAccount, noAccount, withBalance, gateBalance, credited, debited, withUsed}
 use Rattle.table.specs.Valid.{stateGood, rangesGood, accountKnown, authcodeGood, recordGood, tableGood, Ready}
 use Rattle.table.proofs.TableLaws.{length-records, getD-records, from-at, from-whole, whole-from}
 use Rattle.gate.specs.Deliver.{noRecord, nextAuthcode, makeRecord, revoked, debitedAt, respond, deliver, Delivered}
-use Rattle.gate.proofs.OutcomeLaws.{Outcome, stays, appends, revokes, outcome, respond-zero}
-use Rattle.gate.proofs.KeepsLaws.{delivered-by}
-use Rattle.gate.proofs.RecordsLaws.{debit-used}
+use Rattle.gate_theorems.proofs.OutcomeLaws.{Outcome, stays, appends, revokes, outcome, respond-zero}
+use Rattle.gate_theorems.proofs.KeepsLaws.{delivered-by}
+use Rattle.gate.proofs.ChangeLaws.{debit-used}
 use Rattle.gate.proofs.GoodLaws.{Good, Near, good-table, table-again, ready-again}
 
 -- ---- the accounts keep their names
 -- the same accounts by number and type, found at the same places, and the same closed day

@@ -29,17 +29,17 @@ use Rattle.table.specs.Table.{Rows, recordAt, recordsOf, rowsFrom, findRecord}
 use Rattle.table.specs.Accounts.{isAccount, accountsOf, findAccount, noAccount, balanceAt, withBalance, gateBalance, credited, debited, opened, withUsed}
 use Rattle.table.specs.Valid.{tableGood}
 use Rattle.table.proofs.TableLaws.{length-records, getD-records, receipt-within, from-at, rows-as}
 use Rattle.gate.specs.declared.decision.Change.the-variants.{Append, Revoke}
 use Rattle.gate.specs.declared.plan.Plan.{Plan}
 use Rattle.gate.specs.Decision.{paymentNew, cancelDone, decisionOn, decision}
 use Rattle.gate.specs.Deliver.{noRecord, dateClosed, isCancel, accountOf, dateOf, isFull, viewOf, planWith, planOf, makeRecord, revoked, debitedAt, changed, respondBy, respond, deliver, Delivered}
 use Rattle.gate.specs.Opening.{replies, openTo, openCall, drawOn, drawFrom, drawCall}
-use Rattle.gate.proofs.CallLaws.{newAccount, opened-other, opened-new}
-use Rattle.gate.proofs.OutcomeLaws.{Outcome, stays, appends, revokes, outcome}
-use Rattle.gate.proofs.KeepsLaws.{delivered-by}
-use Rattle.gate.proofs.RecordsLaws.{debit-used}
+use Rattle.gate_theorems.proofs.CallLaws.{newAccount, opened-other, opened-new}
+use Rattle.gate_theorems.proofs.OutcomeLaws.{Outcome, stays, appends, revokes, outcome}
+use Rattle.gate_theorems.proofs.KeepsLaws.{delivered-by}
+use Rattle.gate.proofs.ChangeLaws.{debit-used}
 use Rattle.gate.proofs.GoodLaws.{record-good}
-use Rattle.gate.proofs.KeptLaws.{known-of}
+use Rattle.gate_theorems.proofs.KeptLaws.{known-of}
 
 -- ---- one balance moves
 -- the balance of account a becomes z, and every other stays

@@ -28,16 +28,16 @@ use Rattle.table.specs.Table.{Rows, recordAt, recordsOf, findRecord}
 use Rattle.table.specs.Accounts.{isAccount, accountsOf, findAccount, noAccount, withBalance, balanceAt, credited, debited, withUsed, opened}
 use Rattle.table.specs.Valid.{near, rangesGood, accountKnown, authcodeGood, recordGood, tableGood, Ready}
 use Rattle.table.proofs.AccountLaws.{holder-within}
 use Rattle.gate.specs.declared.Reply.{Reply}
 use Rattle.message.specs.declared.action.Action.the-variants.{Payment}
 use Rattle.message.specs.declared.request.Asked.{Asked}
 use Rattle.message.specs.Request.{requestRead}
 use Rattle.gate.specs.Deliver.{isShort, debitedAt, respond, deliver, Delivered}
 use Rattle.gate.specs.Opening.{replies, openTo, openCall, drawOn, drawFrom, drawCall}
-use Rattle.gate.proofs.OutcomeLaws.{Outcome, stays, appends, revokes, outcome}
-use Rattle.gate.proofs.KeepsLaws.{delivered-by}
+use Rattle.gate_theorems.proofs.OutcomeLaws.{Outcome, stays, appends, revokes, outcome}
+use Rattle.gate_theorems.proofs.KeepsLaws.{delivered-by}
 use Rattle.gate.proofs.GoodLaws.{Good, Near, good-table, near-table, table-again, ready-again}
-use Rattle.gate.proofs.RowsLaws.{SameNames, names-same, names-debited, good-there, delivered-good, delivered-ready}
+use Rattle.gate_theorems.proofs.RowsLaws.{SameNames, names-same, names-debited, good-there, delivered-good, delivered-ready}
 
 -- ---- a balance that is drawn on stays in its bound
 near-minus : (z : ℤ) (n : ℕ) → near z ≡ true → ltZ z (pos n) ≡ false → near (z -ℤ pos n) ≡ true

@@ -20,11 +20,12 @@ use Rattle.lists.specs.declared.Found.the-variants.{At, Nothing}
 use Rattle.table.specs.Table.{Rows, recordsOf, findRecord, rowsFrom}
 use Rattle.table.specs.Accounts.{noAccount, balanceAt, withBalance, debited}
 use Rattle.table.proofs.TableLaws.{length-records, records-from}
 use Rattle.gate.specs.declared.decision.Change.the-variants.{Append}
 use Rattle.gate.specs.Deliver.{noRecord, recordFound, standingOf, accountOf, viewOf, planWith, planOf, debitedAt, respond, deliver, Delivered}
-use Rattle.gate.proofs.OutcomeLaws.{Appends, append-of, missing-of, Outcome, stays, appends, revokes, outcome}
-use Rattle.gate.proofs.KeepsLaws.{delivered-by}
-use Rattle.gate.proofs.RecordsLaws.{debit-used}
+use Rattle.gate.proofs.DecisionLaws.{Appends, append-of}
+use Rattle.gate_theorems.proofs.OutcomeLaws.{missing-of, Outcome, stays, appends, revokes, outcome}
+use Rattle.gate_theorems.proofs.KeepsLaws.{delivered-by}
+use Rattle.gate.proofs.ChangeLaws.{debit-used}
 
 -- ---- balances that a debit lowers
 sub-below : (a n : ℕ) → subℕ a n ≤ℤ pos a

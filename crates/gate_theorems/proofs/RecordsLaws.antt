@@ -20,9 +20,10 @@ use borrow.Author.Tests.{eqb-false}
 use Rattle.table.specs.Table.{findRecord, hasReceipt}
 use Rattle.lists.proofs.ListLaws.{found-none}
 use Rattle.table.proofs.TableLaws.{length-records, getD-records, from-at}
 use Rattle.gate.specs.Deliver.{noRecord, dateClosed, makeRecord, revoked, debitedAt, respond, deliver, Delivered}
-use Rattle.gate.proofs.OutcomeLaws.{Outcome, stays, appends, revokes, outcome}
-use Rattle.gate.proofs.KeepsLaws.{delivered-by}
+use Rattle.gate.proofs.ChangeLaws.{debit-used}
+use Rattle.gate_theorems.proofs.OutcomeLaws.{Outcome, stays, appends, revokes, outcome}
+use Rattle.gate_theorems.proofs.KeepsLaws.{delivered-by}
 
 -- what a record is known by, and a record that is not done is final
 pub record SameIdentity (r r′ : Record) : Type 0 where
@@ -58,12 +59,6 @@ revoked-identity : (clock : List ℕ) (r : Record) → r .state ≡ 1 → SameId
 unfolding revoked
 revoked-identity clock r h =
     record { receipt = refl; number = refl; kind = refl; amount = refl; date = refl; authcode = refl; credit = refl; final = λ n. absurd (n h) }
-
--- a debit keeps the number of records
-pub debit-used : (g : Gate) (f : Found) (n : ℕ) → (debitedAt g f n) .used ≡ g .used
-unfolding debited
-debit-used g Nothing n = refl
-debit-used g (At a) n = refl
 
 -- the records after a delivery, place by place
 module _ (g : Gate) (t : Rows) (d : Delivered) where

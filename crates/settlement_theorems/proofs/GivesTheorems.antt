@@ -19,8 +19,9 @@ use Rattle.table.specs.declared.Gate.{Gate}
 use Rattle.table.specs.declared.Record.{Record}
 use Rattle.table.specs.Table.{Rows, recordsOf}
 use Rattle.table.specs.Valid.{tableGood}
 use Rattle.settlement.specs.Settle.{anyDone, reportOf, Settled, settleDay, settleText, settle}
-use Rattle.settlement.proofs.SettleLaws.{report-length, settled-by, report-now}
+use Rattle.settlement.proofs.DayLaws.{report-length}
+use Rattle.settlement_theorems.proofs.SettleLaws.{settled-by, report-now}
 
 -- every byte of a report is a mark
 pub report-marks : (xs : List Line) (rs : List Record) → every isMark (reportOf xs rs) ≡ true

@@ -25,10 +25,10 @@ use Rattle.table.specs.Table.{Rows}
 use Rattle.table.specs.Accounts.{accountsOf, findAccount, balanceAt, debited, opened}
 use Rattle.table.specs.Valid.{tableGood, Ready}
 use Rattle.table.proofs.TableLaws.{rows-kept}
 use Rattle.gate.specs.declared.Reply.{Reply}
 use Rattle.gate.specs.Deliver.{Delivered, undelivered, respond, deliver}
 use Rattle.gate.specs.Opening.{replies, openTo, openCall, drawOn, drawFrom, drawCall}
-use Rattle.gate.proofs.OutcomeLaws.{Outcome, stays, appends, revokes, outcome}
+use Rattle.gate_theorems.proofs.OutcomeLaws.{Outcome, stays, appends, revokes, outcome}
 
 -- ---- a delivery by its tests
 module _ (g : Gate) (t : Rows) (clock params out : List ℕ) where

@@ -26,12 +26,12 @@ use Rattle.lists.proofs.ListLaws.{search-within}
 use Rattle.table.specs.Table.{Rows, findRecord}
 use Rattle.table.specs.Accounts.{isAccount, accountsOf, findAccount, noAccount, withBalance, balanceAt, gateBalance, credited, debited, withClosed}
 use Rattle.gate.specs.Deliver.{creditedAt, debitedAt, isFull}
-use Rattle.gate.proofs.RowsLaws.{SameNames, names-same, names-used, names-credited, names-debited}
+use Rattle.gate_theorems.proofs.RowsLaws.{SameNames, names-same, names-used, names-credited, names-debited}
 use Rattle.settlement.specs.Settle.{matches, Verdict, Keeps, Restores, Posts, Unposted, verdictOf, Ledger, applied, settleLine, settleLines, isStray, sweptGate, sweepGates, swept, Settled, settleDay, settle}
 use Rattle.settlement.specs.Steps.{ledgerOf}
-use Rattle.settlement.specs.Balances.{isAt, creditOf, credits, debitOf, sweptFrom, creditsOn, sweptOn}
+use Rattle.settlement_theorems.specs.Balances.{isAt, creditOf, credits, debitOf, sweptFrom, creditsOn, sweptOn}
 use Rattle.settlement.proofs.HeldLaws.{post-room, verdict-post}
-use Rattle.settlement.proofs.SettleLaws.{settled-by}
+use Rattle.settlement_theorems.proofs.SettleLaws.{settled-by}
 
 -- ---- the accounts keep their names
 names-after : (g h k : Gate) → SameNames g h → SameNames h k → SameNames g k

@@ -35,17 +35,17 @@ use Rattle.lists.specs.declared.Found.the-variants.{At, Nothing}
 use Rattle.table.specs.Table.{Rows, recordAt, recordsOf, findRecord}
 use Rattle.table.specs.Valid.{stateGood, tableGood}
 use Rattle.table.proofs.TableLaws.{getD-records, receipt-within}
 use Rattle.gate.specs.declared.decision.Standing.{Standing}
 use Rattle.gate.specs.declared.decision.Standing.the-variants.{Unrecorded, Done, Cancelled}
 use Rattle.gate.specs.declared.decision.View.{View}
 use Rattle.gate.specs.declared.decision.Change.{Change}
 use Rattle.gate.specs.declared.decision.Change.the-variants.{Keep, Append, Revoke}
 use Rattle.gate.specs.declared.decision.Decided.{Decided}
 use Rattle.gate.specs.Decision.{checkCode, paymentNew, cancelDone, decisionOn, isFault, faultCode, decision}
 use Rattle.gate.specs.Deliver.{noRecord, recordFound, standingOf, isCancel, revoked, answersAuthcode, answersDate, answerDate, answerOf}
-use Rattle.gate.proofs.OutcomeLaws.{decision-cases}
+use Rattle.gate.proofs.DecisionLaws.{decision-cases}
 use Rattle.gate.proofs.GoodLaws.{record-good, used-few}
-use Rattle.gate.proofs.KeptLaws.{RecordParts, parts-of}
+use Rattle.gate_theorems.proofs.KeptLaws.{RecordParts, parts-of}
 
 -- whether a code is one of a list
 unfoldable pub oneOf : List ℕ → ℕ → Bool

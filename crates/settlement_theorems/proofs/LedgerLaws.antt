@@ -33,12 +33,12 @@ use Rattle.table.specs.Accounts.{accountsOf, findAccount, withUsed}
 use Rattle.table.specs.Valid.{stateGood, accountKnown, recordGood}
 use Rattle.table.proofs.TableLaws.{length-records, getD-records, from-at}
 use Rattle.gate.specs.Deliver.{noRecord, makeRecord, revoked, creditedAt, isFull}
-use Rattle.gate.proofs.RecordsLaws.{Distinct}
-use Rattle.gate.proofs.RowsLaws.{SameNames, names-used, names-credited, good-there, made-good, state-good, revoked-good}
+use Rattle.gate_theorems.proofs.RecordsLaws.{Distinct}
+use Rattle.gate_theorems.proofs.RowsLaws.{SameNames, names-used, names-credited, good-there, made-good, state-good, revoked-good}
 use Rattle.settlement.specs.Settle.{matches, Verdict, Keeps, Restores, Posts, Unposted, paymentOf, postVerdict, verdictOf, restored, postedRecord, Ledger, applied, settleLine, settleLines, isStray, sweptRecord, swept, Settled, settleDay, settle}
 use Rattle.settlement.proofs.HeldLaws.{post-room, post-new, verdict-post}
-use Rattle.settlement.proofs.SettleLaws.{Onward, applied-onward, line-onward, swept-onward, map-at, restores-at, settled-by, before, after, after-used}
-use Rattle.settlement.proofs.BalanceLaws.{names-credited-at}
+use Rattle.settlement_theorems.proofs.SettleLaws.{Onward, applied-onward, line-onward, swept-onward, map-at, restores-at, settled-by, before, after, after-used}
+use Rattle.settlement_theorems.proofs.BalanceLaws.{names-credited-at}
 
 -- ---- lines and records in their ranges
 pub record LineOk (x : Line) : Type 0 where

@@ -33,20 +33,15 @@ use Rattle.table.specs.Valid.{tableGood}
 use Rattle.table.proofs.TableLaws.{length-records, getD-records, from-at, records-from}
 use borrow.Author.Tests.{leb-true, eqb-true, eqb-false, not-true}
 use Rattle.gate.specs.Deliver.{noRecord, revoked, debitedAt, isFull}
-use Rattle.gate.proofs.RecordsLaws.{debit-used}
+use Rattle.gate.proofs.ChangeLaws.{debit-used}
 use Rattle.settlement.specs.Settle.{matches, isDone, Verdict, Keeps, Restores, Posts, Unposted, postVerdict, matchVerdict, verdictOf, restored, postedRecord, Ledger, applied, settleLine, settleLines, anyMatches, isStray, sweptRecord, sweptGate, sweepGates, swept, anyDone, reportOf, Settled, unsettled, reported, settleDay, settleText, settle}
+use Rattle.settlement.proofs.DayLaws.{report-length}
 use Rattle.settlement.proofs.HeldLaws.{credit-used}
 
 true-not-false : true ≡ false → ⊥
 true-not-false e = let z : _≡_ {A = ℕ} 0 1 = cc in absurd (omega arith)
 
 -- ---- the report
--- one byte a line
-pub report-length : (xs : List Line) (rs : List Record) → length (reportOf xs rs) ≡ length xs
-unfolding reportOf
-report-length [] rs = refl
-report-length (x ∷ xs) rs = ap suc (report-length xs rs)
-
 pub report-at : (xs : List Line) (rs : List Record) (i b : ℕ) (x : Line) → i < length xs
     → getD (reportOf xs rs) i b ≡ cond (anyDone (getD xs i x) rs) 49 48
 unfolding reportOf

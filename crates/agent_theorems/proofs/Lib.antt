@@ -1,0 +1,4 @@
+pub mod AnswerTheorems
+pub mod WritingTheorems
+pub mod AlikeTheorems
+pub mod GivesTheorems

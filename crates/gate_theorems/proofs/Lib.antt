@@ -1,0 +1,11 @@
+pub mod OutcomeLaws
+pub mod KeepsLaws
+pub mod RecordsLaws
+pub mod OnceLaws
+pub mod RowsLaws
+pub mod CallLaws
+pub mod KeptLaws
+pub mod AnswerGood
+pub mod CodeLaws
+pub mod AnsweredTheorems
+pub mod GivesTheorems
