@@ -29,17 +29,20 @@ use Rattle.gate.specs.declared.decision.Change.the-variants.{Keep, Appen
 use Rattle.gate.specs.declared.decision.Decided.{Decided}
 use Rattle.gate.specs.declared.plan.Plan.{Plan}
 use Rattle.gate.specs.Decision.{keeps, paymentNew, cancelDone, decision}
-use Rattle.gate.specs.Deliver.{Within, recordFound, standingOf, accountOf, isFull, viewOf, planWith, planOf, makeRecord, revoked, creditedAt, debitedAt, replacedAt, Changed, changed, Made}
+use Rattle.gate.specs.Deliver.{Within, Funds, recordFound, standingOf, accountOf, isFull, viewOf, planWith, planOf, makeRecord, revoked, creditedAt, debitedAt, replacedAt, Changed, changed, Made}
 use Rattle.gate.proofs.PlanLaws.{found-within, found-amount, account-within}
 use Rattle.gate.proofs.DecisionLaws.{append-of}
 
+pub sound-funds : (g : Gate) → Sound g → Funds g 10000000000000000
+sound-funds g s = record { places = s .places; count = s .count; balances = λ i h. omega (arith, s .balances i h) }
+
 -- ---- balances of the account that was found
 module _ (g : Gate) (f : Found) (a : ℕ) (is : f ≡ At a) where
-  pub at-place : Sound g → Within f (g .count) → a < 256
-  at-place s w = let h : a < g .count = w .at a is in omega (arith, s .count)
+  pub at-place : (b : ℕ) → Funds g b → Within f (g .count) → a < 256
+  at-place b s w = let h : a < g .count = w .at a is in omega (arith, s .count)
 
-  pub at-balance : Sound g → Within f (g .count) → mag (balanceAt g a) ≤ 10000000000000000
-  at-balance s w = omega (arith, s .balances a (w .at a is))
+  pub at-balance : (b : ℕ) → Funds g b → Within f (g .count) → mag (balanceAt g a) ≤ b
+  at-balance b s w = s .balances a (w .at a is)
 
   pub credit-there : (n : ℕ) (r : Gate) → r ≡ credited g a n → r ≡ creditedAt g f n
   credit-there n r e = e ∙ rw is

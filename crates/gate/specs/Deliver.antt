@@ -1,11 +1,11 @@
 -- Document 01, "Gate": a request delivered to the gate, and the answer that is written.
-use Prim.Native.Nat.{ℕ, _+_, _<_}
+use Prim.Native.Nat.{ℕ, _+_, _<_, _≤_}
 use mathlib.Core.Path.{_≡_}
 use mathlib.Core.List.{List, [], _∷_, _++_}
 use mathlib.Core.Bool.{Bool, true, false, cond, not, _&&_, _||_}
 use lib.Dec.{eqb, leb, ltb}
 use lib.IntN.{ℤ, pos}
-use lib.Signed.{ltZ}
+use lib.Signed.{ltZ, mag}
 use lib.ListN.{length, getD, set}
 use Rattle.fields.specs.declared.number.Number.{Number}
 use Rattle.fields.specs.Lists.{written, cursorAfter}
@@ -37,6 +37,12 @@ use Rattle.gate.specs.Decision.{decision}
 -- a place that was found, below a bound
 pub record Within (f : Found) (n : ℕ) : Type 0 where
   pub at : (i : ℕ) → f ≡ At i → i < n
+
+-- balances within a bound
+pub record Funds (g : Gate) (b : ℕ) : Type 0 where
+  pub places : length (g .accounts) ≡ 256
+  pub count : g .count ≤ 256
+  pub balances : (i : ℕ) → i < g .count → mag (balanceAt g i) ≤ b
 
 -- ---- what the decision looks at
 abbrev pub noRecord : Record

@@ -16,8 +16,8 @@ ghost use lib.ListN.{length};
 ghost use Rattle.table.specs.Table.{recordsOf, rowsFrom, Whole};
 ghost use Rattle.table.specs.Lent.{lent, before, after};
 ghost use Rattle.table.specs.Accounts.{withUsed};
-ghost use Rattle.table.specs.Valid.{Sound, Ready, tableGood};
-ghost use Rattle.gate.specs.Deliver.{Within, makeRecord, revoked, creditedAt, debitedAt, replacedAt, planOf, changed, Made};
+ghost use Rattle.table.specs.Valid.{Ready, tableGood};
+ghost use Rattle.gate.specs.Deliver.{Within, Funds, makeRecord, revoked, creditedAt, debitedAt, replacedAt, planOf, changed, Made};
 
 // What a change leaves: the gate, and the record that the answer speaks of.
 pub struct Outcome {
@@ -46,7 +46,7 @@ pub fn make_record(g: Gate, clock: [u8; 19], q: Asked) -> Record
 }
 
 // A record that is cancelled now.
-fn revoke_record(clock: [u8; 19], r: Record) -> Record
+pub fn revoke_record(clock: [u8; 19], r: Record) -> Record
     ensures { λ x. ⌜ x ≡ revoked clock r ⌝ }
 {
     let mut next = r;
@@ -56,8 +56,8 @@ fn revoke_record(clock: [u8; 19], r: Record) -> Record
 }
 
 // An amount added to the balance of the account that was found.
-fn credit_at(g: Gate, f: Found, n: u64) -> Gate
-    requires { ⌜ Sound g × Within f (g .count) × (n < 1000000000) ⌝ }
+pub fn credit_at(g: Gate, f: Found, n: u64) -> Gate
+    requires { ⌜ Funds g 10000000000000000 × Within f (g .count) × (n < 1000000000) ⌝ }
     ensures { λ r. ⌜ r ≡ creditedAt g f n ⌝ }
 {
     match f {
@@ -67,8 +67,8 @@ fn credit_at(g: Gate, f: Found, n: u64) -> Gate
 }
 
 // An amount taken from the balance of the account that was found.
-fn debit_at(g: Gate, f: Found, n: u64) -> Gate
-    requires { ⌜ Sound g × Within f (g .count) × (n < 1000000000) ⌝ }
+pub fn debit_at(g: Gate, f: Found, n: u64) -> Gate
+    requires { ⌜ Funds g 10000000000000000 × Within f (g .count) × (n < 1000000000) ⌝ }
     ensures { λ r. ⌜ r ≡ debitedAt g f n ⌝ }
 {
     match f {

@@ -25,10 +25,15 @@ use Rattle.table.specs.Accounts.{accountsOf, findAccount, noAccount, withBalanc
 use Rattle.table.proofs.SignedLaws.{mag-up, mag-down}
 use Rattle.table.proofs.AccountLaws.{holder-within}
 use Rattle.table.proofs.TableLaws.{length-records, getD-records, from-at, from-whole, whole-from, records-from, rows-kept, rows-set}
+<<<<<<< ours
 use Rattle.gate.specs.Deliver.{noRecord, makeRecord, revoked, creditedAt, debitedAt, isFull}
 use Rattle.gate.proofs.ChangeLaws.{debit-used}
+=======
+use Rattle.gate.specs.Deliver.{Funds, noRecord, makeRecord, revoked, creditedAt, debitedAt, isFull}
+use Rattle.gate.proofs.RecordsLaws.{debit-used}
+>>>>>>> theirs
 use Rattle.settlement.specs.Settle.{matches, isDone, postVerdict, matchVerdict, verdictOf, restored, postedRecord, Ledger, Verdict, Keeps, Restores, Posts, Unposted, applied, settleLine, isStray, sweptRecord, sweptGate}
-use Rattle.settlement.specs.Steps.{Funds, Held, Left, ledgerOf, sweptAt}
+use Rattle.settlement.specs.Steps.{Held, Left, ledgerOf, sweptAt}
 
 -- ---- balances
 pub funds-more : (g : Gate) (b c : ℕ) → Funds g b → b ≤ c → Funds g c
@@ -102,6 +107,18 @@ verdict-post rs (At i) v a e = go (isDone (getD rs i noRecord)) e
     go : (d : Bool) → cond d Keeps (Restores i) ≡ Posts a → v ≡ Posts a
     go true q = let z : _≡_ {A = ℕ} 0 1 = cc in absurd (omega arith)
     go false q = let z : _≡_ {A = ℕ} 0 1 = cc in absurd (omega arith)
+
+-- and of restoring: the line matches the record there
+pub verdict-restore : (rs : List Record) (f q k : Found) (full : Bool) (i : ℕ) → matchVerdict rs f (postVerdict q k full) ≡ Restores i → f ≡ At i
+verdict-restore rs Nothing (At j) k full i e = let z : _≡_ {A = ℕ} 0 1 = cc in absurd (omega arith)
+verdict-restore rs Nothing Nothing Nothing full i e = let z : _≡_ {A = ℕ} 0 1 = cc in absurd (omega arith)
+verdict-restore rs Nothing Nothing (At a) true i e = let z : _≡_ {A = ℕ} 0 1 = cc in absurd (omega arith)
+verdict-restore rs Nothing Nothing (At a) false i e = let z : _≡_ {A = ℕ} 0 1 = cc in absurd (omega arith)
+verdict-restore rs (At j) q k full i e = go (isDone (getD rs j noRecord)) e
+  where
+    go : (d : Bool) → cond d Keeps (Restores j) ≡ Restores i → At j ≡ At i
+    go true r = let z : _≡_ {A = ℕ} 0 1 = cc in absurd (omega arith)
+    go false r = let y : j ≡ i = cc in ap At y
 
 pub credit-used : (g : Gate) (k : Found) (n : ℕ) → (creditedAt g k n) .used ≡ g .used
 unfolding credited
@@ -256,9 +273,10 @@ module _ (g : Gate) (t : Rows) (b : ℕ) (held : Held g t b) (clock : List ℕ) 
         let k : set (recordsOf t (g .used)) i r ≡ recordsOf t (g .used) = rw (← there) (set-same (recordsOf t (g .used)) i noRecord) in
         rw (there, n) (record { gates = refl; left = et ∙ rw k (sym (rows-kept t (g .used) (held .whole))) })
 
-    pub swept-out : not s ≡ false → (g′ : Gate) → g′ ≡ debitedAt g (findAccount (r .number) (r .kind) (accountsOf g)) (r .amount)
-        → (q : Record) → q ≡ revoked clock r → (t′ : Rows) → t′ ≡ rowsWith t i q → Left t (sweptAt clock day xs i (ledgerOf g t)) g′ t′
+    pub swept-out : not s ≡ false → (q : Record) → q ≡ revoked clock r → (t′ : Rows) → t′ ≡ rowsWith t i q
+        → (k : Found) → k ≡ findAccount (r .number) (r .kind) (accountsOf g) → (g′ : Gate) → g′ ≡ debitedAt g k (r .amount)
+        → Left t (sweptAt clock day xs i (ledgerOf g t)) g′ t′
     unfolding sweptAt sweptRecord sweptGate
-    swept-out e g′ eg q eq t′ et =
+    swept-out e q eq t′ et k ek g′ eg =
         let y : isStray day xs r ≡ true = sym es ∙ not-false s e in
-        rw (there, y) (record { gates = eg; left = et ∙ rw eq (sym (rows-set t (g .used) (held .whole) i (revoked clock r) h)) })
+        rw (there, y) (record { gates = eg ∙ ap (λ (f : Found). debitedAt g f (r .amount)) ek; left = et ∙ rw eq (sym (rows-set t (g .used) (held .whole) i (revoked clock r) h)) })

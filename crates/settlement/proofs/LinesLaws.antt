@@ -27,7 +27,7 @@ use Rattle.table.specs.declared.Record.{Record}
 use Rattle.table.specs.Table.{Rows, recordsOf, rowsFrom}
 use Rattle.table.proofs.TableLaws.{length-records, rows-kept}
 use Rattle.settlement.specs.Settle.{matches, Ledger, settleLine, settleLines, anyMatches}
-use Rattle.settlement.specs.Steps.{Funds, Held, Left, ledgerOf}
+use Rattle.settlement.specs.Steps.{Held, Left, ledgerOf}
 use Rattle.settlement.proofs.HeldLaws.{held-more, from-from, Step, line-step, left-size, left-records, left-held}
 
 -- ---- the amount of a line that was read

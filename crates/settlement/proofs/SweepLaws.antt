@@ -20,14 +20,10 @@ use Rattle.fields.specs.Date.{dateDay}
 use Rattle.registry.specs.declared.line.Line.{Line}
 use Rattle.table.specs.declared.Gate.{Gate}
 use Rattle.table.specs.declared.Record.{Record}
-use Rattle.lists.specs.declared.Found.{Found}
-use Rattle.lists.specs.declared.Found.the-variants.{At, Nothing}
 use Rattle.table.specs.Table.{Rows, recordAt, recordsOf, rowsFrom}
-use Rattle.table.specs.Accounts.{accountsOf, findAccount, debited}
-use Rattle.table.proofs.AccountLaws.{holder-within}
-use Rattle.gate.specs.Deliver.{noRecord, debitedAt}
+use Rattle.gate.specs.Deliver.{noRecord}
 use Rattle.settlement.specs.Settle.{Ledger, anyMatches, isStray, sweptRecord, sweptGate, sweepGates, swept}
-use Rattle.settlement.specs.Steps.{Funds, Held, Left, ledgerOf, sweptAt}
+use Rattle.settlement.specs.Steps.{Held, Left, ledgerOf, sweptAt}
 
 -- ---- whether a record is a stray
 module _ (day : Day) (xs : List Line) (r : Record) where
@@ -44,17 +40,7 @@ module _ (day : Day) (xs : List Line) (r : Record) where
     unfolding isStray
     of-day n b eb = rw (eq-eqb _ _ done, ← es, not-false s n, eb)
 
--- ---- the account of a record
-module _ (g : Gate) (r : Record) (f : Found) (ef : f ≡ findAccount (r .number) (r .kind) (accountsOf g)) where
-  pub record-account : (a : ℕ) → f ≡ At a → a < g .count
-  record-account a is = holder-within g (r .number) (r .kind) a f ef is
-
-  pub record-debited : (a : ℕ) → f ≡ At a → (y : Gate) → y ≡ debited g a (r .amount) → y ≡ debitedAt g (findAccount (r .number) (r .kind) (accountsOf g)) (r .amount)
-  record-debited a is y e = e ∙ rw (← ef, is)
-
-  pub record-unknown : f ≡ Nothing → (y : Gate) → y ≡ g → y ≡ debitedAt g (findAccount (r .number) (r .kind) (accountsOf g)) (r .amount)
-  record-unknown is y e = e ∙ rw (← ef, is)
-
+-- ---- the amount of a record
 pub swept-small : (g : Gate) (t : Rows) (b i : ℕ) → Held g t b → i < g .used → (r : Record) → r ≡ recordAt t i → r .amount < 1000000000
 swept-small g t b i held h r e = let a : r .amount ≡ (recordAt t i) .amount = ap (λ (q : Record). q .amount) e in omega (arith, held .small i h)
 

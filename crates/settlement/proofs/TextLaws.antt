@@ -23,7 +23,7 @@ use Rattle.table.specs.Table.{Rows, recordAt, recordsOf}
 use Rattle.table.specs.Valid.{rangesGood, recordGood, authcodeGood, tableGood, Ready}
 use Rattle.gate.proofs.GoodLaws.{good-table}
 use Rattle.settlement.specs.Settle.{Settled, reportOf, settleDay, settleText, settle}
-use Rattle.settlement.specs.Steps.{Funds, Held}
+use Rattle.settlement.specs.Steps.{Held}
 use Rattle.settlement.proofs.DayLaws.{report-written}
 
 -- ---- what the checks give to the functions behind them

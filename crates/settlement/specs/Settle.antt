@@ -22,6 +22,8 @@ use Rattle.table.specs.Table.{Rows, recordsOf, rowsFrom, findRecord}
 use Rattle.table.specs.Accounts.{accountsOf, findAccount, withUsed, withClosed}
 use Rattle.table.specs.Valid.{tableGood}
 use Rattle.gate.specs.Deliver.{noRecord, makeRecord, revoked, creditedAt, debitedAt, isFull}
+pub use Rattle.settlement.specs.declared.verdict.Verdict.{Verdict}
+pub use Rattle.settlement.specs.declared.verdict.Verdict.the-variants.{Keeps, Restores, Posts, Unposted}
 
 -- a line speaks of a record that is the same in all four
 unfoldable pub matches : Line → Record → Bool
@@ -34,12 +36,6 @@ abbrev pub isDone : Record → Bool
 isDone r = eqb (r .state) 1
 
 -- ---- the verdict on one line
-pub data Verdict : Type 0 where
-  Keeps : Verdict
-  Restores : ℕ → Verdict
-  Posts : ℕ → Verdict
-  Unposted : Verdict
-
 -- a receipt that is not recorded is posted where its account is known and there is room
 abbrev pub postVerdict : Found → Found → Bool → Verdict
 postVerdict (At i) account full = Unposted

@@ -6,3 +6,4 @@ pub mod posting;
 pub mod report;
 pub mod settle;
 pub mod sweeping;
+pub mod verdict;

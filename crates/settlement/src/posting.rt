@@ -1,7 +1,7 @@
 // What one line of a registry does to the table.
-use crate::matching;
+use crate::verdict;
+use crate::verdict::Verdict;
 use gate::change;
-use lists::Found;
 use message::action::Action;
 use message::request::Asked;
 use registry::line::Line;
@@ -10,16 +10,13 @@ use table::Record;
 use table::accounts;
 use table::rows;
 ghost use mathlib.Core.Path.{_≡_};
-ghost use mathlib.Core.List.{[], _∷_, _++_};
-ghost use mathlib.Core.Bool.{true};
-ghost use Prim.Native.Nat.{_+_, _<_, _≤_};
+ghost use mathlib.Core.List.{[]};
+ghost use Prim.Native.Nat.{_<_};
 ghost use lib.ListN.{length};
-ghost use Rattle.table.specs.Table.{findRecord, recordsOf};
+ghost use Rattle.table.specs.Table.{recordsOf};
 ghost use Rattle.table.specs.Lent.{lent, before, after};
-ghost use Rattle.table.specs.Accounts.{accountsOf, findAccount};
-ghost use Rattle.gate.specs.Deliver.{creditedAt, Within};
-ghost use Rattle.settlement.specs.Settle.{restored, postedRecord, applied, Posts, settleLine};
-ghost use Rattle.settlement.specs.Steps.{Funds, Held, Left, ledgerOf, matchedLine, newLine};
+ghost use Rattle.settlement.specs.Settle.{verdictOf, restored, postedRecord, applied, Restores, Posts, settleLine};
+ghost use Rattle.settlement.specs.Steps.{Held, Left, ledgerOf};
 
 // A record that is done again.
 pub(crate) fn restore_record(r: Record) -> Record
@@ -50,44 +47,29 @@ pub(crate) fn posted_record(g: Gate, clock: [u8; 19], x: Line) -> Record
     change::make_record(g, clock, q)
 }
 
-// The line's amount on its account, where it is known.
-pub(crate) fn credit_line(g: Gate, x: Line) -> Gate
-    requires { ⌜ Funds g 10000000000000000 × (x .amount < 1000000000) ⌝ }
-    ensures { λ r. ⌜ r ≡ creditedAt g (findAccount (x .number) (x .kind) (accountsOf g)) (x .amount) ⌝ }
-{
-    let n = x.number;
-    let f = accounts::find_account(g, n, x.kind);
-    match f {
-        Found::At(a) => accounts::credit(g, a, x.amount),
-        Found::Nothing => g,
-    }
-}
-
-// A line that matches the record at i: kept, or done again.
-pub(crate) fn settle_match(
+// The record at i done again, with the line's amount on its account, where it is known.
+pub(crate) fn restore(
     nums: &mut [[u64; 6]],
     numbers: &mut [[u8; 30]],
     dates: &mut [[[u8; 19]; 3]],
     g: Gate,
-    i: usize,
     x: Line,
+    i: usize,
 ) -> Gate
     requires { ⌜ Held g (lent nums numbers dates) 10000000000000000 × (i < g .used) × (x .amount < 1000000000) ⌝ }
     ensures { λ r. ⌜ Left (before nums numbers dates)
-        (matchedLine x i (ledgerOf g (before nums numbers dates)))
+        (applied [] x (Restores i) (ledgerOf g (before nums numbers dates)))
         r (after nums numbers dates) ⌝ }
 {
     let r = rows::load(nums, numbers, dates, i);
-    if r.state == 1 {
-        return g;
-    }
-    let next = credit_line(g, x);
     rows::store(nums, numbers, dates, i, restore_record(r));
-    next
+    let n = x.number;
+    let account = accounts::find_account(g, n, x.kind);
+    change::credit_at(g, account, x.amount)
 }
 
 // A record more, with the line's amount on account a.
-pub(crate) fn post_line(
+pub(crate) fn post(
     nums: &mut [[u64; 6]],
     numbers: &mut [[u8; 30]],
     dates: &mut [[[u8; 19]; 3]],
@@ -110,36 +92,31 @@ pub(crate) fn post_line(
     next
 }
 
-// A line that matches no record: posted, or unposted.
-pub(crate) fn settle_new(
+// Makes the change that a verdict says.
+pub(crate) fn apply(
     nums: &mut [[u64; 6]],
     numbers: &mut [[u8; 30]],
     dates: &mut [[[u8; 19]; 3]],
     g: Gate,
     clock: [u8; 19],
     x: Line,
+    v: Verdict,
 ) -> Gate
     requires { ⌜ Held g (lent nums numbers dates) 10000000000000000 × (x .amount < 1000000000) ⌝ }
+    requires { ⌜ v ≡ verdictOf g (recordsOf (lent nums numbers dates) (g .used)) (length (now nums)) x ⌝ }
     ensures { λ r. ⌜ Left (before nums numbers dates)
-        (newLine clock (length (now (nums .entry))) x (ledgerOf g (before nums numbers dates)))
+        (applied clock x v (ledgerOf g (before nums numbers dates)))
         r (after nums numbers dates) ⌝ }
 {
-    let used = g.used;
-    if nums.len() <= used {
-        return g;
-    }
-    if lists::is_found(rows::find_record(nums, numbers, dates, used, x.receipt)) {
-        return g;
-    }
-    let n = x.number;
-    let f = accounts::find_account(g, n, x.kind);
-    match f {
-        Found::At(a) => post_line(nums, numbers, dates, g, clock, x, a),
-        Found::Nothing => g,
+    match v {
+        Verdict::Keeps => g,
+        Verdict::Restores(i) => restore(nums, numbers, dates, g, x, i),
+        Verdict::Posts(a) => post(nums, numbers, dates, g, clock, x, a),
+        Verdict::Unposted => g,
     }
 }
 
-// One line of a registry: kept, done again, posted or unposted.
+// One line of a registry: judged, then applied.
 pub(crate) fn settle_line(
     nums: &mut [[u64; 6]],
     numbers: &mut [[u8; 30]],
@@ -153,10 +130,6 @@ pub(crate) fn settle_line(
         (settleLine clock (length (now (nums .entry))) x (ledgerOf g (before nums numbers dates)))
         r (after nums numbers dates) ⌝ }
 {
-    let used = g.used;
-    let found = matching::find_match(nums, numbers, dates, used, x);
-    match found {
-        Found::At(i) => settle_match(nums, numbers, dates, g, i, x),
-        Found::Nothing => settle_new(nums, numbers, dates, g, clock, x),
-    }
+    let v = verdict::judge(nums, numbers, dates, g, x);
+    apply(nums, numbers, dates, g, clock, x, v)
 }

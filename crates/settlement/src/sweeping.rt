@@ -2,20 +2,17 @@
 use crate::lines;
 use fields::calendar::Day;
 use fields::date;
-use lists::Found;
+use gate::change;
 use table::Gate;
 use table::Record;
 use table::accounts;
 use table::rows;
 ghost use mathlib.Core.Path.{_≡_};
-ghost use Prim.Native.Nat.{_<_, _≤_};
-ghost use lib.ListN.{length};
+ghost use Prim.Native.Nat.{_<_};
 ghost use Rattle.registry.specs.Registry.{registryLines};
 ghost use Rattle.table.specs.Lent.{lent, before, after};
-ghost use Rattle.table.specs.Accounts.{accountsOf, findAccount};
-ghost use Rattle.gate.specs.Deliver.{revoked, debitedAt};
 ghost use Rattle.settlement.specs.Settle.{Ledger, isStray, swept};
-ghost use Rattle.settlement.specs.Steps.{Funds, Held, Left, ledgerOf, sweptAt};
+ghost use Rattle.settlement.specs.Steps.{Held, Left, ledgerOf, sweptAt};
 
 // Whether a record is done, of the day, and matched by no line.
 pub(crate) fn is_stray(r: Record, day: Day, s: &[u8]) -> bool
@@ -29,29 +26,6 @@ pub(crate) fn is_stray(r: Record, day: Day, s: &[u8]) -> bool
         return false;
     }
     !lines::any_matches(s, r)
-}
-
-// A record that is cancelled now.
-pub(crate) fn revoke_record(clock: [u8; 19], r: Record) -> Record
-    ensures { λ x. ⌜ x ≡ revoked clock r ⌝ }
-{
-    let mut next = r;
-    next.state = 2;
-    next.cancel = clock;
-    next
-}
-
-// The record's amount off its account, where it is known.
-pub(crate) fn debit_record(g: Gate, r: Record) -> Gate
-    requires { ⌜ Funds g 10000000000000000 × (r .amount < 1000000000) ⌝ }
-    ensures { λ x. ⌜ x ≡ debitedAt g (findAccount (r .number) (r .kind) (accountsOf g)) (r .amount) ⌝ }
-{
-    let n = r.number;
-    let f = accounts::find_account(g, n, r.kind);
-    match f {
-        Found::At(a) => accounts::debit(g, a, r.amount),
-        Found::Nothing => g,
-    }
 }
 
 // Sweeps the record at i.
@@ -74,9 +48,10 @@ pub(crate) fn sweep_at(
     if !is_stray(r, day, s) {
         return g;
     }
-    let next = debit_record(g, r);
-    rows::store(nums, numbers, dates, i, revoke_record(clock, r));
-    next
+    rows::store(nums, numbers, dates, i, change::revoke_record(clock, r));
+    let n = r.number;
+    let account = accounts::find_account(g, n, r.kind);
+    change::debit_at(g, account, r.amount)
 }
 
 // Sweeps every used record.

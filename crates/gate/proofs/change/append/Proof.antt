@@ -1,9 +1,9 @@
 use borrow.Author.Needs.{needs}
-use Rattle.gate.proofs.ChangeLaws.{appended, room-too, place-small, used-more}
+use Rattle.gate.proofs.ChangeLaws.{appended, room-too, place-small, used-more, sound-funds}
 use Rattle.gate.proofs.change.append.Statement.{statement}
 use Rattle.gate.proofs.change.append.Tie as tie
 
-ruleset laws = (appended, room-too, place-small, used-more, needs)
+ruleset laws = (appended, room-too, place-small, used-more, sound-funds, needs)
 
 pub append-spec : {M : Type 1} → statement M
 append-spec =

@@ -1,9 +1,9 @@
 use borrow.Author.Needs.{needs}
-use Rattle.gate.proofs.ChangeLaws.{revoked-rows}
+use Rattle.gate.proofs.ChangeLaws.{revoked-rows, sound-funds}
 use Rattle.gate.proofs.change.revoke.Statement.{statement}
 use Rattle.gate.proofs.change.revoke.Tie as tie
 
-ruleset laws = (revoked-rows, needs)
+ruleset laws = (revoked-rows, sound-funds, needs)
 
 pub revoke-spec : {M : Type 1} → statement M
 revoke-spec =

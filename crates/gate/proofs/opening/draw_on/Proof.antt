@@ -1,10 +1,10 @@
 use borrow.Author.Needs.{needs}
 use Rattle.gate.proofs.OpeningLaws.{draw-unknown, draw-amount, draw-short, draw-done, kopecks-small}
-use Rattle.gate.proofs.ChangeLaws.{at-place, at-balance}
+use Rattle.gate.proofs.ChangeLaws.{at-place, at-balance, sound-funds}
 use Rattle.gate.proofs.opening.draw_on.Statement.{statement}
 use Rattle.gate.proofs.opening.draw_on.Tie as tie
 
-ruleset laws = (draw-unknown, draw-amount, draw-short, draw-done, kopecks-small, at-place, at-balance, needs)
+ruleset laws = (draw-unknown, draw-amount, draw-short, draw-done, kopecks-small, at-place, at-balance, sound-funds, needs)
 
 pub draw-on-spec : {M : Type 1} → statement M
 draw-on-spec =
