@@ -8,7 +8,7 @@ use Rattle.fields.specs.declared.number.Number.{Number}
 use Rattle.fields.specs.Lists.{written, cursorAfter}
 use Rattle.fields.specs.Amount.{isAmount}
 use Rattle.fields.specs.Codes.{isReceipt, isKind, isReason}
-use Rattle.fields.specs.Date.{emptyDate}
+use Rattle.dates.specs.Date.{emptyDate}
 use Rattle.fields.specs.Number.{isNumber}
 use Rattle.message.specs.declared.action.Action.{Action}
 use Rattle.message.specs.declared.action.Action.the-variants.{Check, Payment, Status, Cancel}

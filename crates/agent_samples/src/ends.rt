@@ -4,7 +4,7 @@ use crate::desk::Desk;
 use crate::given;
 use agent::answering;
 use daybook::listing;
-use fields::calendar::Day;
+use dates::calendar::Day;
 use fields::number::Number;
 use fields::scan;
 use gate::Reply;

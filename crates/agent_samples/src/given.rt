@@ -1,8 +1,8 @@
 // Values from the text of a line: each reads up to the first space.
-use fields::calendar;
-use fields::calendar::Day;
-use fields::calendar::DayRead;
-use fields::date;
+use dates::calendar;
+use dates::calendar::Day;
+use dates::calendar::DayRead;
+use dates::date;
 use fields::digits;
 use fields::digits::Digits;
 use fields::number;

@@ -4,8 +4,8 @@ use mathlib.Core.Path.{_≡_, refl, sym, ap, _∙_}
 use mathlib.Core.Bool.{Bool, true, false}
 use mathlib.Core.List.{List}
 use lib.ListN.{set, getD}
-use Rattle.fields.specs.declared.calendar.Day.{Day}
-use Rattle.fields.specs.Calendar.{dayBefore}
+use Rattle.dates.specs.declared.calendar.Day.{Day}
+use Rattle.dates.specs.Calendar.{dayBefore}
 use Rattle.message.specs.declared.action.Action.{Action}
 use Rattle.lists.specs.declared.Found.{Found}
 use Rattle.lists.specs.declared.Found.the-variants.{At}

@@ -10,12 +10,12 @@ use lib.Dec.{eqb, leb}
 use borrow.Author.Tests.{le-leb, leb-true, ne-eqb}
 use Rattle.fields.specs.Lists.{every, find, eqList}
 use Rattle.fields.specs.Digits.{isDigit, decimal}
-use Rattle.fields.specs.Date.{isWritten, emptyDate}
+use Rattle.dates.specs.Date.{isWritten, emptyDate}
 use Rattle.fields.proofs.Tests.{and-left, and-right, both, cond-elim}
 use Rattle.fields.proofs.ListLaws.{every-weaker}
 use Rattle.fields.proofs.ScanLaws.{eqList-refl}
 use Rattle.fields.proofs.DecimalLaws.{digits-again, decimal-digits}
-use Rattle.fields.proofs.DateLaws.{date-bytes, date-again}
+use Rattle.dates.proofs.DateLaws.{date-bytes, date-again}
 use Rattle.message.specs.declared.action.Action.{Action}
 use Rattle.answers.specs.declared.answer.Answer.{Answer}
 use Rattle.answers.specs.declared.parts.Part.{Part}

@@ -8,9 +8,9 @@ use lib.Seq.{drop-drop}
 use borrow.Author.Tests.{le-leb, lt-leb}
 use Rattle.fields.specs.declared.digits.Digits.{Digits}
 use Rattle.fields.specs.declared.digits.Digits.the-variants.{Value, Malformed}
-use Rattle.fields.specs.declared.date.DateRead.{DateRead}
+use Rattle.dates.specs.declared.date.DateRead.{DateRead}
 use Rattle.fields.specs.Digits.{digitsRead}
-use Rattle.fields.specs.Date.{dateRead}
+use Rattle.dates.specs.Date.{dateRead}
 use Rattle.fields.proofs.ListLaws.{drop-next}
 use Rattle.message.specs.declared.action.Action.{Action}
 use Rattle.answers.specs.declared.answer.Answer.{Answer}

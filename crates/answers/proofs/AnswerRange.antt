@@ -9,7 +9,7 @@ use lib.Dec.{leb}
 use Rattle.fields.specs.declared.digits.Digits.{Digits}
 use Rattle.fields.specs.declared.digits.Digits.the-variants.{Value, Malformed}
 use Rattle.fields.specs.Digits.{digitsRead}
-use Rattle.fields.specs.Date.{dateRead}
+use Rattle.dates.specs.Date.{dateRead}
 use Rattle.fields.proofs.Tests.{cond-elim}
 use Rattle.fields.proofs.DigitLaws.{digits-below}
 use Rattle.message.specs.declared.action.Action.{Action}

@@ -8,7 +8,7 @@ use lib.Dec.{leb}
 use Rattle.fields.specs.declared.digits.Digits.{Digits}
 use Rattle.fields.specs.declared.digits.Digits.the-variants.{Value, Malformed}
 use Rattle.fields.specs.Digits.{digitsRead}
-use Rattle.fields.specs.Date.{isWritten, dateRead, noDate}
+use Rattle.dates.specs.Date.{isWritten, dateRead, noDate}
 use Rattle.message.specs.declared.action.Action.{Action}
 use Rattle.answers.specs.declared.answer.Answer.{Answer}
 use Rattle.answers.specs.declared.answer.AnswerRead.{AnswerRead}

@@ -6,10 +6,10 @@ use lib.ListN.{length, take, drop}
 use lib.Dec.{leb}
 use Rattle.fields.specs.declared.digits.Digits.{Digits}
 use Rattle.fields.specs.declared.digits.Digits.the-variants.{Value, Malformed}
-use Rattle.fields.specs.declared.date.DateRead.{DateRead}
+use Rattle.dates.specs.declared.date.DateRead.{DateRead}
 use Rattle.fields.specs.Lists.{find}
 use Rattle.fields.specs.Digits.{digitsRead}
-use Rattle.fields.specs.Date.{dateRead}
+use Rattle.dates.specs.Date.{dateRead}
 use Rattle.message.specs.declared.action.Action.{Action}
 use Rattle.answers.specs.declared.answer.Answer.{Answer}
 use Rattle.answers.specs.declared.answer.AnswerRead.{AnswerRead}

@@ -8,7 +8,7 @@ use Rattle.fields.specs.declared.digits.Digits.{Digits}
 use Rattle.fields.specs.declared.digits.Digits.the-variants.{Value, Malformed}
 use Rattle.fields.specs.Lists.{find, eqList}
 use Rattle.fields.specs.Digits.{digitsRead}
-use Rattle.fields.specs.Date.{isWritten, emptyDate}
+use Rattle.dates.specs.Date.{isWritten, emptyDate}
 use Rattle.message.specs.declared.action.Action.{Action}
 use Rattle.message.specs.declared.action.Action.the-variants.{Check, Payment, Status, Cancel}
 use Rattle.answers.specs.declared.answer.Answer.{Answer}

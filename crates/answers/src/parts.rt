@@ -2,8 +2,8 @@
 use crate::answer;
 use crate::answer::Answer;
 use crate::answer::AnswerRead;
-use fields::date;
-use fields::date::DateRead;
+use dates::date;
+use dates::date::DateRead;
 use fields::digits;
 use fields::digits::Digits;
 use message::action::Action;

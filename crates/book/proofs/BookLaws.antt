@@ -9,11 +9,11 @@ use native.Mathlib.Omega.{arith}
 use lib.Dec.{eqb, leb}
 use lib.ListN.{length, getD, length-set}
 use borrow.Author.Tests.{eq-eqb, ne-eqb, le-leb, eqb-true, leb-true}
-use Rattle.fields.specs.declared.calendar.Day.{Day}
-use Rattle.fields.specs.declared.calendar.DayRead.the-variants.{Good}
-use Rattle.fields.specs.Calendar.{isDay}
+use Rattle.dates.specs.declared.calendar.Day.{Day}
+use Rattle.dates.specs.declared.calendar.DayRead.the-variants.{Good}
+use Rattle.dates.specs.Calendar.{isDay}
 use Rattle.fields.specs.Codes.{isReceipt}
-use Rattle.fields.specs.Date.{dateDay}
+use Rattle.dates.specs.Date.{dateDay}
 use Rattle.fields.specs.Digits.{within}
 use Rattle.fields.proofs.Tests.{and-left, and-right, both, no-claim}
 use Rattle.lists.specs.declared.Found.{Found}

@@ -12,14 +12,14 @@ use lib.Seq.{getD-set-same, getD-set-other}
 use borrow.Author.Tests.{le-leb, leb-true, eq-eqb, not-true, not-false}
 use mir.Syntax.{w64}
 use mir.Val.{Fits}
-use Rattle.fields.specs.declared.calendar.Day.{Day}
-use Rattle.fields.specs.declared.calendar.DayRead.{DayRead}
-use Rattle.fields.specs.declared.calendar.DayRead.the-variants.{Good, NoDate}
-use Rattle.fields.specs.Calendar.{isDay, sameDay, onDay}
-use Rattle.fields.specs.Date.{dateDay}
+use Rattle.dates.specs.declared.calendar.Day.{Day}
+use Rattle.dates.specs.declared.calendar.DayRead.{DayRead}
+use Rattle.dates.specs.declared.calendar.DayRead.the-variants.{Good, NoDate}
+use Rattle.dates.specs.Calendar.{isDay, sameDay, onDay}
+use Rattle.dates.specs.Date.{dateDay}
 use Rattle.fields.proofs.Tests.{and-left, and-right, no-claim}
-use Rattle.fields.proofs.DayLaws.{IsDate, is-date, days-high, same-day, same-day-refl}
-use Rattle.fields.proofs.DateLaws.{DayOf, date-day}
+use Rattle.dates.proofs.DayLaws.{IsDate, is-date, days-high, same-day, same-day-refl}
+use Rattle.dates.proofs.DateLaws.{DayOf, date-day}
 use Rattle.lists.specs.Lists.{tab, allFrom}
 use Rattle.book.specs.declared.Entry.{Entry}
 use Rattle.book.specs.Entries.{BookRows, entryAt, entriesOf}

@@ -9,9 +9,9 @@ use borrow.Author.Tests.{eq-eqb, ne-eqb, lt-leb, le-leb, leb-true, not-true, not
 use mir.Syntax.{w64}
 use mir.Val.{Fits}
 use Rattle.fields.specs.Amount.{isAmount}
-use Rattle.fields.specs.Calendar.{isDay}
+use Rattle.dates.specs.Calendar.{isDay}
 use Rattle.fields.specs.Codes.{isReceipt, isKind}
-use Rattle.fields.specs.Date.{isWritten}
+use Rattle.dates.specs.Date.{isWritten}
 use Rattle.fields.specs.Digits.{within}
 use Rattle.fields.specs.Number.{isNumber}
 use Rattle.fields.proofs.Tests.{and-left, and-right}

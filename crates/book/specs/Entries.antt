@@ -5,7 +5,7 @@ use mathlib.Core.List.{List, [], _∷_, _++_, map}
 use Prim.Native.Nat.{ℕ, _<_, _≤_}
 use lib.Dec.{eqb}
 use lib.ListN.{length, drop, getD, set, replicate}
-use Rattle.fields.specs.Date.{emptyDate}
+use Rattle.dates.specs.Date.{emptyDate}
 use Rattle.lists.specs.declared.Found.{Found}
 use Rattle.lists.specs.Lists.{tab, firstFrom}
 use Rattle.book.specs.declared.Entry.{Entry}

@@ -1,13 +1,13 @@
 // How many entries are on a day: of one day, and of each day of a book in one pass.
 use crate::rows;
-use fields::calendar::Day;
-use fields::calendar::DayRead;
-use fields::date;
+use dates::calendar::Day;
+use dates::calendar::DayRead;
+use dates::date;
 ghost use mathlib.Core.Bool.{true};
 ghost use mathlib.Core.Path.{_≡_};
 ghost use Prim.Native.Nat.{_<_, _≤_};
 ghost use lib.ListN.{length, replicate};
-ghost use Rattle.fields.specs.Calendar.{isDay};
+ghost use Rattle.dates.specs.Calendar.{isDay};
 ghost use Rattle.book.specs.Entries.{entriesOf};
 ghost use Rattle.book.specs.Lent.{bookBefore};
 ghost use Rattle.book.specs.BookValid.{dayCount, daysGood};

@@ -4,7 +4,7 @@ pub mod find;
 pub mod rows;
 pub mod valid;
 
-use fields::calendar::Day;
+use dates::calendar::Day;
 use fields::number::Number;
 
 // A payment taken at a counter. The numbers of its states are those of `State`, from 1 on.

@@ -5,7 +5,7 @@ use crate::days;
 use crate::rows;
 use fields::amount;
 use fields::codes;
-use fields::date;
+use dates::date;
 use fields::digits;
 ghost use mathlib.Core.Bool.{true};
 ghost use mathlib.Core.Path.{_≡_};

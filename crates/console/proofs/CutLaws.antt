@@ -12,21 +12,21 @@ use lib.Seq.{take-all, length-take-le, take-nil}
 use borrow.Author.Tests.{le-leb, lt-leb, eq-eqb, ne-eqb, eqb-true, eqb-false, leb-true, leb-false}
 use Rattle.fields.specs.declared.digits.Digits.{Digits}
 use Rattle.fields.specs.declared.digits.Digits.the-variants.{Value, Malformed}
-use Rattle.fields.specs.declared.calendar.DayRead.the-variants.{NoDate}
+use Rattle.dates.specs.declared.calendar.DayRead.the-variants.{NoDate}
 use Rattle.fields.specs.Lists.{find, eqList}
 use Rattle.fields.specs.Digits.{digitsRead, rangeRead}
 use Rattle.fields.specs.Codes.{kindRead}
 use Rattle.fields.specs.Number.{isNumberText, numberRead, noNumber}
-use Rattle.fields.specs.Calendar.{dayRead}
-use Rattle.fields.specs.Date.{dateDay, dateRead, noDate}
+use Rattle.dates.specs.Calendar.{dayRead}
+use Rattle.dates.specs.Date.{dateDay, dateRead, noDate}
 use Rattle.coding.specs.Params.{longer, splitAt}
 use Rattle.message.specs.declared.action.Action.the-variants.{Check}
 use Rattle.message.specs.Request.{refused, requestRead}
 use Rattle.table.specs.declared.Gate.{Gate}
 use Rattle.table.specs.Table.{Rows}
 use Rattle.gate.specs.Deliver.{deliver}
-use Rattle.console.specs.declared.Console.{Console}
-use Rattle.console.specs.Order.{fieldCount, fieldAt, hasLetter, afterSpace, paramsIn, startTurn, openTurn, drawOf, drawTurn, askTurn, orderTurn, lineTurn}
+use Rattle.orders.specs.declared.Console.{Console}
+use Rattle.orders.specs.Order.{fieldCount, fieldAt, hasLetter, afterSpace, paramsIn, startTurn, openTurn, drawOf, drawTurn, askTurn, orderTurn, lineTurn}
 
 -- both ways of a test
 pub by-test : {P : Type 0} (t : Bool) → (t ≡ true → P) → (t ≡ false → P) → P

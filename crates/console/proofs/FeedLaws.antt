@@ -16,7 +16,7 @@ use Rattle.coding.proofs.ParamLaws.{split-append, split-last}
 use Rattle.coding.proofs.FindLaws.{find-both}
 use Rattle.table.specs.Table.{Rows}
 use Rattle.console.specs.declared.Held.{Held}
-use Rattle.console.specs.Order.{Turn, lineTurn, turnText}
+use Rattle.orders.specs.Order.{Turn, lineTurn, turnText}
 use Rattle.console.specs.Feed.{heldText, pushed, inParams, absorbed, absorbAll, emptied, Fed, ended, fedByte, fed, finished}
 use Rattle.console.specs.declared.gather.Gathered.{Gathered}
 use Rattle.console.specs.Gather.{gathered}

@@ -15,7 +15,7 @@ use Rattle.fields.specs.Lists.{find}
 use Rattle.fields.specs.declared.number.NumberRead.{NumberRead}
 use Rattle.fields.specs.Number.{noNumber}
 use Rattle.fields.proofs.ListLaws.{drop-next}
-use Rattle.console.specs.declared.Console.{Console}
+use Rattle.orders.specs.declared.Console.{Console}
 use Rattle.console.specs.declared.Held.{Held}
 use Rattle.console.specs.declared.gather.Step.{Step}
 use Rattle.console.specs.declared.gather.Gathered.{Gathered}

@@ -10,9 +10,9 @@ use lib.ListN.{length, getD, set, take, length-set}
 use lib.Seq.{take-suc-set, take-nil, getD-set-same, getD-set-other}
 use borrow.Author.Tests.{lt-ltb, le-ltb, le-leb, lt-leb, ne-eqb, eqb-true}
 use Rattle.table.specs.Table.{Rows}
-use Rattle.console.specs.declared.Console.{Console}
+use Rattle.orders.specs.declared.Console.{Console}
 use Rattle.console.specs.declared.Held.{Held}
-use Rattle.console.specs.Order.{lineTurn}
+use Rattle.orders.specs.Order.{lineTurn}
 use Rattle.console.specs.Feed.{heldText, pushed, inParams, absorbed, absorbAll, emptied}
 use Rattle.console.proofs.CutLaws.{by-test, kept, joined, cut, cut-turn}
 

@@ -1,8 +1,3 @@
-pub mod FieldLaws
-pub mod TurnLaws
-pub mod SumLaws
-pub mod SummableLaws
-pub mod PrintLaws
 pub mod CutLaws
 pub mod HeldLaws
 pub mod FeedLaws

@@ -12,17 +12,17 @@ use borrow.Author.Tests.{lt-ltb, le-ltb, lt-leb, le-leb, not-true, not-false}
 use Rattle.fields.specs.Lists.{over, written, cursorAfter}
 use Rattle.fields.proofs.OutLaws.{over-none, over-length, over-over, cursor-moves, written-over}
 use Rattle.table.specs.Table.{Rows}
-use Rattle.console.specs.declared.Console.{Console}
+use Rattle.orders.specs.declared.Console.{Console}
 use Rattle.console.specs.declared.Held.{Held}
 use Rattle.console.specs.declared.gather.Gathered.{Gathered}
-use Rattle.console.specs.Order.{Turn, lineTurn, turnText, figures}
-use Rattle.console.specs.Sums.{Summable}
+use Rattle.orders.specs.Order.{Turn, lineTurn, turnText, figures}
+use Rattle.orders.specs.Sums.{Summable}
 use Rattle.console.specs.Feed.{heldText, absorbed, emptied, Fed, ended, fedByte, fed, finished}
 use Rattle.console.specs.Gather.{gathered}
 use Rattle.console.specs.Session.{emptyGate, newConsole, newHeld, newFed, sessionText}
 use Rattle.console.specs.Parts.{Part, before, printed, feedPart, lastPart, Ran, runAll, EndedAt}
-use Rattle.console.proofs.SummableLaws.{turn-summable, none-summable}
-use Rattle.console.proofs.PrintLaws.{turn-length, turn-text}
+use Rattle.orders.proofs.SummableLaws.{turn-summable, none-summable}
+use Rattle.orders.proofs.PrintLaws.{turn-length, turn-text}
 use Rattle.console.proofs.FeedLaws.{holding, gathered-on, gathered-in, fed-ended, fed-rest, session-fed}
 
 -- ---- a line that has ended

@@ -6,9 +6,9 @@ use mathlib.Core.Bool.{Bool, true, false, cond, _&&_}
 use lib.Dec.{eqb, leb, ltb}
 use lib.ListN.{getD, set, take}
 use Rattle.table.specs.Table.{Rows}
-use Rattle.console.specs.declared.Console.{Console}
+use Rattle.orders.specs.declared.Console.{Console}
 use Rattle.console.specs.declared.Held.{Held}
-use Rattle.console.specs.Order.{Turn, lineTurn, turnText}
+use Rattle.orders.specs.Order.{Turn, lineTurn, turnText}
 
 -- the bytes that are held
 abbrev pub heldText : Held → List ℕ

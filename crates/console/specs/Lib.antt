@@ -1,5 +1,3 @@
-pub mod Order
-pub mod Sums
 pub mod Feed
 pub mod Gather
 pub mod Session

@@ -7,9 +7,9 @@ use lib.Dec.{leb}
 use lib.ListN.{length}
 use Rattle.fields.specs.Lists.{over}
 use Rattle.table.specs.Table.{Rows}
-use Rattle.console.specs.declared.Console.{Console}
+use Rattle.orders.specs.declared.Console.{Console}
 use Rattle.console.specs.declared.Held.{Held}
-use Rattle.console.specs.Order.{Turn, lineTurn, turnText}
+use Rattle.orders.specs.Order.{Turn, lineTurn, turnText}
 use Rattle.console.specs.Feed.{heldText, emptied, Fed, fed, finished}
 use Rattle.console.specs.Session.{newFed, sessionText}
 

@@ -4,15 +4,15 @@ use mathlib.Core.List.{List, [], _∷_, _++_}
 use mathlib.Core.Bool.{true, false, cond}
 use lib.IntN.{pos}
 use lib.ListN.{replicate}
-use Rattle.fields.specs.declared.calendar.Day.{Day}
+use Rattle.dates.specs.declared.calendar.Day.{Day}
 use Rattle.fields.specs.Number.{noNumber}
 use Rattle.coding.specs.Params.{splitAt}
 use Rattle.table.specs.declared.Account.{Account}
 use Rattle.table.specs.declared.Gate.{Gate}
 use Rattle.table.specs.Table.{Rows}
-use Rattle.console.specs.declared.Console.{Console}
+use Rattle.orders.specs.declared.Console.{Console}
 use Rattle.console.specs.declared.Held.{Held}
-use Rattle.console.specs.Order.{Turn, lineTurn, turnText}
+use Rattle.orders.specs.Order.{Turn, lineTurn, turnText}
 use Rattle.console.specs.Feed.{Fed}
 
 -- the lines, ended by 0A (10); an empty rest behind the last is none

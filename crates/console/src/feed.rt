@@ -1,15 +1,15 @@
 // A session's input, fed in parts, or whole.
-use crate::Console;
+use orders::Console;
 use crate::Held;
 use crate::gather;
-use crate::print;
-use crate::turn;
+use orders::print;
+use orders::turn;
 use fields::scan;
 ghost use mathlib.Core.Path.{_≡_};
 ghost use Prim.Native.Nat.{_+_, _*_, _≤_};
 ghost use lib.ListN.{length};
 ghost use Rattle.table.specs.Lent.{before, after};
-ghost use Rattle.console.specs.Sums.{Summable};
+ghost use Rattle.orders.specs.Sums.{Summable};
 ghost use Rattle.console.specs.Feed.{emptied};
 ghost use Rattle.console.specs.Parts.{Part, feedPart, lastPart, Ran, runAll, EndedAt};
 

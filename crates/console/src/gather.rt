@@ -1,7 +1,7 @@
 // What is held of a line, gathered from parts of the input; and the state that a session begins with.
-use crate::Console;
+use orders::Console;
 use crate::Held;
-use fields::calendar::Day;
+use dates::calendar::Day;
 use fields::number::no_number;
 use table::Account;
 use table::Gate;

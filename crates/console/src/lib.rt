@@ -1,18 +1,6 @@
-// The session: lines of input, what each does at the gate, and what it prints.
+// The session: its input in parts of any size, of which lines are gathered, and what they print.
 pub mod feed;
 pub mod gather;
-pub mod line;
-pub mod print;
-pub mod sums;
-pub mod turn;
-
-use table::Gate;
-
-// The gate of a session, once a closed day has started it.
-pub struct Console {
-    pub started: bool,
-    pub gate: Gate,
-}
 
 // What is held of a line that has not ended: all of it that its answer depends on. `spaces` are those that split fields, `run` the bytes held of the last field.
 pub struct Held {

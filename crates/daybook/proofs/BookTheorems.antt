@@ -8,18 +8,18 @@ use lib.Dec.{ltb}
 use lib.ListN.{length, getD, length-append, List·getD-append}
 use lib.Seq.{getD-at}
 use borrow.Author.Tests.{ltb-true, not-true}
-use Rattle.fields.specs.declared.calendar.Day.{Day}
-use Rattle.fields.specs.declared.calendar.DayRead.{DayRead}
-use Rattle.fields.specs.declared.calendar.DayRead.the-variants.{Good, NoDate}
+use Rattle.dates.specs.declared.calendar.Day.{Day}
+use Rattle.dates.specs.declared.calendar.DayRead.{DayRead}
+use Rattle.dates.specs.declared.calendar.DayRead.the-variants.{Good, NoDate}
 use Rattle.fields.specs.declared.number.Number.{Number}
 use Rattle.fields.specs.Amount.{isAmount}
-use Rattle.fields.specs.Calendar.{isDay, dayBefore, nextDay, onDay}
+use Rattle.dates.specs.Calendar.{isDay, dayBefore, nextDay, onDay}
 use Rattle.fields.specs.Codes.{isReceipt, isKind}
-use Rattle.fields.specs.Date.{dateDay, isWritten}
+use Rattle.dates.specs.Date.{dateDay, isWritten}
 use Rattle.fields.specs.Number.{isNumber}
 use Rattle.fields.proofs.Tests.{and-left, and-right, cond-elim, no-claim}
-use Rattle.fields.proofs.DayLaws.{same-day, before-trans, next-after}
-use Rattle.fields.proofs.DateLaws.{date-day}
+use Rattle.dates.proofs.DayLaws.{same-day, before-trans, next-after}
+use Rattle.dates.proofs.DateLaws.{date-day}
 use Rattle.lists.proofs.ColumnLaws.{column-at, column-size}
 use Rattle.book.specs.declared.Book.{Book}
 use Rattle.book.specs.declared.Entry.{Entry}

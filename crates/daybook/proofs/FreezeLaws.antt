@@ -2,8 +2,8 @@
 use mathlib.Core.Path.{_≡_, _∙_}
 use mathlib.Core.Bool.{Bool, true, false, not, _&&_}
 use borrow.Author.Tests.{not-true, not-false}
-use Rattle.fields.specs.declared.calendar.Day.{Day}
-use Rattle.fields.specs.Calendar.{isDay, nextDay, onDay}
+use Rattle.dates.specs.declared.calendar.Day.{Day}
+use Rattle.dates.specs.Calendar.{isDay, nextDay, onDay}
 use Rattle.book.specs.declared.Book.{Book}
 use Rattle.book.specs.Entries.{BookRows}
 use Rattle.book.specs.BookValid.{bookGood}

@@ -6,13 +6,13 @@ use mathlib.Core.Bool.{true, false, not}
 use mathlib.Core.List.{List, [], _∷_, _++_, map}
 use lib.ListN.{length, getD, take}
 use borrow.Author.Tests.{lt-ltb, le-leb}
-use Rattle.fields.specs.declared.calendar.Day.{Day}
-use Rattle.fields.specs.declared.calendar.DayRead.the-variants.{Good}
+use Rattle.dates.specs.declared.calendar.Day.{Day}
+use Rattle.dates.specs.declared.calendar.DayRead.the-variants.{Good}
 use Rattle.fields.specs.declared.number.Number.{Number}
 use Rattle.fields.specs.Amount.{isAmount}
-use Rattle.fields.specs.Calendar.{isDay, dayBefore, nextDay, onDay}
+use Rattle.dates.specs.Calendar.{isDay, dayBefore, nextDay, onDay}
 use Rattle.fields.specs.Codes.{isReceipt, isKind}
-use Rattle.fields.specs.Date.{dateDay, isWritten}
+use Rattle.dates.specs.Date.{dateDay, isWritten}
 use Rattle.fields.specs.Number.{isNumber}
 use Rattle.fields.proofs.Tests.{cond-elim}
 use Rattle.fields.proofs.OutLaws.{text-back}

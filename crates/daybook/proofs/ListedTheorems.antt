@@ -7,14 +7,14 @@ use mathlib.Core.List.{List, [], _∷_, _++_, map}
 use lib.Dec.{eqb, leb}
 use lib.ListN.{length, getD, set}
 use borrow.Author.Tests.{lt-ltb, eqb-true, leb-true, not-true}
-use Rattle.fields.specs.declared.calendar.Day.{Day}
-use Rattle.fields.specs.declared.calendar.DayRead.{DayRead}
-use Rattle.fields.specs.declared.calendar.DayRead.the-variants.{Good, NoDate}
+use Rattle.dates.specs.declared.calendar.Day.{Day}
+use Rattle.dates.specs.declared.calendar.DayRead.{DayRead}
+use Rattle.dates.specs.declared.calendar.DayRead.the-variants.{Good, NoDate}
 use Rattle.fields.specs.Lists.{written, cursorAfter}
-use Rattle.fields.specs.Calendar.{isDay, dayBefore, sameDay, onDay, upTo}
-use Rattle.fields.specs.Date.{dateDay}
+use Rattle.dates.specs.Calendar.{isDay, dayBefore, sameDay, onDay, upTo}
+use Rattle.dates.specs.Date.{dateDay}
 use Rattle.fields.proofs.Tests.{both, and-left, and-right, cond-elim, no-claim}
-use Rattle.fields.proofs.DayLaws.{same-day}
+use Rattle.dates.proofs.DayLaws.{same-day}
 use Rattle.fields.proofs.DigitLaws.{within-low}
 use Rattle.lists.specs.Lists.{allFrom}
 use Rattle.registry.specs.declared.line.Line.{Line}

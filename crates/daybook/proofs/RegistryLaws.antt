@@ -8,12 +8,12 @@ use mathlib.Core.List.{List, [], _∷_, _++_, map}
 use lib.Dec.{eqb}
 use lib.ListN.{length, drop, length-append, drop-of-length-le}
 use borrow.Author.Tests.{le-leb, lt-leb, not-true, not-false}
-use Rattle.fields.specs.declared.calendar.Day.{Day}
+use Rattle.dates.specs.declared.calendar.Day.{Day}
 use Rattle.fields.specs.Lists.{written, cursorAfter}
 use Rattle.fields.specs.Amount.{isAmount}
-use Rattle.fields.specs.Calendar.{isDay, dayBefore, onDay}
+use Rattle.dates.specs.Calendar.{isDay, dayBefore, onDay}
 use Rattle.fields.specs.Codes.{isReceipt, isKind}
-use Rattle.fields.specs.Date.{dateDay, isWritten}
+use Rattle.dates.specs.Date.{dateDay, isWritten}
 use Rattle.fields.specs.Number.{isNumber}
 use Rattle.fields.proofs.Tests.{both, and-left, and-right}
 use Rattle.fields.proofs.OutLaws.{over-none, cursor-moves, written-over, written-length, cursor-then, written-then}

@@ -4,14 +4,14 @@ use mathlib.Core.List.{List, [], _∷_, _++_}
 use mathlib.Core.Bool.{Bool, true, false, cond, not, _&&_}
 use lib.Dec.{leb, ltb}
 use lib.ListN.{length}
-use Rattle.fields.specs.declared.calendar.Day.{Day}
-use Rattle.fields.specs.declared.calendar.DayRead.{DayRead}
-use Rattle.fields.specs.declared.calendar.DayRead.the-variants.{Good, NoDate}
+use Rattle.dates.specs.declared.calendar.Day.{Day}
+use Rattle.dates.specs.declared.calendar.DayRead.{DayRead}
+use Rattle.dates.specs.declared.calendar.DayRead.the-variants.{Good, NoDate}
 use Rattle.fields.specs.declared.number.Number.{Number}
 use Rattle.fields.specs.Amount.{isAmount}
-use Rattle.fields.specs.Calendar.{upTo}
+use Rattle.dates.specs.Calendar.{upTo}
 use Rattle.fields.specs.Codes.{isReceipt, isKind}
-use Rattle.fields.specs.Date.{dateDay, isWritten}
+use Rattle.dates.specs.Date.{dateDay, isWritten}
 use Rattle.fields.specs.Number.{isNumber}
 use Rattle.book.specs.declared.Book.{Book}
 use Rattle.book.specs.declared.Entry.{Entry}

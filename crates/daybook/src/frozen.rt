@@ -1,6 +1,6 @@
 // Days that are frozen.
 use book::Book;
-use fields::date;
+use dates::date;
 ghost use mathlib.Core.Path.{_≡_};
 ghost use Rattle.daybook.specs.Acceptance.{isFrozen};
 

@@ -7,9 +7,3 @@ pub mod DecimalLaws
 pub mod CodeLaws
 pub mod AmountLaws
 pub mod NumberLaws
-pub mod CalendarLaws
-pub mod DayLaws
-pub mod DateLaws
-pub mod DayTests
-pub mod KeyLaws
-pub mod Samples

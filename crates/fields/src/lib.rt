@@ -1,8 +1,6 @@
 // The fields of document 01, read from bytes and written into lent buffers.
 pub mod amount;
-pub mod calendar;
 pub mod codes;
-pub mod date;
 pub mod digits;
 pub mod number;
 pub mod out;

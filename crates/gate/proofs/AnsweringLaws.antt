@@ -6,7 +6,7 @@ use mathlib.Core.Bool.{Bool, true, false, cond, _||_, or-true}
 use mathlib.Core.List.{List}
 use lib.Dec.{eqb}
 use borrow.Author.Tests.{eq-eqb, ne-eqb}
-use Rattle.fields.specs.Date.{emptyDate}
+use Rattle.dates.specs.Date.{emptyDate}
 use Rattle.message.specs.declared.action.Action.{Action}
 use Rattle.answers.specs.declared.answer.Answer.{Answer}
 use Rattle.table.specs.declared.Record.{Record}

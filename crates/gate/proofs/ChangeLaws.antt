@@ -9,7 +9,7 @@ use lib.IntN.{ℤ, pos}
 use lib.Signed.{mag}
 use lib.ListN.{length, getD, set}
 use borrow.Author.Tests.{leb-false}
-use Rattle.fields.specs.Date.{emptyDate}
+use Rattle.dates.specs.Date.{emptyDate}
 use Rattle.message.specs.declared.action.Action.{Action}
 use Rattle.message.specs.declared.action.Action.the-variants.{Check, Payment, Status, Cancel}
 use Rattle.message.specs.declared.request.Asked.{Asked}

@@ -8,7 +8,7 @@ use lib.Dec.{eqb, leb}
 use lib.ListN.{length, getD}
 use borrow.Author.Tests.{not-true, not-false, le-leb, lt-leb}
 use Rattle.fields.specs.Lists.{written, cursorAfter}
-use Rattle.fields.specs.Date.{isWritten}
+use Rattle.dates.specs.Date.{isWritten}
 use Rattle.message.specs.declared.action.Action.{Action}
 use Rattle.message.specs.declared.request.Asked.{Asked}
 use Rattle.message.specs.declared.request.RequestRead.{RequestRead}

@@ -9,8 +9,8 @@ use lib.Signed.{ltZ, mag}
 use lib.ListN.{length, getD, set}
 use Rattle.fields.specs.declared.number.Number.{Number}
 use Rattle.fields.specs.Lists.{written, cursorAfter}
-use Rattle.fields.specs.Calendar.{upTo}
-use Rattle.fields.specs.Date.{dateDay, isWritten, emptyDate}
+use Rattle.dates.specs.Calendar.{upTo}
+use Rattle.dates.specs.Date.{dateDay, isWritten, emptyDate}
 use Rattle.message.specs.declared.action.Action.{Action}
 use Rattle.message.specs.declared.action.Action.the-variants.{Check, Payment, Status, Cancel}
 use Rattle.message.specs.declared.request.Asked.{Asked}

@@ -4,7 +4,7 @@ use message::action::Action;
 use table::Record;
 ghost use mathlib.Core.Path.{_≡_};
 ghost use mathlib.Core.Bool.{cond};
-ghost use Rattle.fields.specs.Date.{emptyDate};
+ghost use Rattle.dates.specs.Date.{emptyDate};
 ghost use Rattle.gate.specs.Deliver.{settles, isCancel, answersAuthcode, answersDate, answerDate, answerOf};
 
 // 0 and 7 speak of a record.

@@ -4,7 +4,7 @@ use crate::answering;
 use crate::change;
 use crate::plan;
 use answers::write;
-use fields::date;
+use dates::date;
 use message::request;
 use message::request::RequestRead;
 use table::Gate;

@@ -4,7 +4,7 @@ use crate::decision;
 use crate::decision::Decided;
 use crate::decision::Standing;
 use crate::decision::View;
-use fields::date;
+use dates::date;
 use fields::number::Number;
 use lists::Found;
 use message::request::Asked;

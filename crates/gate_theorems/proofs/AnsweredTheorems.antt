@@ -9,7 +9,7 @@ use lib.Dec.{eqb, leb}
 use lib.ListN.{length, take}
 use borrow.Author.Tests.{leb-true, le-leb, ne-eqb}
 use Rattle.fields.specs.Lists.{written, cursorAfter}
-use Rattle.fields.specs.Date.{isWritten}
+use Rattle.dates.specs.Date.{isWritten}
 use Rattle.fields.proofs.Tests.{cond-elim, no-claim}
 use Rattle.fields.proofs.OutLaws.{cursor-moves, text-back}
 use Rattle.message.specs.declared.action.Action.{Action}

@@ -13,9 +13,9 @@ use Rattle.fields.specs.declared.digits.Digits.the-variants.{Value, Malformed}
 use Rattle.fields.specs.Lists.{written}
 use Rattle.fields.specs.Digits.{within, faultOf}
 use Rattle.fields.proofs.DigitLaws.{within-low, within-high}
-use Rattle.fields.specs.Date.{isWritten, emptyDate}
+use Rattle.dates.specs.Date.{isWritten, emptyDate}
 use Rattle.fields.proofs.Tests.{and-right, cond-elim, no-claim}
-use Rattle.fields.proofs.DateLaws.{written-parts}
+use Rattle.dates.proofs.DateLaws.{written-parts}
 use Rattle.message.specs.declared.action.Action.{Action}
 use Rattle.message.specs.declared.action.Action.the-variants.{Check, Payment, Status, Cancel}
 use Rattle.message.specs.declared.action.ActionRead.{ActionRead}

@@ -14,7 +14,7 @@ use borrow.Author.Tests.{lt-leb, le-leb, lt-ltb, le-ltb, eq-eqb, ne-eqb, eqb-tru
 use Rattle.fields.specs.declared.number.Number.{Number}
 use Rattle.fields.specs.Amount.{isAmount}
 use Rattle.fields.specs.Codes.{isKind}
-use Rattle.fields.specs.Date.{isWritten}
+use Rattle.dates.specs.Date.{isWritten}
 use Rattle.fields.specs.Number.{isNumber}
 use Rattle.message.specs.declared.action.Action.the-variants.{Payment, Cancel}
 use Rattle.message.specs.declared.request.Asked.{Asked}

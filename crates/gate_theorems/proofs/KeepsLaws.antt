@@ -12,7 +12,7 @@ use Rattle.fields.specs.declared.number.Number.{Number}
 use Rattle.fields.specs.Amount.{isAmount}
 use Rattle.fields.specs.Codes.{isKind}
 use Rattle.fields.specs.Number.{isNumber}
-use Rattle.fields.specs.Date.{isWritten}
+use Rattle.dates.specs.Date.{isWritten}
 use Rattle.fields.proofs.Tests.{cond-elim, no-claim}
 use Rattle.message.specs.declared.request.Asked.{Asked}
 use Rattle.message.specs.declared.request.RequestRead.{RequestRead}

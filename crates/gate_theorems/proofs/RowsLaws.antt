@@ -13,7 +13,7 @@ use Rattle.fields.specs.declared.number.Number.{Number}
 use Rattle.fields.specs.Lists.{eqList}
 use Rattle.fields.specs.Amount.{isAmount}
 use Rattle.fields.specs.Codes.{isReceipt}
-use Rattle.fields.specs.Date.{isWritten}
+use Rattle.dates.specs.Date.{isWritten}
 use Rattle.fields.proofs.Tests.{and-left, and-right, and-both}
 use Rattle.message.specs.declared.request.Asked.{Asked}
 use Rattle.message.specs.Names.{hasAccount, hasReceipt, hasDate}

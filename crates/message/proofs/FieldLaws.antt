@@ -15,11 +15,11 @@ use Rattle.fields.specs.Amount.{kopecksAfter, kopecksFrom, amountOf, amountRead
 use Rattle.fields.specs.Codes.{receiptRead, kindRead, reasonRead}
 use Rattle.fields.specs.Lists.{find, eqList}
 use Rattle.fields.specs.Number.{noNumber, numberRead}
-use Rattle.fields.specs.Date.{noDate, dateRead}
+use Rattle.dates.specs.Date.{noDate, dateRead}
 use Rattle.fields.proofs.Tests.{cond-elim}
 use Rattle.fields.proofs.DigitLaws.{read-long}
 use Rattle.fields.proofs.NumberLaws.{number-empty, number-long}
-use Rattle.fields.proofs.DateLaws.{date-size}
+use Rattle.dates.proofs.DateLaws.{date-size}
 use Rattle.fields.proofs.ScanLaws.{find-le, lengths-differ}
 use Rattle.coding.specs.Url.{hexValue, decoded}
 use Rattle.message.specs.declared.action.Action.{Action}

@@ -14,7 +14,7 @@ use Rattle.fields.specs.Digits.{isDigit, within, decimal}
 use Rattle.fields.specs.Amount.{isAmount, amountRead, amountBytes}
 use Rattle.fields.specs.Codes.{isReceipt, receiptRead, isKind, kindRead, isReason, reasonRead}
 use Rattle.fields.specs.Number.{numberByte, numberText, numberOf, isNumber, noNumber, numberRead}
-use Rattle.fields.specs.Date.{isWritten, emptyDate, noDate, dateRead}
+use Rattle.dates.specs.Date.{isWritten, emptyDate, noDate, dateRead}
 use Rattle.fields.proofs.Tests.{and-left, and-right, both}
 use Rattle.fields.proofs.ListLaws.{every-weaker}
 use Rattle.fields.proofs.DigitLaws.{within-low, within-high}
@@ -22,7 +22,7 @@ use Rattle.fields.proofs.DecimalLaws.{decimal-digits}
 use Rattle.fields.proofs.CodeLaws.{code-length, receipt-again, kind-again, reason-again}
 use Rattle.fields.proofs.AmountLaws.{amount-again, amount-bytes, amount-length}
 use Rattle.fields.proofs.NumberLaws.{byte-below-256, text-bytes, text-short, number-again}
-use Rattle.fields.proofs.DateLaws.{date-again, date-bytes}
+use Rattle.dates.proofs.DateLaws.{date-again, date-bytes}
 use Rattle.coding.specs.Url.{isPlain}
 use Rattle.coding.specs.Units.{isByte}
 use Rattle.coding.proofs.CodedLaws.{plain-marks, digit-plain, coded-plain, coded-length}

@@ -10,14 +10,14 @@ use Rattle.fields.specs.declared.digits.Digits.{Digits}
 use Rattle.fields.specs.declared.digits.Digits.the-variants.{Value, Malformed}
 use Rattle.fields.specs.declared.number.Number.{Number}
 use Rattle.fields.specs.declared.number.NumberRead.{NumberRead}
-use Rattle.fields.specs.declared.date.DateRead.{DateRead}
+use Rattle.dates.specs.declared.date.DateRead.{DateRead}
 use Rattle.message.specs.declared.action.Action.{Action}
 use Rattle.message.specs.declared.action.Action.the-variants.{Check, Payment, Status, Cancel}
 use Rattle.message.specs.declared.action.ActionRead.{ActionRead}
 use Rattle.message.specs.declared.action.ActionRead.the-variants.{Known, Unknown}
 use Rattle.message.specs.declared.request.RequestRead.{RequestRead}
 use Rattle.message.specs.declared.slots.Scan.{Scan}
-use Rattle.fields.specs.Date.{emptyDate}
+use Rattle.dates.specs.Date.{emptyDate}
 use Rattle.message.specs.Names.{actionOf, hasAccount, hasReceipt, hasReason}
 use Rattle.message.specs.Slots.{Slot, Absent, Broken, Values, gathered, slotsIn, scanned}
 use Rattle.message.specs.declared.request.Reader.the-variants.{Receipt, Kind, Amount, Reason}

@@ -10,17 +10,17 @@ use borrow.Author.Tests.{eqb-true, eqb-false}
 use Rattle.fields.specs.declared.digits.Digits.{Digits}
 use Rattle.fields.specs.declared.digits.Digits.the-variants.{Value, Malformed}
 use Rattle.fields.specs.declared.number.NumberRead.{NumberRead}
-use Rattle.fields.specs.declared.date.DateRead.{DateRead}
+use Rattle.dates.specs.declared.date.DateRead.{DateRead}
 use Rattle.fields.specs.Digits.{faultOf}
 use Rattle.fields.specs.Amount.{isAmount, amountRead}
 use Rattle.fields.specs.Codes.{isReceipt, isKind, isReason, receiptRead, kindRead, reasonRead}
 use Rattle.fields.specs.Number.{isNumber, isNumberText, noNumber, numberRead}
-use Rattle.fields.specs.Date.{isWritten, emptyDate, noDate, dateRead}
+use Rattle.dates.specs.Date.{isWritten, emptyDate, noDate, dateRead}
 use Rattle.fields.proofs.Tests.{cond-elim, no-claim}
 use Rattle.fields.proofs.DigitLaws.{range-within}
 use Rattle.fields.proofs.AmountLaws.{amount-within}
 use Rattle.fields.proofs.NumberLaws.{text-number}
-use Rattle.fields.proofs.DateLaws.{written-parts}
+use Rattle.dates.proofs.DateLaws.{written-parts}
 use Rattle.coding.specs.Url.{decoded}
 use Rattle.message.specs.declared.action.Action.{Action}
 use Rattle.message.specs.declared.action.Action.the-variants.{Check}

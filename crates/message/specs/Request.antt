@@ -8,11 +8,11 @@ use Rattle.fields.specs.declared.digits.Digits.{Digits}
 use Rattle.fields.specs.declared.digits.Digits.the-variants.{Value, Malformed}
 use Rattle.fields.specs.declared.number.Number.{Number}
 use Rattle.fields.specs.declared.number.NumberRead.{NumberRead}
-use Rattle.fields.specs.declared.date.DateRead.{DateRead}
+use Rattle.dates.specs.declared.date.DateRead.{DateRead}
 use Rattle.fields.specs.Amount.{amountRead, amountFault}
 use Rattle.fields.specs.Codes.{receiptRead, receiptFault, kindRead, kindFault, reasonRead, reasonFault}
 use Rattle.fields.specs.Number.{noNumber, numberRead, numberFault}
-use Rattle.fields.specs.Date.{emptyDate, noDate, dateRead, dateFault}
+use Rattle.dates.specs.Date.{emptyDate, noDate, dateRead, dateFault}
 use Rattle.coding.specs.Url.{decoded}
 use Rattle.message.specs.declared.action.Action.{Action}
 use Rattle.message.specs.declared.action.Action.the-variants.{Check, Payment, Status, Cancel}

@@ -6,7 +6,7 @@ use Rattle.fields.specs.Digits.{decimal}
 use Rattle.fields.specs.Amount.{isAmount, amountBytes}
 use Rattle.fields.specs.Codes.{isReceipt, isKind, isReason}
 use Rattle.fields.specs.Number.{numberText, numberOf, isNumber}
-use Rattle.fields.specs.Date.{isWritten, emptyDate}
+use Rattle.dates.specs.Date.{isWritten, emptyDate}
 use Rattle.coding.specs.Url.{coded}
 use Rattle.message.specs.declared.action.Action.{Action}
 use Rattle.message.specs.declared.request.Asked.{Asked}

@@ -10,7 +10,7 @@ use Rattle.message.specs.declared.request.Reader.{Reader}
 use Rattle.message.specs.declared.request.Reader.the-variants.{Receipt, Kind, Amount, Reason}
 use Rattle.fields.specs.declared.digits.Digits.{Digits}
 use Rattle.fields.specs.Amount.{amountRead, amountFault}
-use Rattle.fields.specs.Date.{dateFault}
+use Rattle.dates.specs.Date.{dateFault}
 use Rattle.fields.specs.Codes.{receiptRead, kindRead, reasonRead, reasonFault}
 use Rattle.message.specs.Slots.{Slot}
 use Rattle.message.specs.Request.{amountField, dateField, reasonField, valueIn, refused, firstFault}

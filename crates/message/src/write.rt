@@ -5,7 +5,7 @@ use crate::request::Asked;
 use coding::url;
 use fields::amount;
 use fields::codes;
-use fields::date;
+use dates::date;
 use fields::digits;
 use fields::number::Number;
 use fields::out;

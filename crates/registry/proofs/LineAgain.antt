@@ -22,7 +22,7 @@ use Rattle.fields.proofs.DecimalLaws.{decimal-digits}
 use Rattle.fields.proofs.CodeLaws.{receipt-again, kind-again}
 use Rattle.fields.proofs.AmountLaws.{amount-again, amount-bytes}
 use Rattle.fields.proofs.NumberLaws.{byte-above-blank, text-bytes, number-again}
-use Rattle.fields.proofs.DateLaws.{date-again, date-bytes}
+use Rattle.dates.proofs.DateLaws.{date-again, date-bytes}
 use Rattle.registry.specs.declared.line.Line.{Line}
 use Rattle.registry.specs.declared.line.LineRead.{LineRead}
 use Rattle.registry.specs.Line.{field, afterField, isLine, lineRead, lineBody, lineAgain}

@@ -9,11 +9,11 @@ use borrow.Author.Tests.{not-true, not-false}
 use Rattle.fields.specs.declared.digits.Digits.{Digits}
 use Rattle.fields.specs.declared.digits.Digits.the-variants.{Value, Malformed}
 use Rattle.fields.specs.declared.number.NumberRead.{NumberRead}
-use Rattle.fields.specs.declared.date.DateRead.{DateRead}
+use Rattle.dates.specs.declared.date.DateRead.{DateRead}
 use Rattle.fields.specs.Amount.{isAmount, amountRead}
 use Rattle.fields.specs.Codes.{isReceipt, receiptRead, isKind, kindRead}
 use Rattle.fields.specs.Number.{isNumber, numberRead}
-use Rattle.fields.specs.Date.{isWritten, dateRead}
+use Rattle.dates.specs.Date.{isWritten, dateRead}
 use Rattle.registry.specs.declared.line.Line.{Line}
 use Rattle.registry.specs.declared.line.LineRead.{LineRead}
 use Rattle.registry.specs.Line.{field, afterField, noLine, lineOf, lineRead, isLine}

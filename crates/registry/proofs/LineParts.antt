@@ -8,12 +8,12 @@ use Rattle.fields.specs.Digits.{decimal}
 use Rattle.fields.specs.Amount.{isAmount, amountBytes}
 use Rattle.fields.specs.Codes.{isReceipt, isKind}
 use Rattle.fields.specs.Number.{numberText, isNumber}
-use Rattle.fields.specs.Date.{isWritten}
+use Rattle.dates.specs.Date.{isWritten}
 use Rattle.fields.proofs.Tests.{both}
 use Rattle.fields.proofs.CodeLaws.{code-length}
 use Rattle.fields.proofs.AmountLaws.{amount-length}
 use Rattle.fields.proofs.NumberLaws.{text-short}
-use Rattle.fields.proofs.DateLaws.{written-parts}
+use Rattle.dates.proofs.DateLaws.{written-parts}
 use Rattle.registry.specs.declared.line.Line.{Line}
 use Rattle.registry.specs.Line.{isLine, lineBody, lineBytes, lineText}
 

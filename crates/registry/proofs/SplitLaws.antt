@@ -11,7 +11,7 @@ use borrow.Author.Tests.{eq-eqb, ne-eqb}
 use Rattle.fields.proofs.ListLaws.{drop-next}
 use Rattle.registry.specs.Line.{lineRead}
 use Rattle.registry.specs.Registry.{lineEnd, onto, splitLines, countOf, lineCount, goodLine, goodLines, heldLines}
-use Rattle.fields.specs.declared.calendar.Day.{Day}
+use Rattle.dates.specs.declared.calendar.Day.{Day}
 use Rattle.fields.proofs.Tests.{cond-elim}
 
 -- ---- the two bytes of a line's end

@@ -9,10 +9,10 @@ use lib.Dec.{ltb, eqb}
 use lib.ListN.{length, take, drop, length-append}
 use lib.Seq.{take-append-seam, drop-append-add}
 use borrow.Author.Tests.{le-leb, not-true}
-use Rattle.fields.specs.declared.calendar.Day.{Day}
+use Rattle.dates.specs.declared.calendar.Day.{Day}
 use Rattle.fields.specs.Lists.{every}
-use Rattle.fields.specs.Calendar.{onDay}
-use Rattle.fields.specs.Date.{dateDay}
+use Rattle.dates.specs.Calendar.{onDay}
+use Rattle.dates.specs.Date.{dateDay}
 use Rattle.fields.proofs.Tests.{both}
 use Rattle.registry.specs.declared.line.Line.{Line}
 use Rattle.registry.specs.Line.{isLine, lineRead, lineBody, lineBytes, lineAgain}

@@ -6,13 +6,13 @@ use lib.ListN.{take, drop, replicate}
 use Rattle.fields.specs.declared.digits.Digits.{Digits}
 use Rattle.fields.specs.declared.digits.Digits.the-variants.{Value, Malformed}
 use Rattle.fields.specs.declared.number.NumberRead.{NumberRead}
-use Rattle.fields.specs.declared.date.DateRead.{DateRead}
+use Rattle.dates.specs.declared.date.DateRead.{DateRead}
 use Rattle.fields.specs.Lists.{find}
 use Rattle.fields.specs.Digits.{decimal}
 use Rattle.fields.specs.Amount.{isAmount, amountRead, amountBytes}
 use Rattle.fields.specs.Codes.{isReceipt, receiptRead, isKind, kindRead}
 use Rattle.fields.specs.Number.{isNumber, numberText, numberOf, numberRead}
-use Rattle.fields.specs.Date.{isWritten, dateRead, emptyDate}
+use Rattle.dates.specs.Date.{isWritten, dateRead, emptyDate}
 use Rattle.registry.specs.declared.line.Line.{Line}
 use Rattle.registry.specs.declared.line.LineRead.{LineRead}
 

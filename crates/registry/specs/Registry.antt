@@ -3,9 +3,9 @@ use Prim.Native.Nat.{ℕ, suc}
 use mathlib.Core.List.{List, [], _∷_, _++_}
 use mathlib.Core.Bool.{Bool, true, false, cond, _&&_}
 use lib.Dec.{leb, ltb, eqb}
-use Rattle.fields.specs.declared.calendar.Day.{Day}
-use Rattle.fields.specs.Calendar.{onDay}
-use Rattle.fields.specs.Date.{dateDay}
+use Rattle.dates.specs.declared.calendar.Day.{Day}
+use Rattle.dates.specs.Calendar.{onDay}
+use Rattle.dates.specs.Date.{dateDay}
 use Rattle.registry.specs.declared.line.Line.{Line}
 use Rattle.registry.specs.Line.{lineRead, lineBytes}
 

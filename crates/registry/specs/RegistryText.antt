@@ -3,15 +3,15 @@ use Prim.Native.Nat.{ℕ}
 use mathlib.Core.List.{List, [], _∷_, _++_}
 use mathlib.Core.Bool.{Bool, true, _&&_}
 use lib.ListN.{replicate}
-use Rattle.fields.specs.declared.calendar.Day.{Day}
+use Rattle.dates.specs.declared.calendar.Day.{Day}
 use Rattle.fields.specs.declared.digits.Digits.{Digits}
 use Rattle.fields.specs.declared.number.NumberRead.{NumberRead}
 use Rattle.fields.specs.Digits.{decimal}
 use Rattle.fields.specs.Number.{numberText}
 use Rattle.fields.specs.Amount.{amountRead}
 use Rattle.fields.specs.Codes.{receiptRead}
-use Rattle.fields.specs.Calendar.{onDay}
-use Rattle.fields.specs.Date.{dateDay, dateRead}
+use Rattle.dates.specs.Calendar.{onDay}
+use Rattle.dates.specs.Date.{dateDay, dateRead}
 use Rattle.registry.specs.declared.line.Line.{Line}
 use Rattle.registry.specs.declared.line.LineRead.{LineRead}
 use Rattle.registry.specs.Line.{field, afterField, lineOf, isLine}

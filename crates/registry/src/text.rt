@@ -1,16 +1,16 @@
 // The text of a registry: lines ended by 0D 0A.
 use crate::line;
 use crate::line::LineRead;
-use fields::calendar::Day;
-use fields::date;
+use dates::calendar::Day;
+use dates::date;
 use fields::scan;
 ghost use Prim.Native.Nat.{_+_};
 ghost use mathlib.Core.Path.{_≡_};
 ghost use mathlib.Core.Bool.{_&&_, cond};
 ghost use lib.Dec.{ltb, eqb};
 ghost use lib.ListN.{take, drop};
-ghost use Rattle.fields.specs.Calendar.{onDay};
-ghost use Rattle.fields.specs.Date.{dateDay};
+ghost use Rattle.dates.specs.Calendar.{onDay};
+ghost use Rattle.dates.specs.Date.{dateDay};
 ghost use Rattle.registry.specs.Line.{lineRead};
 ghost use Rattle.registry.specs.Registry.{lineEnd, lineCount, registryFault};
 

@@ -9,9 +9,9 @@ use lib.Dec.{eqb, ltb}
 use lib.ListN.{length, getD, drop, length-map}
 use lib.Seq.{drop-at, getD-drop}
 use borrow.Author.Tests.{eqb-true, ltb-true, ltb-false, not-true}
-use Rattle.fields.specs.declared.calendar.Day.{Day}
-use Rattle.fields.specs.Calendar.{isDay, dayBefore, sameDay, onDay}
-use Rattle.fields.specs.Date.{dateDay}
+use Rattle.dates.specs.declared.calendar.Day.{Day}
+use Rattle.dates.specs.Calendar.{isDay, dayBefore, sameDay, onDay}
+use Rattle.dates.specs.Date.{dateDay}
 use Rattle.fields.specs.Lists.{every}
 use Rattle.fields.proofs.Tests.{and-left, and-right, cond-elim, no-claim}
 use Rattle.lists.specs.Lent.{Lent}

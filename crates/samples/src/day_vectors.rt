@@ -1,9 +1,9 @@
 // Days and written dates.
 use crate::show;
 use crate::split;
-use fields::calendar;
-use fields::calendar::DayRead;
-use fields::date;
+use dates::calendar;
+use dates::calendar::DayRead;
+use dates::date;
 use fields::scan;
 
 // A day, or the words for none.

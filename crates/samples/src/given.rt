@@ -1,8 +1,8 @@
 // Fields that a vector gives: they may be out of range.
 use crate::split;
-use fields::calendar;
-use fields::calendar::Day;
-use fields::calendar::DayRead;
+use dates::calendar;
+use dates::calendar::Day;
+use dates::calendar::DayRead;
 use fields::digits;
 use fields::digits::Digits;
 use fields::number::Number;

@@ -1,5 +1,5 @@
 // Answers, printed.
-use fields::calendar::Day;
+use dates::calendar::Day;
 use fields::digits::Digits;
 use fields::number::Number;
 use fields::scan;

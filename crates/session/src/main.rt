@@ -5,7 +5,7 @@ use console::gather;
 use fields::scan;
 ghost use mathlib.Core.Path.{_≡_};
 ghost use lib.ListN.{length};
-ghost use Rattle.console.specs.Sums.{Summable};
+ghost use Rattle.orders.specs.Sums.{Summable};
 
 // A session, whether its input goes on, and whether what it printed was written.
 struct Stage {

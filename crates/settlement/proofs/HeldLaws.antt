@@ -11,7 +11,7 @@ use lib.Signed.{mag}
 use lib.ListN.{length, getD, set, drop, length-set, length-append, length-map, List·getD-append}
 use lib.Seq.{getD-at, getD-set-same, getD-set-other, drop-append-add, drop-drop}
 use borrow.Author.Tests.{leb-false, not-true, not-false}
-use Rattle.fields.specs.declared.calendar.Day.{Day}
+use Rattle.dates.specs.declared.calendar.Day.{Day}
 use Rattle.fields.proofs.Tests.{cond-elim}
 use Rattle.registry.specs.declared.line.Line.{Line}
 use Rattle.table.specs.declared.Account.{Account}

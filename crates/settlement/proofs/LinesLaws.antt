@@ -9,11 +9,11 @@ use lib.Seq.{drop-drop}
 use Rattle.fields.specs.declared.digits.Digits.{Digits}
 use Rattle.fields.specs.declared.digits.Digits.the-variants.{Value, Malformed}
 use Rattle.fields.specs.declared.number.NumberRead.{NumberRead}
-use Rattle.fields.specs.declared.date.DateRead.{DateRead}
+use Rattle.dates.specs.declared.date.DateRead.{DateRead}
 use Rattle.fields.specs.Amount.{amountRead}
 use Rattle.fields.specs.Codes.{receiptRead, kindRead}
 use Rattle.fields.specs.Number.{numberRead}
-use Rattle.fields.specs.Date.{dateRead}
+use Rattle.dates.specs.Date.{dateRead}
 use Rattle.fields.proofs.Tests.{cond-elim}
 use Rattle.fields.proofs.AmountLaws.{amount-within}
 use Rattle.fields.proofs.DigitLaws.{within-high}

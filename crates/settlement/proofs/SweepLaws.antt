@@ -12,11 +12,11 @@ use Rattle.lists.proofs.ListLaws.{partly-get, partly-turn, partly-all}
 use Rattle.table.proofs.TableLaws.{length-records, rows-kept}
 use Rattle.settlement.proofs.HeldLaws.{held-more, from-from, Step, sweep-step, left-records, left-held}
 use borrow.Author.Tests.{eq-eqb, ne-eqb, not-true, not-false}
-use Rattle.fields.specs.declared.calendar.Day.{Day}
-use Rattle.fields.specs.declared.calendar.DayRead.{DayRead}
-use Rattle.fields.specs.declared.calendar.DayRead.the-variants.{Good, NoDate}
-use Rattle.fields.specs.Calendar.{onDay}
-use Rattle.fields.specs.Date.{dateDay}
+use Rattle.dates.specs.declared.calendar.Day.{Day}
+use Rattle.dates.specs.declared.calendar.DayRead.{DayRead}
+use Rattle.dates.specs.declared.calendar.DayRead.the-variants.{Good, NoDate}
+use Rattle.dates.specs.Calendar.{onDay}
+use Rattle.dates.specs.Date.{dateDay}
 use Rattle.registry.specs.declared.line.Line.{Line}
 use Rattle.table.specs.declared.Gate.{Gate}
 use Rattle.table.specs.declared.Record.{Record}

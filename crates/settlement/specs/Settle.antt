@@ -4,10 +4,10 @@ use mathlib.Core.List.{List, [], _∷_, _++_, map}
 use mathlib.Core.Bool.{Bool, true, false, cond, not, _&&_, _||_}
 use lib.Dec.{eqb, leb, ltb}
 use lib.ListN.{length, getD, set}
-use Rattle.fields.specs.declared.calendar.Day.{Day}
+use Rattle.dates.specs.declared.calendar.Day.{Day}
 use Rattle.fields.specs.Lists.{eqList, written}
-use Rattle.fields.specs.Calendar.{isDay, dayBefore, nextDay, onDay}
-use Rattle.fields.specs.Date.{dateDay, isWritten, emptyDate}
+use Rattle.dates.specs.Calendar.{isDay, dayBefore, nextDay, onDay}
+use Rattle.dates.specs.Date.{dateDay, isWritten, emptyDate}
 use Rattle.fields.specs.Number.{sameNumber}
 use Rattle.message.specs.declared.action.Action.the-variants.{Payment}
 use Rattle.message.specs.declared.request.Asked.{Asked}

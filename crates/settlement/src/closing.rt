@@ -2,7 +2,7 @@
 use crate::lines;
 use crate::report;
 use crate::sweeping;
-use fields::calendar::Day;
+use dates::calendar::Day;
 use gate::Reply;
 use table::Gate;
 ghost use mathlib.Core.Path.{_≡_};

@@ -1,5 +1,5 @@
 // Which record a line of a registry matches.
-use fields::date;
+use dates::date;
 use lists::Found;
 use registry::line::Line;
 use table::Record;

@@ -1,8 +1,8 @@
 // A registry delivered to the gate.
 use crate::closing;
 use crate::report;
-use fields::calendar::Day;
-use fields::date;
+use dates::calendar::Day;
+use dates::date;
 use gate::Reply;
 use registry::text;
 use table::Gate;

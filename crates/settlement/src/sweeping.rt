@@ -1,7 +1,7 @@
 // The sweep: what is done on the day and stands in no line is cancelled.
 use crate::lines;
-use fields::calendar::Day;
-use fields::date;
+use dates::calendar::Day;
+use dates::date;
 use gate::change;
 use table::Gate;
 use table::Record;

@@ -8,8 +8,8 @@ use lib.ListN.{replicate}
 use Rattle.fields.specs.declared.digits.Digits.the-variants.{Value}
 use Rattle.fields.specs.Amount.{amountRead, amountFault}
 use Rattle.fields.specs.Codes.{receiptRead, receiptFault}
-use Rattle.fields.specs.Date.{dateRead, dateFault}
-use Rattle.fields.proofs.Samples as F
+use Rattle.dates.specs.Date.{dateRead, dateFault}
+use Rattle.dates.proofs.Samples as F
 use Rattle.lists.specs.declared.Found.the-variants.{At}
 use Rattle.table.specs.Accounts.{accountsOf, findAccount, balanceAt}
 use Rattle.gate.specs.Deliver.{deliver}
@@ -26,8 +26,8 @@ use Rattle.fields.specs.Lists as L
 use Rattle.fields.specs.Digits as G
 use Rattle.fields.specs.Amount as M
 use Rattle.fields.specs.Number as N
-use Rattle.fields.specs.Calendar as C
-use Rattle.fields.specs.Date as W
+use Rattle.dates.specs.Calendar as C
+use Rattle.dates.specs.Date as W
 use Rattle.coding.specs.Url as U
 use Rattle.coding.specs.Params as P
 use Rattle.message.specs.Names as MN

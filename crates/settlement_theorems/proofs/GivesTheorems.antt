@@ -6,10 +6,10 @@ use mathlib.Core.Bool.{Bool, true, false, cond}
 use mathlib.Core.List.{List, [], _∷_}
 use lib.ListN.{length, take}
 use borrow.Author.Tests.{eq-eqb, le-leb}
-use Rattle.fields.specs.declared.calendar.Day.{Day}
+use Rattle.dates.specs.declared.calendar.Day.{Day}
 use Rattle.fields.specs.Lists.{every}
-use Rattle.fields.specs.Date.{isWritten}
-use Rattle.fields.specs.Calendar.{nextDay, onDay}
+use Rattle.dates.specs.Date.{isWritten}
+use Rattle.dates.specs.Calendar.{nextDay, onDay}
 use Rattle.fields.proofs.OutLaws.{text-first}
 use Rattle.registry.specs.declared.line.Line.{Line}
 use Rattle.registry.specs.Registry.{registryLines, registryFault}

@@ -6,13 +6,13 @@ use mathlib.Core.Bool.{true, false}
 use mathlib.Core.List.{List, [], _∷_}
 use lib.ListN.{length, getD, length-append, length-set, length-map}
 use borrow.Author.Tests.{leb-false}
-use Rattle.fields.specs.declared.calendar.Day.{Day}
-use Rattle.fields.specs.declared.calendar.DayRead.{DayRead}
-use Rattle.fields.specs.declared.calendar.DayRead.the-variants.{Good, NoDate}
-use Rattle.fields.specs.Calendar.{isDay, nextDay, onDay}
-use Rattle.fields.specs.Date.{isWritten}
+use Rattle.dates.specs.declared.calendar.Day.{Day}
+use Rattle.dates.specs.declared.calendar.DayRead.{DayRead}
+use Rattle.dates.specs.declared.calendar.DayRead.the-variants.{Good, NoDate}
+use Rattle.dates.specs.Calendar.{isDay, nextDay, onDay}
+use Rattle.dates.specs.Date.{isWritten}
 use Rattle.fields.proofs.Tests.{no-claim}
-use Rattle.fields.proofs.DayLaws.{same-day, next-is-day}
+use Rattle.dates.proofs.DayLaws.{same-day, next-is-day}
 use Rattle.registry.specs.declared.line.Line.{Line}
 use Rattle.registry.specs.Registry.{registryLines}
 use Rattle.registry.proofs.LinesGood.{lines-good as registry-lines}

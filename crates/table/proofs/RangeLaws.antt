@@ -13,9 +13,9 @@ use mir.Val.{SFits, toZ, ofZ}
 use borrow.Author.Tests.{eq-eqb, ne-eqb, lt-leb, le-leb, lt-ltb, le-ltb, ltb-true, ltb-false, leb-true, not-true, not-false}
 use Rattle.fields.specs.Lists.{eqList}
 use Rattle.fields.specs.Amount.{isAmount}
-use Rattle.fields.specs.Calendar.{isDay}
+use Rattle.dates.specs.Calendar.{isDay}
 use Rattle.fields.specs.Codes.{isReceipt, isKind}
-use Rattle.fields.specs.Date.{isWritten, emptyDate}
+use Rattle.dates.specs.Date.{isWritten, emptyDate}
 use Rattle.fields.specs.Number.{isNumber}
 use Rattle.fields.proofs.Tests.{and-right, no-claim}
 use Rattle.table.specs.declared.Account.{Account}

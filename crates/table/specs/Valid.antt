@@ -8,9 +8,9 @@ use lib.Signed.{mag}
 use lib.ListN.{length}
 use Rattle.fields.specs.Lists.{eqList}
 use Rattle.fields.specs.Amount.{isAmount}
-use Rattle.fields.specs.Calendar.{isDay}
+use Rattle.dates.specs.Calendar.{isDay}
 use Rattle.fields.specs.Codes.{isReceipt, isKind}
-use Rattle.fields.specs.Date.{isWritten, emptyDate}
+use Rattle.dates.specs.Date.{isWritten, emptyDate}
 use Rattle.fields.specs.Number.{isNumber}
 use Rattle.table.specs.declared.Account.{Account}
 use Rattle.table.specs.declared.Gate.{Gate}

@@ -4,7 +4,7 @@ pub mod ranges;
 pub mod rows;
 pub mod valid;
 
-use fields::calendar::Day;
+use dates::calendar::Day;
 use fields::number::Number;
 
 // A payment. State 1 is done, 2 is cancelled; while it is done, zeros stand for its cancel date.

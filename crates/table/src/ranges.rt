@@ -4,7 +4,7 @@ use crate::Gate;
 use crate::Record;
 use fields::amount;
 use fields::codes;
-use fields::date;
+use dates::date;
 ghost use mathlib.Core.Bool.{true, _&&_};
 ghost use mathlib.Core.Path.{_≡_};
 ghost use Prim.Native.Nat.{_<_, _≤_};

@@ -8,16 +8,16 @@ use mathlib.Core.Option.{Option, none, some}
 use lib.Dec.{eqb, leb}
 use lib.ListN.{length, take, getElem?}
 use borrow.Author.Tests.{leb-true, eq-eqb, ne-eqb, not-true, not-false}
-use Rattle.fields.specs.declared.calendar.Day.{Day}
+use Rattle.dates.specs.declared.calendar.Day.{Day}
 use Rattle.fields.specs.declared.number.Number.{Number}
 use Rattle.fields.specs.Lists.{written, cursorAfter}
 use Rattle.fields.specs.Amount.{isAmount}
-use Rattle.fields.specs.Calendar.{isDay, dayBefore}
+use Rattle.dates.specs.Calendar.{isDay, dayBefore}
 use Rattle.fields.specs.Codes.{isKind}
 use Rattle.fields.specs.Number.{isNumber}
 use Rattle.fields.proofs.Tests.{cond-elim}
 use Rattle.fields.proofs.OutLaws.{text-first, text-back}
-use Rattle.fields.proofs.DateLaws.{written-parts}
+use Rattle.dates.proofs.DateLaws.{written-parts}
 use Rattle.message.specs.declared.action.Action.{Action}
 use Rattle.message.specs.declared.action.Action.the-variants.{Check}
 use Rattle.message.specs.declared.request.Asked.{Asked}

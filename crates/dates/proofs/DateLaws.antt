@@ -1,0 +1,207 @@
+-- Laws of written dates.
+use Prim.Native.Nat.{ℕ, _+_, _≤_, _<_}
+use native.Mathlib.Nat.{add-assoc, le-trans}
+use native.Mathlib.Omega.{arith}
+use mathlib.Core.Path.{_≡_, refl, sym, ap, _∙_}
+use mathlib.Core.Bool.{Bool, true, false, cond, _&&_, and-false}
+use mathlib.Core.List.{List, [], _∷_, _++_, append-nil}
+use lib.Dec.{eqb, leb}
+use lib.ListN.{getD, length, drop, drop-of-length-le}
+use borrow.Author.Tests.{le-leb, lt-leb, eq-eqb, ne-eqb, leb-true, eqb-true}
+use Rattle.dates.specs.declared.calendar.Day.{Day}
+use Rattle.dates.specs.declared.calendar.DayRead.{DayRead}
+use Rattle.dates.specs.declared.calendar.DayRead.the-variants.{Good, NoDate}
+use Rattle.dates.specs.declared.date.DateRead.{DateRead}
+use Rattle.fields.specs.Lists.{every, written}
+use Rattle.fields.specs.Digits.{isDigit}
+use Rattle.dates.specs.Calendar.{isDate, dayOf, isDay, twoDigits, twoAt, dayPart}
+use Rattle.dates.specs.Date.{clockTime, dateDay, found, isWritten, emptyDate, noDate, dateRead}
+use Rattle.fields.proofs.Tests.{both, cond-elim}
+use Rattle.fields.proofs.ListLaws.{every-step, every-all}
+use Rattle.fields.proofs.OutLaws.{written-over}
+use Rattle.dates.proofs.DayLaws.{is-date, days-high, read-good, made}
+
+module _ (s : List ℕ) where
+  pub time-mark : (getD s 10 0 ≡ 84 → ⊥) → false ≡ clockTime s
+  unfolding clockTime
+  time-mark n = simp (ne-eqb _ _ n)
+
+  pub time-mark-2 : (getD s 13 0 ≡ 58 → ⊥) → false ≡ clockTime s
+  unfolding clockTime
+  time-mark-2 n = simp (ne-eqb _ _ n, and-false)
+
+  pub time-mark-3 : (getD s 16 0 ≡ 58 → ⊥) → false ≡ clockTime s
+  unfolding clockTime
+  time-mark-3 n = simp (ne-eqb _ _ n, and-false)
+
+  pub hour-high : (h : ℕ) → h ≡ twoDigits (getD s 11 0) (getD s 12 0) → 23 < h → false ≡ clockTime s
+  unfolding clockTime
+  hour-high h e l = rw (← e) (simp (lt-leb, and-false))
+
+  pub minute-high : (h : ℕ) → h ≡ twoDigits (getD s 14 0) (getD s 15 0) → 59 < h → false ≡ clockTime s
+  unfolding clockTime
+  minute-high h e l = rw (← e) (simp (lt-leb, and-false))
+
+  pub second-is : (h m t : ℕ) → getD s 10 0 ≡ 84 → getD s 13 0 ≡ 58 → getD s 16 0 ≡ 58
+      → h ≡ twoDigits (getD s 11 0) (getD s 12 0) → h ≤ 23
+      → m ≡ twoDigits (getD s 14 0) (getD s 15 0) → m ≤ 59
+      → t ≡ twoDigits (getD s 17 0) (getD s 18 0) → leb t 59 ≡ clockTime s
+  unfolding clockTime
+  second-is h m t a b c eh lh em lm et = rw (← eh, ← em, ← et) (simp (eq-eqb _ _ a, eq-eqb _ _ b, eq-eqb _ _ c, le-leb h 23 lh, le-leb m 59 lm))
+
+  module _ (t : Bool) (test : t ≡ clockTime s) where
+    pub date-no-time : t ≡ false → NoDate ≡ dateDay s
+    unfolding dateDay
+    date-no-time f = rw (← test, f) (simp and-false)
+
+    pub date-good : t ≡ true → length s ≡ 19 → (r : DayRead) → r ≡ dayPart s → r ≡ dateDay s
+    unfolding dateDay
+    date-good f l r e = e ∙ rw (← test, f, eq-eqb _ _ l)
+
+  module _ (x : DayRead) (ex : x ≡ dateDay s) where
+    pub written-is : (y : Day) → x ≡ Good y → true ≡ isWritten s
+    written-is y e = rw (← ex, e)
+
+    pub written-not : x ≡ NoDate → false ≡ isWritten s
+    written-not e = rw (← ex, e)
+
+-- ---- a field that holds one
+module _ (s : List ℕ) where
+  pub date-size : (r : DateRead) → r ≡ noDate → (length s ≡ 19 → ⊥) → r ≡ dateRead s
+  unfolding dateRead dateDay
+  date-size r q n = q ∙ simp (ne-eqb _ _ n)
+
+  whole : length s ≡ 19 → written emptyDate 0 s ≡ s
+  whole l =
+      let fit : 0 + length s ≤ length emptyDate = omega arith in
+      let past : length emptyDate ≤ 0 + length s = omega arith in
+      sym (written-over emptyDate 0 s fit) ∙ rw (drop-of-length-le emptyDate past) (append-nil s)
+
+  module _ (l : length s ≡ 19) (d : List ℕ) (ed : d ≡ written emptyDate 0 s) (t : Bool) (et : t ≡ isWritten d) where
+    same : d ≡ s
+    same = ed ∙ whole l
+
+    pub date-field : t ≡ true → record { ok = true; date = d } ≡ dateRead s
+    unfolding dateRead
+    date-field f = let g : isWritten s ≡ true = rw (← same) (sym et ∙ f) in rw (g, same)
+
+    pub date-bad : (r : DateRead) → r ≡ noDate → t ≡ false → r ≡ dateRead s
+    unfolding dateRead
+    date-bad r q f = let g : isWritten s ≡ false = rw (← same) (sym et ∙ f) in q ∙ rw g
+
+  -- a written date is read back
+  pub date-again : isWritten s ≡ true → dateRead s ≡ record { ok = true; date = s }
+  unfolding dateRead
+  date-again f = rw f
+
+-- ---- the day of a written date
+-- the tests that a day which was read has passed
+module _ (s : List ℕ) (x : Day) where
+  part-tests : dayPart s ≡ Good x
+      → (leb 10 (length s) && (eqb (getD s 4 0) 45 && (eqb (getD s 7 0) 45 && (eqb (twoAt s 0) 20 && leb (twoAt s 2) 99))) ≡ true)
+      × (dayOf (2000 + twoAt s 2) (twoAt s 5) (twoAt s 8) ≡ Good x)
+  unfolding dayPart
+  part-tests = read-good _ _
+
+  date-tests : dateDay s ≡ Good x → (eqb (length s) 19 && clockTime s ≡ true) × (dayPart s ≡ Good x)
+  unfolding dateDay
+  date-tests = read-good _ _
+
+  pub part-is-day : dayPart s ≡ Good x → isDay x ≡ true
+  part-is-day e =
+      made _ (record { year = 2000 + twoAt s 2; month = twoAt s 5; day = twoAt s 8 }) x refl (part-tests e .1) .0
+
+pub record DayOf (s : List ℕ) : Type 0 where
+  pub day : Day
+  pub is : dateDay s ≡ Good day
+  pub good : isDay day ≡ true
+
+pub date-day : (s : List ℕ) → isWritten s ≡ true → DayOf s
+date-day s = go (dateDay s) refl
+  where
+    go : (r : DayRead) → dateDay s ≡ r → found r ≡ true → DayOf s
+    go (Good x) e h = record { day = x; is = e; good = part-is-day s x (date-tests s x e .1) }
+    go NoDate e h = let z : _≡_ {A = ℕ} 0 1 = cc in absurd (omega arith)
+
+-- ---- what stands where
+-- what the test `isWritten` says
+pub record WrittenParts (s : List ℕ) : Type 0 where
+  pub size : length s ≡ 19
+  pub dash : getD s 4 0 ≡ 45
+  pub dash-2 : getD s 7 0 ≡ 45
+  pub mark : getD s 10 0 ≡ 84
+  pub colon : getD s 13 0 ≡ 58
+  pub colon-2 : getD s 16 0 ≡ 58
+  pub century : twoAt s 0 ≡ 20
+  pub year : twoAt s 2 ≤ 99
+  pub month : twoAt s 5 ≤ 12
+  pub day : twoAt s 8 ≤ 31
+  pub hour : twoAt s 11 ≤ 23
+  pub minute : twoAt s 14 ≤ 59
+  pub second : twoAt s 17 ≤ 59
+
+pub written-parts : (s : List ℕ) → isWritten s ≡ true → WrittenParts s
+unfolding clockTime dayOf
+written-parts s h =
+    let x = date-day s h in
+    let whole = date-tests s (x .day) (x .is) in
+    let part = part-tests s (x .day) (whole .1) in
+    let date = is-date _ _ _ (read-good (isDate (2000 + twoAt s 2) (twoAt s 5) (twoAt s 8)) _ (part .1) .0) in
+    let size = both (eqb (length s) 19) _ (whole .0) in
+    let mark = both (eqb (getD s 10 0) 84) _ (size .1) in
+    let colon = both (eqb (getD s 13 0) 58) _ (mark .1) in
+    let colon-2 = both (eqb (getD s 16 0) 58) _ (colon .1) in
+    let hour = both (leb (twoAt s 11) 23) _ (colon-2 .1) in
+    let minute = both (leb (twoAt s 14) 59) _ (hour .1) in
+    let long = both (leb 10 (length s)) _ (part .0) in
+    let dash = both (eqb (getD s 4 0) 45) _ (long .1) in
+    let dash-2 = both (eqb (getD s 7 0) 45) _ (dash .1) in
+    let century = both (eqb (twoAt s 0) 20) _ (dash-2 .1) in
+    record {
+      size = eqb-true _ _ (size .0);
+      dash = eqb-true _ _ (dash .0);
+      dash-2 = eqb-true _ _ (dash-2 .0);
+      mark = eqb-true _ _ (mark .0);
+      colon = eqb-true _ _ (colon .0);
+      colon-2 = eqb-true _ _ (colon-2 .0);
+      century = eqb-true _ _ (century .0);
+      year = leb-true _ _ (century .1);
+      month = date .month-high;
+      day = le-trans (date .day-high) (days-high _ _);
+      hour = leb-true _ _ (hour .0);
+      minute = leb-true _ _ (minute .0);
+      second = leb-true _ _ (minute .1);
+    }
+
+-- ---- its bytes
+pub two-digits : (a b : ℕ) → twoDigits a b ≤ 99 → (isDigit a ≡ true) × (isDigit b ≡ true)
+unfolding twoDigits
+two-digits a b h =
+    let t = isDigit a && isDigit b in
+    both (isDigit a) (isDigit b) (cond-elim (λ n. n ≤ 99 → t ≡ true) t _ 100 (λ e l. e) (λ e l. absurd (omega arith)) h)
+
+module _ (p : ℕ → Bool) (s : List ℕ) (digit : (b : ℕ) → isDigit b ≡ true → p b ≡ true) where
+  pair-step : (i : ℕ) → i + 1 < length s → twoAt s i ≤ 99 → every p s ≡ every p (drop i s) → every p s ≡ every p (drop (i + 2) s)
+  pair-step i l h passed =
+      let d = two-digits (getD s i 0) (getD s (i + 1) 0) h in
+      let one = every-step p s i passed (omega arith) (digit _ (d .0)) in
+      let two = every-step p s (i + 1) one l (digit _ (d .1)) in
+      rw add-assoc at two
+
+  -- a written date has digits and its marks only
+  pub date-bytes : p 45 ≡ true → p 84 ≡ true → p 58 ≡ true → isWritten s ≡ true → every p s ≡ true
+  date-bytes dash mark colon h =
+      let w = written-parts s h in
+      let a = pair-step 0 (omega arith) (omega arith) refl in
+      let b = pair-step 2 (omega arith) (w .year) a in
+      let c = every-step p s 4 b (omega arith) (rw (w .dash) dash) in
+      let d = pair-step 5 (omega arith) (omega arith) c in
+      let e = every-step p s 7 d (omega arith) (rw (w .dash-2) dash) in
+      let f = pair-step 8 (omega arith) (omega arith) e in
+      let g = every-step p s 10 f (omega arith) (rw (w .mark) mark) in
+      let i = pair-step 11 (omega arith) (omega arith) g in
+      let j = every-step p s 13 i (omega arith) (rw (w .colon) colon) in
+      let k = pair-step 14 (omega arith) (omega arith) j in
+      let m = every-step p s 16 k (omega arith) (rw (w .colon-2) colon) in
+      let n = pair-step 17 (omega arith) (omega arith) m in
+      every-all p s 19 n (omega arith)

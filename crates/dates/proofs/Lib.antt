@@ -1,0 +1,6 @@
+pub mod CalendarLaws
+pub mod DayLaws
+pub mod DateLaws
+pub mod DayTests
+pub mod KeyLaws
+pub mod Samples

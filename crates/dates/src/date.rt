@@ -1,0 +1,118 @@
+// Written dates: nineteen bytes, YYYY-MM-DDThh:mm:ss.
+use crate::calendar;
+use crate::calendar::Day;
+use crate::calendar::DayRead;
+use fields::out;
+use fields::scan;
+ghost use mathlib.Core.Path.{_≡_};
+ghost use Rattle.dates.specs.Calendar.{onDay, upTo};
+ghost use Rattle.dates.specs.Date.{clockTime, dateDay, isWritten, noDate, dateRead};
+ghost use Rattle.fields.specs.Lists.{eqList, written, cursorAfter};
+
+// A written date, or `ok` false and nineteen zero bytes.
+pub struct DateRead {
+    pub ok: bool,
+    pub date: [u8; 19],
+}
+
+// Whether a T and a time of the day follow the day.
+pub fn has_time(d: [u8; 19]) -> bool
+    ensures { λ r. ⌜ r ≡ clockTime d ⌝ }
+{
+    if d[10] != 84 {
+        return false;
+    }
+    if d[13] != 58 {
+        return false;
+    }
+    if d[16] != 58 {
+        return false;
+    }
+    if 23 < calendar::two(d[11], d[12]) {
+        return false;
+    }
+    if 59 < calendar::two(d[14], d[15]) {
+        return false;
+    }
+    calendar::two(d[17], d[18]) <= 59
+}
+
+// The day of a written date.
+pub fn day_of_date(d: [u8; 19]) -> DayRead
+    ensures { λ r. ⌜ r ≡ dateDay d ⌝ }
+{
+    if has_time(d) {
+        let a = d;
+        calendar::day_part(&a)
+    } else {
+        DayRead::NoDate
+    }
+}
+
+// Whether nineteen bytes are a written date.
+pub fn is_written(d: [u8; 19]) -> bool
+    ensures { λ r. ⌜ r ≡ isWritten d ⌝ }
+{
+    let x = day_of_date(d);
+    match x {
+        DayRead::Good(_) => true,
+        DayRead::NoDate => false,
+    }
+}
+
+// Whether a written date is on the day.
+pub fn is_on(day: Day, d: [u8; 19]) -> bool
+    ensures { λ r. ⌜ r ≡ onDay day (dateDay d) ⌝ }
+{
+    calendar::is_this(day, day_of_date(d))
+}
+
+// Whether a written date is on or before the last of some days.
+pub fn is_up_to(last: Day, d: [u8; 19]) -> bool
+    ensures { λ r. ⌜ r ≡ upTo last (dateDay d) ⌝ }
+{
+    calendar::is_until(last, day_of_date(d))
+}
+
+// What a field that is no written date reads as.
+pub fn no_date() -> DateRead
+    ensures { λ r. ⌜ r ≡ noDate ⌝ }
+{
+    DateRead {
+        ok: false,
+        date: [0u8; 19],
+    }
+}
+
+// A written date, from its bytes.
+pub fn read_date(s: &[u8]) -> DateRead
+    ensures { λ r. ⌜ r ≡ dateRead (now (s .entry)) ⌝ }
+{
+    if s.len() != 19 {
+        return no_date();
+    }
+    let mut date = [0u8; 19];
+    out::put_bytes(s, &mut date, 0);
+    if is_written(date) {
+        DateRead { ok: true, date }
+    } else {
+        no_date()
+    }
+}
+
+// Whether two written dates are one.
+pub fn same_date(a: [u8; 19], b: [u8; 19]) -> bool
+    ensures { λ r. ⌜ r ≡ eqList a b ⌝ }
+{
+    let x = a;
+    let y = b;
+    scan::same_bytes(&x, &y)
+}
+
+// Writes a written date at the cursor, where it has room.
+pub fn write_date(d: [u8; 19], dst: &mut [u8], at: usize) -> usize
+    ensures { λ r. ⌜ (r ≡ cursorAfter (now (dst .entry)) at d) × (now (dst .exit) ≡ written (now (dst .entry)) at d) ⌝ }
+{
+    let a = d;
+    out::put_bytes(&a, dst, at)
+}

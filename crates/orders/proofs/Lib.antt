@@ -1,0 +1,5 @@
+pub mod FieldLaws
+pub mod TurnLaws
+pub mod SumLaws
+pub mod SummableLaws
+pub mod PrintLaws

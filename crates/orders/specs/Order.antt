@@ -1,0 +1,120 @@
+-- Document 01, the session program: one line of input, what it does, and what it prints.
+use Prim.Native.Nat.{ℕ, suc, _+_}
+use mathlib.Core.List.{List, [], _∷_, _++_}
+use mathlib.Core.Bool.{Bool, true, false, cond, _&&_}
+use lib.Dec.{eqb, leb}
+use lib.IntN.{ℤ, pos, negsuc, _+ℤ_}
+use lib.ListN.{length, drop, getD, replicate}
+use Rattle.dates.specs.declared.calendar.DayRead.{DayRead}
+use Rattle.dates.specs.declared.calendar.DayRead.the-variants.{Good, NoDate}
+use Rattle.fields.specs.declared.digits.Digits.{Digits}
+use Rattle.fields.specs.declared.digits.Digits.the-variants.{Value, Malformed}
+use Rattle.fields.specs.Lists.{find, eqList}
+use Rattle.fields.specs.Digits.{digitsRead, decimal}
+use Rattle.fields.specs.Codes.{kindRead}
+use Rattle.fields.specs.Number.{numberRead}
+use Rattle.dates.specs.Calendar.{dayFault, dayRead}
+use Rattle.dates.specs.Date.{dateRead}
+use Rattle.coding.specs.Params.{splitAt}
+use Rattle.table.specs.declared.Account.{Account}
+use Rattle.table.specs.declared.Gate.{Gate}
+use Rattle.table.specs.Table.{Rows}
+use Rattle.table.specs.Accounts.{accountsOf, withClosed}
+use Rattle.gate.specs.declared.Reply.{Reply}
+use Rattle.gate.specs.Opening.{openCall, drawCall}
+use Rattle.gate.specs.Deliver.{deliver, Delivered}
+use Rattle.orders.specs.declared.Console.{Console}
+
+-- ---- the fields of a line: every space (32) splits
+abbrev pub spaced : List ℕ → List (List ℕ)
+spaced l = splitAt 32 l
+
+abbrev pub fieldCount : List ℕ → ℕ
+fieldCount l = length (spaced l)
+
+abbrev pub fieldAt : ℕ → List ℕ → List ℕ
+fieldAt i l = getD (spaced l) i []
+
+-- a line of this letter
+abbrev pub hasLetter : ℕ → List ℕ → Bool
+hasLetter letter l = eqList (fieldAt 0 l) (letter ∷ [])
+
+-- the rest of an R behind its second space
+abbrev pub afterSpace : List ℕ → List ℕ
+afterSpace s = drop (suc (find 32 s)) s
+
+abbrev pub paramsIn : List ℕ → List ℕ
+paramsIn l = afterSpace (afterSpace l)
+
+-- ---- what a line does
+-- its code, or 99; the console and the rows after it
+pub record Turn : Type 0 where
+  pub code : ℕ
+  pub console : Console
+  pub rows : Rows
+
+abbrev pub unread : Console → Rows → Turn
+unread x t = record { code = 99; console = x; rows = t }
+
+abbrev pub replied : Rows → Reply → Turn
+replied t r = record { code = r .code; console = record { started = true; gate = r .gate }; rows = t }
+
+-- C day: a day that is a date starts the session, and a day that is none is 99
+abbrev pub startAt : Console → DayRead → Console
+startAt x NoDate = x
+startAt x (Good d) = record { started = true; gate = withClosed (x .gate) d }
+
+abbrev pub startOn : Console → Rows → DayRead → Turn
+startOn x t d = record { code = dayFault 99 d; console = startAt x d; rows = t }
+
+unfoldable pub startTurn : Console → Rows → List ℕ → Turn
+startTurn x t l = cond (hasLetter 67 l && eqb (fieldCount l) 2) (startOn x t (dayRead (fieldAt 1 l))) (unread x t)
+
+-- a type that is malformed, as a type that is none
+abbrev pub kindIn : Digits → ℕ
+kindIn Malformed = 1000
+kindIn (Value k) = k
+
+-- O number type
+unfoldable pub openTurn : Console → Rows → List ℕ → Turn
+openTurn x t l = replied t (openCall (x .gate) t ((numberRead (fieldAt 1 l)) .number) (kindIn (kindRead (fieldAt 2 l))))
+
+-- D number type kopecks: kopecks are 1 to 15 digits
+abbrev pub drawOf : Console → Rows → List ℕ → Digits → Turn
+drawOf x t l Malformed = unread x t
+drawOf x t l (Value n) = replied t (drawCall (x .gate) t ((numberRead (fieldAt 1 l)) .number) (kindIn (kindRead (fieldAt 2 l))) n)
+
+unfoldable pub drawTurn : Console → Rows → List ℕ → Turn
+drawTurn x t l = drawOf x t l (digitsRead 15 (fieldAt 3 l))
+
+-- R clock parameters: the answer goes into a buffer of 512 bytes
+abbrev pub answered : Delivered → Turn
+answered d = record { code = d .code; console = record { started = true; gate = d .gate }; rows = d .rows }
+
+unfoldable pub askTurn : Console → Rows → List ℕ → Turn
+askTurn x t l = answered (deliver (x .gate) t ((dateRead (fieldAt 1 l)) .date) (paramsIn l) (replicate 512 0))
+
+-- the letter decides; another letter or field count is 99, and so is every C of a started session
+unfoldable pub orderTurn : Console → Rows → List ℕ → Turn
+orderTurn x t l =
+    cond (hasLetter 79 l && eqb (fieldCount l) 3) (openTurn x t l)
+    (cond (hasLetter 68 l && eqb (fieldCount l) 4) (drawTurn x t l)
+    (cond (hasLetter 82 l && leb 3 (fieldCount l)) (askTurn x t l) (unread x t)))
+
+unfoldable pub lineTurn : Console → Rows → List ℕ → Turn
+lineTurn x t l = cond (x .started) (orderTurn x t l) (startTurn x t l)
+
+-- ---- what is printed: the code, the records used and the sum of balances, or 99 alone
+unfoldable pub sumBalances : List Account → ℤ
+sumBalances [] = pos 0
+sumBalances (a ∷ l) = a .balance +ℤ sumBalances l
+
+unfoldable pub signedText : ℤ → List ℕ
+signedText (pos n) = decimal n
+signedText (negsuc n) = 45 ∷ decimal (suc n)
+
+unfoldable pub figures : ℕ → Gate → List ℕ
+figures code g = decimal code ++ ((32 ∷ decimal (g .used)) ++ ((32 ∷ signedText (sumBalances (accountsOf g))) ++ (10 ∷ [])))
+
+unfoldable pub turnText : Turn → List ℕ
+turnText r = cond (eqb (r .code) 99) (57 ∷ (57 ∷ (10 ∷ []))) (figures (r .code) (r .console .gate))
