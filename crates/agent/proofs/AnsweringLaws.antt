@@ -20,7 +20,7 @@ use Rattle.book.specs.BookValid.{bookGood, ReadyBook}
 use Rattle.book.proofs.EntryLaws.{getD-entries, book-set}
 use Rattle.agent.specs.declared.meaning.Meaning.{Meaning}
 use Rattle.daybook.specs.Acceptance.{isFrozen}
-use Rattle.agent.specs.Answering.{Took, meaning, turned, credits, authcodeAfter, answeredEntry, takeAt, takeReceipt, checkCode, takeFor, takeAnswer}
+use Rattle.agent.specs.Answering.{Taking, meaning, turned, credits, authcodeAfter, answeredEntry, takeAt, takeReceipt, checkCode, takeFor, takeAnswer}
 
 -- ---- the authcode after an answer
 module _ (credited : Bool) (x : Answer) (e : Entry) where
@@ -45,7 +45,7 @@ answered-is m x e s s′ n code credit es et en ec ea = rw (en, et, ea, ec, es)
 
 -- ---- the entry at i
 module _ (b : Book) (t : BookRows) (i : ℕ) (a : Action) (text : List ℕ) (x : AnswerRead) (ex : x ≡ answerRead a text) where
-  pub at-unread : (rows : BookRows) → not (x .ok) ≡ true → rows ≡ t → _≡_ {A = Took} (record { code = 64; rows = rows }) (takeAt b t a text (At i))
+  pub at-unread : (rows : BookRows) → not (x .ok) ≡ true → rows ≡ t → _≡_ {A = Taking} (record { code = 64; rows = rows }) (takeAt b t a text (At i))
   unfolding takeAt
   at-unread rows h er = rw (← ex, not-true (x .ok) h, er)
 
@@ -53,12 +53,12 @@ module _ (b : Book) (t : BookRows) (i : ℕ) (a : Action) (text : List ℕ) (x :
     frozen-there : f ≡ isFrozen b ((entryAt t i) .date)
     frozen-there = ef ∙ ap (λ (v : Entry). isFrozen b (v .date)) ee
 
-    pub at-frozen : (rows : BookRows) → f ≡ true → rows ≡ t → _≡_ {A = Took} (record { code = 0; rows = rows }) (takeAt b t a text (At i))
+    pub at-frozen : (rows : BookRows) → f ≡ true → rows ≡ t → _≡_ {A = Taking} (record { code = 0; rows = rows }) (takeAt b t a text (At i))
     unfolding takeAt
     at-frozen rows y er = rw (← ex, not-false (x .ok) h, getD-entries t (b .used) i noEntry l, ← frozen-there, y, er)
 
     pub at-answered : (m : Meaning) (e′ : Entry) (rows : BookRows) → f ≡ false → ReadyBook b t → m ≡ meaning a (x .answer .code) → e′ ≡ answeredEntry m (x .answer) e
-        → rows ≡ bookWith t i e′ → _≡_ {A = Took} (record { code = 0; rows = rows }) (takeAt b t a text (At i))
+        → rows ≡ bookWith t i e′ → _≡_ {A = Taking} (record { code = 0; rows = rows }) (takeAt b t a text (At i))
     unfolding takeAt
     at-answered m e′ rows n ready em ea er =
         let w : e′ ≡ answeredEntry m (x .answer) (entryAt t i) = ea ∙ ap (answeredEntry m (x .answer)) ee in
@@ -66,16 +66,16 @@ module _ (b : Book) (t : BookRows) (i : ℕ) (a : Action) (text : List ℕ) (x :
 
 -- ---- a receipt
 module _ (b : Book) (t : BookRows) (a : Action) (receipt : ℕ) (text : List ℕ) (r : Bool) (er : r ≡ isReceipt receipt) where
-  pub not-receipt : (rows : BookRows) → not r ≡ true → rows ≡ t → _≡_ {A = Took} (record { code = 60; rows = rows }) (takeReceipt b t a receipt text)
+  pub not-receipt : (rows : BookRows) → not r ≡ true → rows ≡ t → _≡_ {A = Taking} (record { code = 60; rows = rows }) (takeReceipt b t a receipt text)
   unfolding takeReceipt
   not-receipt rows h e = rw (← er, not-true r h, e)
 
   module _ (h : not r ≡ false) (p : Found) (ep : p ≡ findEntry receipt (entriesOf t (b .used))) where
-    pub none-found : (rows : BookRows) → p ≡ Nothing → rows ≡ t → _≡_ {A = Took} (record { code = 62; rows = rows }) (takeReceipt b t a receipt text)
+    pub none-found : (rows : BookRows) → p ≡ Nothing → rows ≡ t → _≡_ {A = Taking} (record { code = 62; rows = rows }) (takeReceipt b t a receipt text)
     unfolding takeReceipt takeAt
     none-found rows n e = rw (← er, not-false r h, ← ep, n, e)
 
-    pub one-found : (i : ℕ) (k : Took) → p ≡ At i → k ≡ takeAt b t a text (At i) → k ≡ takeReceipt b t a receipt text
+    pub one-found : (i : ℕ) (k : Taking) → p ≡ At i → k ≡ takeAt b t a text (At i) → k ≡ takeReceipt b t a receipt text
     unfolding takeReceipt
     one-found i k y q = q ∙ rw (← er, not-false r h, ← ep, y)
 
@@ -90,13 +90,13 @@ module _ (text : List ℕ) (x : AnswerRead) (ex : x ≡ answerRead Check text) w
   check-unread h = rw (← ex, h)
 
 module _ (b : Book) (t : BookRows) (a : Action) (receipt : ℕ) (text : List ℕ) (g : Bool) (eg : g ≡ bookGood b t) where
-  pub take-not-book : (rows : BookRows) → not g ≡ true → rows ≡ t → _≡_ {A = Took} (record { code = 68; rows = rows }) (takeAnswer b t a receipt text)
+  pub take-not-book : (rows : BookRows) → not g ≡ true → rows ≡ t → _≡_ {A = Taking} (record { code = 68; rows = rows }) (takeAnswer b t a receipt text)
   unfolding takeAnswer
   take-not-book rows h e = rw (← eg, not-true g h, e)
 
-  pub take-for : (a′ : Action) (k : Took) → not g ≡ false → a ≡ a′ → k ≡ takeFor b t a′ receipt text → k ≡ takeAnswer b t a receipt text
+  pub take-for : (a′ : Action) (k : Taking) → not g ≡ false → a ≡ a′ → k ≡ takeFor b t a′ receipt text → k ≡ takeAnswer b t a receipt text
   unfolding takeAnswer
   take-for a′ k h ea q = q ∙ rw (← eg, not-false g h, ea)
 
-pub check-took : (t rows : BookRows) (text : List ℕ) (n : ℕ) → n ≡ checkCode text → rows ≡ t → _≡_ {A = Took} (record { code = n; rows = rows }) (record { code = checkCode text; rows = t })
+pub check-took : (t rows : BookRows) (text : List ℕ) (n : ℕ) → n ≡ checkCode text → rows ≡ t → _≡_ {A = Taking} (record { code = n; rows = rows }) (record { code = checkCode text; rows = t })
 check-took t rows text n en er = rw (en, er)

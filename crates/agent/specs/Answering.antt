@@ -22,9 +22,12 @@ use Rattle.agent.specs.declared.meaning.Meaning.the-variants.{Paid, Revo
 use Rattle.daybook.specs.Acceptance.{isFrozen}
 
 -- what an answer answers and leaves
-pub record Took : Type 0 where
+pub record Taking : Type 0 where
   pub code : ℕ
   pub rows : BookRows
+
+abbrev pub takingOf : ℕ → BookRows → Taking
+takingOf code rows = record { code = code; rows = rows }
 
 -- ---- what an answer says: paid is payment's or status' 0, revoked is any 7 and cancel's 0; whatever else it says leaves the payment open
 unfoldable pub paymentMeaning : ℕ → Meaning
@@ -79,11 +82,11 @@ answeredEntry m x e =
     }
 
 -- ---- the call
-abbrev pub took : ℕ → BookRows → Took
+abbrev pub took : ℕ → BookRows → Taking
 took code t = record { code = code; rows = t }
 
 -- an entry of a frozen day is moved by no answer
-unfoldable pub takeAt : Book → BookRows → Action → List ℕ → Found → Took
+unfoldable pub takeAt : Book → BookRows → Action → List ℕ → Found → Taking
 takeAt b t a text Nothing = took 62 t
 takeAt b t a text (At i) =
     let e = getD (entriesOf t (b .used)) i noEntry in
@@ -92,18 +95,18 @@ takeAt b t a text (At i) =
     (took 0 (bookFrom t (set (entriesOf t (b .used)) i (answeredEntry (meaning a ((answerRead a text) .answer .code)) ((answerRead a text) .answer) e)))))
     (took 64 t)
 
-unfoldable pub takeReceipt : Book → BookRows → Action → ℕ → List ℕ → Took
+unfoldable pub takeReceipt : Book → BookRows → Action → ℕ → List ℕ → Taking
 takeReceipt b t a receipt text = cond (isReceipt receipt) (takeAt b t a text (findEntry receipt (entriesOf t (b .used)))) (took 60 t)
 
 -- a check's answer has no receipt and moves nothing
 unfoldable pub checkCode : List ℕ → ℕ
 checkCode text = cond ((answerRead Check text) .ok) 0 64
 
-unfoldable pub takeFor : Book → BookRows → Action → ℕ → List ℕ → Took
+unfoldable pub takeFor : Book → BookRows → Action → ℕ → List ℕ → Taking
 takeFor b t Check receipt text = took (checkCode text) t
 takeFor b t Payment receipt text = takeReceipt b t Payment receipt text
 takeFor b t Status receipt text = takeReceipt b t Status receipt text
 takeFor b t Cancel receipt text = takeReceipt b t Cancel receipt text
 
-unfoldable pub takeAnswer : Book → BookRows → Action → ℕ → List ℕ → Took
+unfoldable pub takeAnswer : Book → BookRows → Action → ℕ → List ℕ → Taking
 takeAnswer b t a receipt text = cond (bookGood b t) (takeFor b t a receipt text) (took 68 t)

@@ -23,18 +23,22 @@ use Rattle.book.specs.declared.State.the-variants.{Asked, Credited, CancelAsked
 use Rattle.book.specs.Entries.{BookRows, stateOf, stateNumber, noEntry, entriesOf, bookFrom, findEntry}
 use Rattle.book.specs.BookValid.{bookGood}
 use Rattle.daybook.specs.Acceptance.{isFrozen}
+use Rattle.daybook.specs.declared.Writing.{Writing as Given}
 
 -- what a writing answers and leaves; `size` bytes of the buffer hold the request, none with a fault
-pub record Wrote : Type 0 where
+pub record Writing : Type 0 where
   pub code : ℕ
   pub rows : BookRows
   pub out : List ℕ
   pub size : ℕ
 
-abbrev pub unwritten : ℕ → BookRows → List ℕ → Wrote
+abbrev pub writingOf : Given → BookRows → List ℕ → Writing
+writingOf r rows out = record { code = r .code; rows = rows; out = out; size = r .size }
+
+abbrev pub unwritten : ℕ → BookRows → List ℕ → Writing
 unwritten code t out = record { code = code; rows = t; out = out; size = 0 }
 
-abbrev pub wrote : BookRows → List ℕ → List ℕ → Wrote
+abbrev pub wrote : BookRows → List ℕ → List ℕ → Writing
 wrote t out text = record { code = 0; rows = t; out = written out 0 text; size = cursorAfter out 0 text }
 
 -- ---- which writing a state allows: a payment while it is asked, a status always, a cancel until the payment is cancelled or unposted
@@ -97,7 +101,7 @@ formsGood Cancel receipt reason = isReceipt receipt && isReason reason
 unfoldable pub isOpen : Book → Action → Entry → Bool
 isOpen b a e = mayWrite a (stateOf (e .state)) && not (isFrozen b (e .date))
 
-unfoldable pub writeAt : Book → BookRows → Action → ℕ → List ℕ → Found → Wrote
+unfoldable pub writeAt : Book → BookRows → Action → ℕ → List ℕ → Found → Writing
 writeAt b t a reason out Nothing = unwritten 62 t out
 writeAt b t a reason out (At i) =
     let e = getD (entriesOf t (b .used)) i noEntry in
@@ -105,7 +109,7 @@ writeAt b t a reason out (At i) =
     (wrote (bookFrom t (set (entriesOf t (b .used)) i (writtenEntry a e))) out (requestText (requestOf a e reason)))
     (unwritten 63 t out)
 
-unfoldable pub writeRequest : Book → BookRows → Action → ℕ → ℕ → List ℕ → Wrote
+unfoldable pub writeRequest : Book → BookRows → Action → ℕ → ℕ → List ℕ → Writing
 writeRequest b t a receipt reason out =
     cond (bookGood b t)
     (cond (leb 512 (length out))
@@ -117,7 +121,7 @@ writeRequest b t a receipt reason out =
 unfoldable pub checkOf : Number → ℕ → ℕ → Request
 checkOf n k amount = record { action = Check; number = n; kind = k; amount = amount; receipt = 0; date = emptyDate; reason = 0 }
 
-unfoldable pub writeCheck : Book → BookRows → Number → ℕ → ℕ → List ℕ → Wrote
+unfoldable pub writeCheck : Book → BookRows → Number → ℕ → ℕ → List ℕ → Writing
 writeCheck b t n k amount out =
     cond (bookGood b t)
     (cond (leb 512 (length out))

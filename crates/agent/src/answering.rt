@@ -16,7 +16,7 @@ ghost use mathlib.Core.Bool.{true};
 ghost use Prim.Native.Nat.{_<_};
 ghost use Rattle.lists.specs.declared.Found.the-variants.{At};
 ghost use Rattle.book.specs.BookValid.{bookGood, ReadyBook};
-ghost use Rattle.agent.specs.Answering.{Took, authcodeAfter, answeredEntry, takeAt, takeReceipt, checkCode, takeAnswer};
+ghost use Rattle.agent.specs.Answering.{takingOf, authcodeAfter, answeredEntry, takeAt, takeReceipt, checkCode, takeAnswer};
 ghost use Rattle.book.specs.Lent.{lentBook, bookBefore, bookAfter};
 
 // The authcode of an entry after an answer.
@@ -59,9 +59,7 @@ pub(crate) fn take_at(
     text: &[u8],
 ) -> u64
     requires { ⌜ ReadyBook b (lentBook nums numbers dates) × (i < b .used) ⌝ }
-    ensures { λ r. ⌜ _≡_ {A = Took}
-        (record { code = r; rows = bookAfter nums numbers dates })
-        (takeAt b (bookBefore nums numbers dates) a (now (text .entry)) (At i)) ⌝ }
+    ensures { λ r. ⌜ takingOf r (bookAfter nums numbers dates) ≡ takeAt b (bookBefore nums numbers dates) a (now (text .entry)) (At i) ⌝ }
 {
     let x = read::read_answer(a, text);
     if !x.ok {
@@ -89,9 +87,7 @@ pub(crate) fn take_receipt(
     text: &[u8],
 ) -> u64
     requires { ⌜ (bookGood b (lentBook nums numbers dates) ≡ true) × ReadyBook b (lentBook nums numbers dates) ⌝ }
-    ensures { λ r. ⌜ _≡_ {A = Took}
-        (record { code = r; rows = bookAfter nums numbers dates })
-        (takeReceipt b (bookBefore nums numbers dates) a receipt (now (text .entry))) ⌝ }
+    ensures { λ r. ⌜ takingOf r (bookAfter nums numbers dates) ≡ takeReceipt b (bookBefore nums numbers dates) a receipt (now (text .entry)) ⌝ }
 {
     if !codes::is_receipt(receipt) {
         return 60;
@@ -121,9 +117,7 @@ pub fn take_answer(
     receipt: u64,
     text: &[u8],
 ) -> u64
-    ensures { λ r. ⌜ _≡_ {A = Took}
-        (record { code = r; rows = bookAfter nums numbers dates })
-        (takeAnswer b (bookBefore nums numbers dates) a receipt (now (text .entry))) ⌝ }
+    ensures { λ r. ⌜ takingOf r (bookAfter nums numbers dates) ≡ takeAnswer b (bookBefore nums numbers dates) a receipt (now (text .entry)) ⌝ }
 {
     if !valid::book_good(nums, numbers, dates, b) {
         return 68;

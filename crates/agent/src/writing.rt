@@ -5,7 +5,7 @@ use book::State;
 use book::find;
 use book::rows;
 use book::valid;
-use daybook::Sent;
+use daybook::Writing;
 use daybook::frozen;
 use fields::codes;
 use fields::number::Number;
@@ -18,7 +18,7 @@ ghost use Prim.Native.Nat.{_<_};
 ghost use Rattle.message.specs.declared.action.Action.the-variants.{Payment, Status, Cancel};
 ghost use Rattle.lists.specs.declared.Found.the-variants.{At};
 ghost use Rattle.book.specs.BookValid.{ReadyBook};
-ghost use Rattle.agent.specs.Writing.{Wrote, mayWrite, writtenEntry, requestOf, checkOf, formsGood, isOpen, writeAt, writeRequest, writeCheck};
+ghost use Rattle.agent.specs.Writing.{writingOf, mayWrite, writtenEntry, requestOf, checkOf, formsGood, isOpen, writeAt, writeRequest, writeCheck};
 ghost use Rattle.book.specs.Lent.{lentBook, bookBefore, bookAfter};
 
 // Whether the state allows the writing.
@@ -114,19 +114,17 @@ pub(crate) fn write_entry(
     a: Action,
     reason: u64,
     out: &mut [u8],
-) -> Sent
+) -> Writing
     requires { ⌜ ReadyBook b (lentBook nums numbers dates) × (i < b .used) ⌝ }
-    ensures { λ r. ⌜ _≡_ {A = Wrote}
-        (record { code = r .code; rows = bookAfter nums numbers dates; out = now (out .exit); size = r .size })
-        (writeAt b (bookBefore nums numbers dates) a reason (now (out .entry)) (At i)) ⌝ }
+    ensures { λ r. ⌜ writingOf r (bookAfter nums numbers dates) (now (out .exit)) ≡ writeAt b (bookBefore nums numbers dates) a reason (now (out .entry)) (At i) ⌝ }
 {
     let e = rows::load_entry(nums, numbers, dates, i);
     if !is_open(b, a, e) {
-        return Sent { code: 63, size: 0 };
+        return Writing { code: 63, size: 0 };
     }
     let size = write::write_request(request_of(a, e, reason), out, 0);
     rows::store_entry(nums, numbers, dates, i, written_entry(a, e));
-    Sent { code: 0, size }
+    Writing { code: 0, size }
 }
 
 // A request of an entry, by its receipt.
@@ -139,23 +137,21 @@ pub(crate) fn write_for(
     receipt: u64,
     reason: u64,
     out: &mut [u8],
-) -> Sent
-    ensures { λ r. ⌜ _≡_ {A = Wrote}
-        (record { code = r .code; rows = bookAfter nums numbers dates; out = now (out .exit); size = r .size })
-        (writeRequest b (bookBefore nums numbers dates) a receipt reason (now (out .entry))) ⌝ }
+) -> Writing
+    ensures { λ r. ⌜ writingOf r (bookAfter nums numbers dates) (now (out .exit)) ≡ writeRequest b (bookBefore nums numbers dates) a receipt reason (now (out .entry)) ⌝ }
 {
     if !valid::book_good(nums, numbers, dates, b) {
-        return Sent { code: 68, size: 0 };
+        return Writing { code: 68, size: 0 };
     }
     if out.len() < 512 {
-        return Sent { code: 50, size: 0 };
+        return Writing { code: 50, size: 0 };
     }
     if !forms_good(a, receipt, reason) {
-        return Sent { code: 60, size: 0 };
+        return Writing { code: 60, size: 0 };
     }
     let found = find::find_entry(nums, numbers, dates, b, receipt);
     match found {
-        Found::Nothing => Sent { code: 62, size: 0 },
+        Found::Nothing => Writing { code: 62, size: 0 },
         Found::At(i) => write_entry(nums, numbers, dates, b, i, a, reason, out),
     }
 }
@@ -168,10 +164,8 @@ pub fn write_payment(
     b: Book,
     receipt: u64,
     out: &mut [u8],
-) -> Sent
-    ensures { λ r. ⌜ _≡_ {A = Wrote}
-        (record { code = r .code; rows = bookAfter nums numbers dates; out = now (out .exit); size = r .size })
-        (writeRequest b (bookBefore nums numbers dates) Payment receipt 0 (now (out .entry))) ⌝ }
+) -> Writing
+    ensures { λ r. ⌜ writingOf r (bookAfter nums numbers dates) (now (out .exit)) ≡ writeRequest b (bookBefore nums numbers dates) Payment receipt 0 (now (out .entry)) ⌝ }
 {
     write_for(nums, numbers, dates, b, Action::Payment, receipt, 0, out)
 }
@@ -184,10 +178,8 @@ pub fn write_status(
     b: Book,
     receipt: u64,
     out: &mut [u8],
-) -> Sent
-    ensures { λ r. ⌜ _≡_ {A = Wrote}
-        (record { code = r .code; rows = bookAfter nums numbers dates; out = now (out .exit); size = r .size })
-        (writeRequest b (bookBefore nums numbers dates) Status receipt 0 (now (out .entry))) ⌝ }
+) -> Writing
+    ensures { λ r. ⌜ writingOf r (bookAfter nums numbers dates) (now (out .exit)) ≡ writeRequest b (bookBefore nums numbers dates) Status receipt 0 (now (out .entry)) ⌝ }
 {
     write_for(nums, numbers, dates, b, Action::Status, receipt, 0, out)
 }
@@ -201,10 +193,8 @@ pub fn write_cancel(
     receipt: u64,
     reason: u64,
     out: &mut [u8],
-) -> Sent
-    ensures { λ r. ⌜ _≡_ {A = Wrote}
-        (record { code = r .code; rows = bookAfter nums numbers dates; out = now (out .exit); size = r .size })
-        (writeRequest b (bookBefore nums numbers dates) Cancel receipt reason (now (out .entry))) ⌝ }
+) -> Writing
+    ensures { λ r. ⌜ writingOf r (bookAfter nums numbers dates) (now (out .exit)) ≡ writeRequest b (bookBefore nums numbers dates) Cancel receipt reason (now (out .entry)) ⌝ }
 {
     write_for(
         nums,
@@ -243,21 +233,19 @@ pub fn write_check(
     kind: u64,
     kopecks: u64,
     out: &mut [u8],
-) -> Sent
-    ensures { λ r. ⌜ _≡_ {A = Wrote}
-        (record { code = r .code; rows = bookBefore nums numbers dates; out = now (out .exit); size = r .size })
-        (writeCheck b (bookBefore nums numbers dates) n kind kopecks (now (out .entry))) ⌝ }
+) -> Writing
+    ensures { λ r. ⌜ writingOf r (bookBefore nums numbers dates) (now (out .exit)) ≡ writeCheck b (bookBefore nums numbers dates) n kind kopecks (now (out .entry)) ⌝ }
 {
     if !valid::book_good(nums, numbers, dates, b) {
-        return Sent { code: 68, size: 0 };
+        return Writing { code: 68, size: 0 };
     }
     if out.len() < 512 {
-        return Sent { code: 50, size: 0 };
+        return Writing { code: 50, size: 0 };
     }
     let q = check_of(n, kind, kopecks);
     if !write::is_asked(q) {
-        return Sent { code: 60, size: 0 };
+        return Writing { code: 60, size: 0 };
     }
     let size = write::write_request(q, out, 0);
-    Sent { code: 0, size }
+    Writing { code: 0, size }
 }

@@ -4,7 +4,7 @@ use agent::answering;
 use agent::writing;
 use book::Book;
 use book::rows;
-use daybook::Sent;
+use daybook::Writing;
 use daybook::accepting;
 use daybook::freezing;
 use daybook::listing;
@@ -84,7 +84,7 @@ pub fn accept(
 }
 
 // The code, and what was written.
-fn show_sent(r: Sent, out: &[u8]) {
+fn show_sent(r: Writing, out: &[u8]) {
     show(r.code);
     if 0 < r.size {
         io::write_all(1, b" ");
@@ -117,11 +117,11 @@ pub fn write_into(
     dates: &mut [[u8; 19]],
     b: Book,
     out: &mut [u8],
-) -> Sent {
+) -> Writing {
     let receipt = given::value(s);
     let reason = given::value(given::second(s));
     match a {
-        Action::Check => Sent { code: 99, size: 0 },
+        Action::Check => Writing { code: 99, size: 0 },
         Action::Payment => writing::write_payment(nums, numbers, dates, b, receipt, out),
         Action::Status => writing::write_status(nums, numbers, dates, b, receipt, out),
         Action::Cancel => writing::write_cancel(nums, numbers, dates, b, receipt, reason, out),

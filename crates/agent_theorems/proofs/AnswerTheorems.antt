@@ -29,7 +29,7 @@ use Rattle.book.proofs.PaymentLaws.{entry-parts, SamePayment, fields-kept, stat
 use Rattle.agent.specs.declared.meaning.Meaning.{Meaning}
 use Rattle.agent.specs.declared.meaning.Meaning.the-variants.{Paid, Revoked, Silent}
 use Rattle.daybook.specs.Acceptance.{isFrozen}
-use Rattle.agent.specs.Answering.{Took, meaning, credits, turned, authcodeAfter, answeredEntry, took, takeAt, takeReceipt, checkCode, takeFor, takeAnswer}
+use Rattle.agent.specs.Answering.{Taking, meaning, credits, turned, authcodeAfter, answeredEntry, took, takeAt, takeReceipt, checkCode, takeFor, takeAnswer}
 use Rattle.agent.proofs.MeaningLaws.{payment-silent, cancel-silent}
 use Rattle.agent.proofs.MovedLaws.{placeOf, same-place, found-fields, put-same, Left, kept, moved, others-kept, payments-kept, frozen-kept, good-kept, ready-kept}
 
@@ -98,7 +98,7 @@ module _ (b : Book) (t : BookRows) (a : Action) (receipt : ℕ) (text : List ℕ
   abbrev answered : ℕ → Entry
   answered i = answeredEntry (meaning a (answer .code)) answer (entryAt t i)
 
-  module _ (P : Took → Type 0) (stays : (code : ℕ) → P (took code t))
+  module _ (P : Taking → Type 0) (stays : (code : ℕ) → P (took code t))
       (answers : (i : ℕ) → bookGood b t ≡ true → placeOf b t receipt ≡ At i → isFrozen b ((entryAt t i) .date) ≡ false → (answerRead a text) .ok ≡ true
       → P (took 0 (bookFrom t (set (entriesOf t (b .used)) i (answered i))))) where
     at-cases : bookGood b t ≡ true → (p : Found) → placeOf b t receipt ≡ p → P (takeAt b t a text p)
@@ -127,12 +127,12 @@ module _ (b : Book) (t : BookRows) (a : Action) (receipt : ℕ) (text : List ℕ
 
   -- a fault keeps the rows whole
   pub answer-fault : ((takeAnswer b t a receipt text) .code ≡ 0 → ⊥) → (takeAnswer b t a receipt text) .rows ≡ t
-  answer-fault = take-cases (λ (k : Took). (k .code ≡ 0 → ⊥) → k .rows ≡ t) (λ code n. refl) (λ i good e free ok n. absurd (n refl))
+  answer-fault = take-cases (λ (k : Taking). (k .code ≡ 0 → ⊥) → k .rows ≡ t) (λ code n. refl) (λ i good e free ok n. absurd (n refl))
 
   module _ (ready : ReadyBook b t) where
     pub answer-left : Left b t (placeOf b t receipt) ((takeAnswer b t a receipt text) .rows)
     answer-left =
-        take-cases (λ (k : Took). Left b t (placeOf b t receipt) (k .rows)) (λ code. kept refl)
+        take-cases (λ (k : Taking). Left b t (placeOf b t receipt) (k .rows)) (λ code. kept refl)
         (λ i good e free ok.
         let l : i < b .used = entry-within t (b .used) receipt i e in
         moved i (answered i) e l good free (answered-same _ answer (entryAt t i)) (answered-fields _ answer (entryAt t i) (found-fields b t receipt i good e) ((read-code a text ok) .1))
@@ -161,7 +161,7 @@ module _ (b : Book) (t : BookRows) (a : Action) (receipt : ℕ) (text : List ℕ
     answer-unmoved : ((i : ℕ) → placeOf b t receipt ≡ At i → turned (meaning a (answer .code)) (stateOf ((entryAt t i) .state)) ≡ stateOf ((entryAt t i) .state))
         → (takeAnswer b t a receipt text) .rows ≡ t
     answer-unmoved same =
-        take-cases (λ (k : Took). k .rows ≡ t) (λ code. refl)
+        take-cases (λ (k : Taking). k .rows ≡ t) (λ code. refl)
         (λ i good e free ok.
         let l : i < b .used = entry-within t (b .used) receipt i e in
         put-same b t i ready l (answered i) (unmoved-entry _ answer (entryAt t i) (found-fields b t receipt i good e) (same i e)))

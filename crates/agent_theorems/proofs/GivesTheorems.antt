@@ -34,7 +34,7 @@ use Rattle.daybook.specs.Acceptance.{isFrozen}
 use Rattle.daybook.proofs.GivesTheorems.{good-whole}
 use Rattle.agent.specs.declared.meaning.Meaning.{Meaning}
 use Rattle.agent.specs.declared.meaning.Meaning.the-variants.{Paid, Revoked}
-use Rattle.agent.specs.Writing.{Wrote, wrote, mayWrite, withState, writtenEntry, requestOf, formsGood, isOpen, writeAt, writeRequest, checkOf, writeCheck}
+use Rattle.agent.specs.Writing.{Writing, wrote, mayWrite, withState, writtenEntry, requestOf, formsGood, isOpen, writeAt, writeRequest, checkOf, writeCheck}
 use Rattle.agent.specs.Answering.{paymentMeaning, cancelMeaning, meaning, credits, turned, authcodeAfter, answeredEntry, took, takeAt, takeReceipt, takeFor, takeAnswer}
 use Rattle.agent.proofs.MovedLaws.{placeOf}
 
@@ -143,9 +143,9 @@ module _ (b : Book) (t : BookRows) (good : bookGood b t ≡ true) (six : (j : �
     write-gives =
         let q : Request = requestOf a entry reason in
         let fits : length (requestText q) ≤ length out = omega (arith, room, request-room q (written-parts (entry .date) (parts .date) .size)) in (
-          ap (λ (k : Wrote). k .code) write-is,
-          ap (λ (k : Wrote). k .rows) write-is,
-          ap (λ (k : Wrote). take (k .size) (k .out)) write-is ∙ text-back out (requestText q) fits,
+          ap (λ (k : Writing). k .code) write-is,
+          ap (λ (k : Writing). k .rows) write-is,
+          ap (λ (k : Writing). take (k .size) (k .out)) write-is ∙ text-back out (requestText q) fits,
         )
 
   -- ---- a readable answer on an unfrozen day
@@ -190,4 +190,4 @@ module _ (b : Book) (t : BookRows) (n : Number) (k amount : ℕ) (out : List ℕ
       let q : Request = checkOf n k amount in
       let is : writeCheck b t n k amount out ≡ wrote t out (requestText q) = unfold writeCheck in rw (good, le-leb 512 (length out) room, number, kind, amounts) refl in
       let fits : length (requestText q) ≤ length out = omega (arith, room, request-room q refl) in
-      (ap (λ (w : Wrote). w .code) is, ap (λ (w : Wrote). w .rows) is, ap (λ (w : Wrote). take (w .size) (w .out)) is ∙ text-back out (requestText q) fits)
+      (ap (λ (w : Writing). w .code) is, ap (λ (w : Writing). w .rows) is, ap (λ (w : Writing). take (w .size) (w .out)) is ∙ text-back out (requestText q) fits)

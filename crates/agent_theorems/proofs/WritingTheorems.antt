@@ -34,7 +34,7 @@ use Rattle.book.proofs.EntryLaws.{getD-entries, length-entries, entry-from, boo
 use Rattle.book.proofs.BookLaws.{entry-within}
 use Rattle.book.proofs.PaymentLaws.{entry-parts, SamePayment, same-payment, fields-kept, state-range}
 use Rattle.daybook.specs.Acceptance.{isFrozen}
-use Rattle.agent.specs.Writing.{Wrote, unwritten, wrote, mayWrite, writtenEntry, requestOf, formsGood, isOpen, writeAt, writeRequest, checkOf, writeCheck}
+use Rattle.agent.specs.Writing.{Writing, unwritten, wrote, mayWrite, writtenEntry, requestOf, formsGood, isOpen, writeAt, writeRequest, checkOf, writeCheck}
 use Rattle.agent.proofs.WritingLaws.{check-asked}
 use Rattle.agent.proofs.MovedLaws.{placeOf, same-place, found-fields, put-same, Left, kept, moved, others-kept, payments-kept, frozen-kept, good-kept, ready-kept}
 
@@ -88,7 +88,7 @@ read-back q out dated good room =
 
 -- ---- the call: all stays with a fault, or the entry that was found is written
 module _ (b : Book) (t : BookRows) (a : Action) (receipt reason : ℕ) (out : List ℕ) where
-  module _ (P : Wrote → Type 0) (stays : (code : ℕ) → (code ≡ 0 → ⊥) → P (unwritten code t out))
+  module _ (P : Writing → Type 0) (stays : (code : ℕ) → (code ≡ 0 → ⊥) → P (unwritten code t out))
       (writes : (i : ℕ) → bookGood b t ≡ true → 512 ≤ length out → formsGood a receipt reason ≡ true → placeOf b t receipt ≡ At i → isOpen b a (entryAt t i) ≡ true
       → P (wrote (bookFrom t (set (entriesOf t (b .used)) i (writtenEntry a (entryAt t i)))) out (requestText (requestOf a (entryAt t i) reason)))) where
     at-cases : bookGood b t ≡ true → 512 ≤ length out → formsGood a receipt reason ≡ true → (p : Found) → placeOf b t receipt ≡ p → P (writeAt b t a reason out p)
@@ -111,19 +111,19 @@ module _ (b : Book) (t : BookRows) (a : Action) (receipt reason : ℕ) (out : Li
   pub write-fault : ((writeRequest b t a receipt reason out) .code ≡ 0 → ⊥)
       → writeRequest b t a receipt reason out ≡ unwritten ((writeRequest b t a receipt reason out) .code) t out
   write-fault =
-      write-cases (λ (k : Wrote). (k .code ≡ 0 → ⊥) → k ≡ unwritten (k .code) t out) (λ code n m. refl) (λ i good room forms e free n. absurd (n refl))
+      write-cases (λ (k : Writing). (k .code ≡ 0 → ⊥) → k ≡ unwritten (k .code) t out) (λ code n m. refl) (λ i good room forms e free n. absurd (n refl))
 
   -- the buffer's bytes past the request stay
   pub write-rest : (j : ℕ) → (writeRequest b t a receipt reason out) .size ≤ j → getD ((writeRequest b t a receipt reason out) .out) j 0 ≡ getD out j 0
   write-rest j =
-      write-cases (λ (k : Wrote). k .size ≤ j → getD (k .out) j 0 ≡ getD out j 0) (λ code n l. refl)
+      write-cases (λ (k : Writing). k .size ≤ j → getD (k .out) j 0 ≡ getD out j 0) (λ code n l. refl)
       (λ i good room forms e free l. rest-kept out (requestText (requestOf a (entryAt t i) reason)) j l)
 
   -- the entry of a written request: a cancel's is cancel-asked, the others are as they were
   pub write-leaves : (i : ℕ) → placeOf b t receipt ≡ At i → (writeRequest b t a receipt reason out) .code ≡ 0
       → entryAt ((writeRequest b t a receipt reason out) .rows) i ≡ writtenEntry a (entryAt t i)
   write-leaves i found =
-      write-cases (λ (k : Wrote). k .code ≡ 0 → entryAt (k .rows) i ≡ writtenEntry a (entryAt t i)) (λ code n z. absurd (n z))
+      write-cases (λ (k : Writing). k .code ≡ 0 → entryAt (k .rows) i ≡ writtenEntry a (entryAt t i)) (λ code n z. absurd (n z))
       (λ j good room forms e free z.
       let same : j ≡ i = same-place j i (sym e ∙ found) in
       let l : i < length (entriesOf t (b .used)) = omega (arith, entry-within t (b .used) receipt i found, length-entries t (b .used)) in
@@ -137,7 +137,7 @@ module _ (b : Book) (t : BookRows) (a : Action) (receipt reason : ℕ) (out : Li
       ≡ record { fault = 0; asked = askedAgain (requestOf a (entryAt t i) reason) }
   unfolding requestOf
   write-again i found =
-      write-cases (λ (k : Wrote). k .code ≡ 0 → requestRead (take (k .size) (k .out)) ≡ record { fault = 0; asked = askedAgain (requestOf a (entryAt t i) reason) })
+      write-cases (λ (k : Writing). k .code ≡ 0 → requestRead (take (k .size) (k .out)) ≡ record { fault = 0; asked = askedAgain (requestOf a (entryAt t i) reason) })
       (λ code n z. absurd (n z))
       (λ j good room forms e free z.
       let same : j ≡ i = same-place j i (sym e ∙ found) in
@@ -150,7 +150,7 @@ module _ (b : Book) (t : BookRows) (a : Action) (receipt reason : ℕ) (out : Li
     pub write-left : Left b t (placeOf b t receipt) ((writeRequest b t a receipt reason out) .rows)
     unfolding isOpen
     write-left =
-        write-cases (λ (k : Wrote). Left b t (placeOf b t receipt) (k .rows)) (λ code n. kept refl)
+        write-cases (λ (k : Writing). Left b t (placeOf b t receipt) (k .rows)) (λ code n. kept refl)
         (λ i good room forms e free.
         let l : i < b .used = entry-within t (b .used) receipt i e in
         let f : isFrozen b ((entryAt t i) .date) ≡ false =
@@ -180,14 +180,14 @@ module _ (b : Book) (t : BookRows) (a : Action) (receipt reason : ℕ) (out : Li
     -- a payment and a status move nothing
     pub write-keeps : hasReason a ≡ false → (writeRequest b t a receipt reason out) .rows ≡ t
     write-keeps none =
-        write-cases (λ (k : Wrote). k .rows ≡ t) (λ code n. refl)
+        write-cases (λ (k : Writing). k .rows ≡ t) (λ code n. refl)
         (λ i good room forms e free.
         let l : i < b .used = entry-within t (b .used) receipt i e in
         put-same b t i ready l (writtenEntry a (entryAt t i)) (written-as-was a (entryAt t i) none))
 
 -- ---- a check
 module _ (b : Book) (t : BookRows) (n : Number) (k amount : ℕ) (out : List ℕ) where
-  module _ (P : Wrote → Type 0) (stays : (code : ℕ) → (code ≡ 0 → ⊥) → P (unwritten code t out))
+  module _ (P : Writing → Type 0) (stays : (code : ℕ) → (code ≡ 0 → ⊥) → P (unwritten code t out))
       (writes : 512 ≤ length out → isNumber n && (isKind k && isAmount amount) ≡ true → P (wrote t out (requestText (checkOf n k amount)))) where
     check-cases : P (writeCheck b t n k amount out)
     unfolding writeCheck
@@ -200,16 +200,16 @@ module _ (b : Book) (t : BookRows) (n : Number) (k amount : ℕ) (out : List ℕ
 
   -- it moves nothing
   pub check-keeps : (writeCheck b t n k amount out) .rows ≡ t
-  check-keeps = check-cases (λ (w : Wrote). w .rows ≡ t) (λ code m. refl) (λ room h. refl)
+  check-keeps = check-cases (λ (w : Writing). w .rows ≡ t) (λ code m. refl) (λ room h. refl)
 
   -- a fault keeps the buffer whole
   pub check-fault : ((writeCheck b t n k amount out) .code ≡ 0 → ⊥) → writeCheck b t n k amount out ≡ unwritten ((writeCheck b t n k amount out) .code) t out
-  check-fault = check-cases (λ (w : Wrote). (w .code ≡ 0 → ⊥) → w ≡ unwritten (w .code) t out) (λ code m z. refl) (λ room h m. absurd (m refl))
+  check-fault = check-cases (λ (w : Writing). (w .code ≡ 0 → ⊥) → w ≡ unwritten (w .code) t out) (λ code m z. refl) (λ room h m. absurd (m refl))
 
   -- the buffer's bytes past the request stay
   pub check-rest : (j : ℕ) → (writeCheck b t n k amount out) .size ≤ j → getD ((writeCheck b t n k amount out) .out) j 0 ≡ getD out j 0
   check-rest j =
-      check-cases (λ (w : Wrote). w .size ≤ j → getD (w .out) j 0 ≡ getD out j 0) (λ code m l. refl)
+      check-cases (λ (w : Writing). w .size ≤ j → getD (w .out) j 0 ≡ getD out j 0) (λ code m l. refl)
       (λ room h l. rest-kept out (requestText (checkOf n k amount)) j l)
 
   -- one that is written reads back as its account and amount
@@ -217,6 +217,6 @@ module _ (b : Book) (t : BookRows) (n : Number) (k amount : ℕ) (out : List ℕ
       → requestRead (take ((writeCheck b t n k amount out) .size) ((writeCheck b t n k amount out) .out)) ≡ record { fault = 0; asked = askedAgain (checkOf n k amount) }
   unfolding checkOf
   check-again =
-      check-cases (λ (w : Wrote). w .code ≡ 0 → requestRead (take (w .size) (w .out)) ≡ record { fault = 0; asked = askedAgain (checkOf n k amount) })
+      check-cases (λ (w : Writing). w .code ≡ 0 → requestRead (take (w .size) (w .out)) ≡ record { fault = 0; asked = askedAgain (checkOf n k amount) })
       (λ code m z. absurd (m z))
       (λ room h z. read-back (checkOf n k amount) out refl (check-asked n k amount ∙ h) room)

@@ -20,7 +20,7 @@ use Rattle.orders.specs.Sums.{Summable}
 use Rattle.console.specs.Feed.{heldText, absorbed, emptied, Fed, ended, fedByte, fed, finished}
 use Rattle.console.specs.Gather.{gathered}
 use Rattle.console.specs.Session.{emptyGate, newConsole, newHeld, newFed, sessionText}
-use Rattle.console.specs.Parts.{Part, before, printed, feedPart, lastPart, Ran, runAll, EndedAt}
+use Rattle.console.specs.Parts.{Part, before, printed, feedPart, lastPart, Run, runAll, EndedAt}
 use Rattle.orders.proofs.SummableLaws.{turn-summable, none-summable}
 use Rattle.orders.proofs.PrintLaws.{turn-length, turn-text}
 use Rattle.console.proofs.FeedLaws.{holding, gathered-on, gathered-in, fed-ended, fed-rest, session-fed}
@@ -190,7 +190,7 @@ finished-rows f = go (ltb 0 (f .held .len))
 
 module _ (t : Rows) (input out : List ℕ) where
   pub run-refused : length out / 64 ≤ length input → (rows : Rows) → rows ≡ t → (o : List ℕ) → o ≡ out
-      → _≡_ {A = Ran} (record { ok = false; rows = rows; out = o; size = 0 }) (runAll t input out)
+      → _≡_ {A = Run} (record { ok = false; rows = rows; out = o; size = 0 }) (runAll t input out)
   unfolding runAll
   run-refused h rows er o eo =
       let less : length out < 64 * (length input + 1) = omega arith in
@@ -228,7 +228,7 @@ module _ (t : Rows) (input out : List ℕ) where
 
       pub run-whole : (z : Console) (m : Held) (t₂ : Rows) (o₂ : List ℕ) (n₂ : ℕ)
           → _≡_ {A = Part} (record { console = z; held = m; rows = t₂; out = o₂; size = n₂ }) (lastPart y k t₁ o₁ n₁)
-          → _≡_ {A = Ran} (record { ok = true; rows = t₂; out = o₂; size = n₂ }) (runAll t input out)
+          → _≡_ {A = Run} (record { ok = true; rows = t₂; out = o₂; size = n₂ }) (runAll t input out)
       unfolding runAll lastPart
       run-whole z m t₂ o₂ n₂ e =
           let rest : Fed = finished (before y k t₁) in

@@ -12,6 +12,8 @@ use Rattle.console.specs.declared.Held.{Held}
 use Rattle.orders.specs.Order.{Turn, lineTurn, turnText}
 use Rattle.console.specs.Feed.{heldText, emptied, Fed, fed, finished}
 use Rattle.console.specs.Session.{newFed, sessionText}
+use Rattle.console.specs.declared.feed.Part.{Part as GivenPart}
+use Rattle.console.specs.declared.feed.Run.{Run as GivenRun}
 
 -- what a part leaves: the session, the buffer with what it prints, and the cursor behind that
 pub record Part : Type 0 where
@@ -20,6 +22,9 @@ pub record Part : Type 0 where
   pub rows : Rows
   pub out : List ℕ
   pub size : ℕ
+
+abbrev pub partOf : GivenPart → Rows → List ℕ → Part
+partOf r rows out = record { console = r .console; held = r .held; rows = rows; out = out; size = r .size }
 
 abbrev pub before : Console → Held → Rows → Fed
 before x h t = record { console = x; held = h; rows = t; text = [] }
@@ -35,13 +40,16 @@ unfoldable pub lastPart : Console → Held → Rows → List ℕ → ℕ → Par
 lastPart x h t out at = printed out at (finished (before x h t))
 
 -- ---- a whole session; a buffer without room for it is refused
-pub record Ran : Type 0 where
+pub record Run : Type 0 where
   pub ok : Bool
   pub rows : Rows
   pub out : List ℕ
   pub size : ℕ
 
-unfoldable pub runAll : Rows → List ℕ → List ℕ → Ran
+abbrev pub runOf : GivenRun → Rows → List ℕ → Run
+runOf r rows out = record { ok = r .ok; rows = rows; out = out; size = r .size }
+
+unfoldable pub runAll : Rows → List ℕ → List ℕ → Run
 runAll t input out =
     cond (leb (64 * (length input + 1)) (length out))
     (record { ok = true; rows = (finished (fed (newFed t) input)) .rows; out = over out 0 (sessionText t input); size = length (sessionText t input) })

@@ -1,27 +1,27 @@
 // A session's input, fed in parts, or whole.
-use orders::Console;
 use crate::Held;
 use crate::gather;
+use fields::scan;
+use orders::Console;
 use orders::print;
 use orders::turn;
-use fields::scan;
 ghost use mathlib.Core.Path.{_≡_};
 ghost use Prim.Native.Nat.{_+_, _*_, _≤_};
 ghost use lib.ListN.{length};
 ghost use Rattle.table.specs.Lent.{before, after};
 ghost use Rattle.orders.specs.Sums.{Summable};
 ghost use Rattle.console.specs.Feed.{emptied};
-ghost use Rattle.console.specs.Parts.{Part, feedPart, lastPart, Ran, runAll, EndedAt};
+ghost use Rattle.console.specs.Parts.{partOf, feedPart, lastPart, runOf, runAll, EndedAt};
 
 // A session between two parts of its input, and how many bytes the last one printed.
-pub struct Session {
+pub struct Part {
     pub console: Console,
     pub held: Held,
     pub size: usize,
 }
 
 // The whole of a session that was run; `ok` is false where the buffer is refused.
-pub struct Whole {
+pub struct Run {
     pub ok: bool,
     pub size: usize,
 }
@@ -48,19 +48,19 @@ pub(crate) fn end_line(
     h: Held,
     out: &mut [u8],
     at: usize,
-) -> Session
+) -> Part
     requires { ⌜ Summable (x .gate) × (at + 64 ≤ length (now out)) ⌝ }
     ensures { λ r. ⌜ EndedAt x h (before nums numbers dates) (now (out .entry)) at
         (r .console) (r .held) (after nums numbers dates) (now (out .exit)) (r .size) ⌝ }
     ensures { λ r. ⌜ Summable (r .console .gate) ⌝ }
 {
     let bytes = h.bytes;
-    let r = turn::turn(nums, numbers, dates, x, scan::first_bytes(&bytes, h.len));
+    let r = turn::line_turn(nums, numbers, dates, x, scan::first_bytes(&bytes, h.len));
     let console = r.console;
     let gate = console.gate;
     let size = print::write_turn(r.code, gate, out, at);
     let held = emptied(h);
-    Session {
+    Part {
         console,
         held,
         size,
@@ -76,11 +76,9 @@ pub fn feed(
     h: Held,
     input: &[u8],
     out: &mut [u8],
-) -> Session
+) -> Part
     requires { ⌜ Summable (x .gate) × (64 * length (now input) ≤ length (now out)) ⌝ }
-    ensures { λ r. ⌜ _≡_ {A = Part}
-        (record { console = r .console; held = r .held; rows = after nums numbers dates; out = now (out .exit); size = r .size })
-        (feedPart x h (before nums numbers dates) (now (input .entry)) (now (out .entry))) ⌝ }
+    ensures { λ r. ⌜ partOf r (after nums numbers dates) (now (out .exit)) ≡ feedPart x h (before nums numbers dates) (now (input .entry)) (now (out .entry)) ⌝ }
     ensures { λ r. ⌜ Summable (r .console .gate) ⌝ }
 {
     let mut console = x;
@@ -91,7 +89,7 @@ pub fn feed(
         let g = gather::gather(held, input, at);
         if !g.ended {
             let rest = g.held;
-            return Session {
+            return Part {
                 console,
                 held: rest,
                 size,
@@ -104,7 +102,7 @@ pub fn feed(
         size = s.size;
         at = g.at;
     }
-    Session {
+    Part {
         console,
         held,
         size,
@@ -120,14 +118,12 @@ pub fn finish(
     h: Held,
     out: &mut [u8],
     at: usize,
-) -> Session
+) -> Part
     requires { ⌜ Summable (x .gate) × (at + 64 ≤ length (now out)) ⌝ }
-    ensures { λ r. ⌜ _≡_ {A = Part}
-        (record { console = r .console; held = r .held; rows = after nums numbers dates; out = now (out .exit); size = r .size })
-        (lastPart x h (before nums numbers dates) (now (out .entry)) at) ⌝ }
+    ensures { λ r. ⌜ partOf r (after nums numbers dates) (now (out .exit)) ≡ lastPart x h (before nums numbers dates) (now (out .entry)) at ⌝ }
 {
     if h.len == 0 {
-        return Session {
+        return Part {
             console: x,
             held: h,
             size: at,
@@ -143,13 +139,11 @@ pub fn run_session(
     dates: &mut [[[u8; 19]; 3]],
     input: &[u8],
     out: &mut [u8],
-) -> Whole
-    ensures { λ r. ⌜ _≡_ {A = Ran}
-        (record { ok = r .ok; rows = after nums numbers dates; out = now (out .exit); size = r .size })
-        (runAll (before nums numbers dates) (now (input .entry)) (now (out .entry))) ⌝ }
+) -> Run
+    ensures { λ r. ⌜ runOf r (after nums numbers dates) (now (out .exit)) ≡ runAll (before nums numbers dates) (now (input .entry)) (now (out .entry)) ⌝ }
 {
     if out.len() / 64 <= input.len() {
-        return Whole { ok: false, size: 0 };
+        return Run { ok: false, size: 0 };
     }
     let x = gather::new_console();
     let h = gather::new_held();
@@ -157,7 +151,7 @@ pub fn run_session(
     let console = s.console;
     let held = s.held;
     let last = finish(nums, numbers, dates, console, held, out, s.size);
-    Whole {
+    Run {
         ok: true,
         size: last.size,
     }

@@ -1,8 +1,8 @@
 // What is held of a line, gathered from parts of the input; and the state that a session begins with.
-use orders::Console;
 use crate::Held;
 use dates::calendar::Day;
 use fields::number::no_number;
+use orders::Console;
 use table::Account;
 use table::Gate;
 ghost use mathlib.Core.Path.{_≡_};

@@ -25,7 +25,7 @@ use Rattle.book.specs.Entries.{BookRows, entriesOf, bookWith}
 use Rattle.book.specs.BookValid.{dayCount, bookGood, ReadyBook}
 use Rattle.book.proofs.EntryLaws.{book-more}
 use Rattle.book.proofs.BookLaws.{good-book}
-use Rattle.daybook.specs.Acceptance.{Accepted, isFrozen, nextReceipt, madeEntry, mayAccept, dayOpen, hasPlace, withEntry, acceptTo, accept}
+use Rattle.daybook.specs.Acceptance.{Acceptance, isFrozen, nextReceipt, madeEntry, mayAccept, dayOpen, hasPlace, withEntry, acceptTo, accept}
 
 -- ---- the fields, and the date that is not frozen
 module _ (b : Book) (n : Number) (kind amount : ℕ) (date : List ℕ) (m : Bool) (em : m ≡ isNumber n) where
@@ -114,7 +114,7 @@ module _ (b : Book) (t : BookRows) (date : List ℕ) (p : Bool) (ep : p ≡ hasP
   place-more y = record { fits = omega (arith, place-nums, y .size) }
 
 -- ---- the acceptance of a good book's payment; r is what is answered and left
-module _ (b : Book) (t : BookRows) (n : Number) (kind amount : ℕ) (date : List ℕ) (r : Accepted) where
+module _ (b : Book) (t : BookRows) (n : Number) (kind amount : ℕ) (date : List ℕ) (r : Acceptance) where
   module _ (m : Bool) (em : m ≡ mayAccept b n kind amount date) where
     pub accept-may-not : not m ≡ true → r ≡ record { code = 60; book = b; rows = t; receipt = 0 } → r ≡ acceptTo b t n kind amount date
     unfolding acceptTo

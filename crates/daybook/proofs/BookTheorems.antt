@@ -29,8 +29,8 @@ use Rattle.book.proofs.EntryLaws.{length-entries, getD-entries, entries-more, e
 use Rattle.lists.specs.Lent.{Lent}
 use Rattle.lists.proofs.LentLaws.{lent-facts, facts-lent}
 use Rattle.book.proofs.BookLaws.{good-lent, good-book, good-room, added-good, frozen-good}
-use Rattle.daybook.specs.declared.freezing.Froze.{Froze}
-use Rattle.daybook.specs.Acceptance.{Accepted, isFrozen, nextReceipt, madeEntry, mayAccept, dayOpen, hasPlace, withEntry, acceptTo, accept}
+use Rattle.daybook.specs.declared.freezing.Freezing.{Freezing}
+use Rattle.daybook.specs.Acceptance.{Acceptance, isFrozen, nextReceipt, madeEntry, mayAccept, dayOpen, hasPlace, withEntry, acceptTo, accept}
 use Rattle.daybook.specs.Freezing.{froze, frozenOn, freezeOn, freeze, registryOf, writeRegistry}
 use Rattle.daybook.proofs.ListedTheorems.{registry-same, writing-same, unfrozen-off, listed-more}
 
@@ -117,17 +117,17 @@ module _ (b : Book) (t : BookRows) (n : Number) (kind amount : ℕ) (date : List
   abbrev made : Entry
   made = madeEntry b n kind amount date
 
-  abbrev after : Accepted
+  abbrev after : Acceptance
   after = accept b t n kind amount date
 
-  abbrev success : Accepted
+  abbrev success : Acceptance
   success = record { code = 0; book = withEntry b; rows = bookFrom t (more b t made); receipt = nextReceipt b }
 
-  abbrev fault : ℕ → Accepted
+  abbrev fault : ℕ → Acceptance
   fault c = record { code = c; book = b; rows = t; receipt = 0 }
 
   -- a property of what is answered and left, which a fault has and a success has
-  pub accept-elim : (P : Accepted → Type 0) → ((c : ℕ) → 0 < c → P (fault c))
+  pub accept-elim : (P : Acceptance → Type 0) → ((c : ℕ) → 0 < c → P (fault c))
       → (bookGood b t ≡ true → mayAccept b n kind amount date ≡ true → hasPlace b t date ≡ true → P success) → P after
   unfolding accept acceptTo
   accept-elim P f s =
@@ -141,34 +141,34 @@ module _ (b : Book) (t : BookRows) (n : Number) (kind amount : ℕ) (date : List
   -- a fault keeps the book and its rows, and gives no receipt
   pub accept-fault : (after .code ≡ 0 → ⊥) → after ≡ record { code = after .code; book = b; rows = t; receipt = 0 }
   accept-fault =
-      accept-elim (λ (r : Accepted). (r .code ≡ 0 → ⊥) → r ≡ record { code = r .code; book = b; rows = t; receipt = 0 })
+      accept-elim (λ (r : Acceptance). (r .code ≡ 0 → ⊥) → r ≡ record { code = r .code; book = b; rows = t; receipt = 0 })
       (λ c h k. refl)
       (λ g m h k. absurd (k refl))
 
   -- every entry that was there stays as it was
   pub accept-keeps : (i : ℕ) → i < b .used → entryAt (after .rows) i ≡ entryAt t i
   accept-keeps i l =
-      accept-elim (λ (r : Accepted). entryAt (r .rows) i ≡ entryAt t i)
+      accept-elim (λ (r : Acceptance). entryAt (r .rows) i ≡ entryAt t i)
       (λ c h. refl)
       (λ g m h. entry-old b t made i l)
 
   -- the new one stands behind them, asked and without an authorization, with the next receipt
   pub accept-new : after .code ≡ 0 → entryAt (after .rows) (b .used) ≡ madeEntry b n kind amount date
   accept-new =
-      accept-elim (λ (r : Accepted). r .code ≡ 0 → entryAt (r .rows) (b .used) ≡ made)
+      accept-elim (λ (r : Acceptance). r .code ≡ 0 → entryAt (r .rows) (b .used) ≡ made)
       (λ c h k. absurd (omega arith))
       (λ g m h k. entry-new b t made)
 
   pub accept-receipt : after .code ≡ 0 → after .receipt ≡ b .first + b .used
   unfolding nextReceipt
   accept-receipt =
-      accept-elim (λ (r : Accepted). r .code ≡ 0 → r .receipt ≡ b .first + b .used)
+      accept-elim (λ (r : Acceptance). r .code ≡ 0 → r .receipt ≡ b .first + b .used)
       (λ c h k. absurd (omega arith))
       (λ g m h k. refl)
 
   pub accept-used : after .code ≡ 0 → after .book ≡ withEntry b
   accept-used =
-      accept-elim (λ (r : Accepted). r .code ≡ 0 → r .book ≡ withEntry b)
+      accept-elim (λ (r : Acceptance). r .code ≡ 0 → r .book ≡ withEntry b)
       (λ c h k. absurd (omega arith))
       (λ g m h k. refl)
 
@@ -236,20 +236,20 @@ module _ (b : Book) (t : BookRows) (n : Number) (kind amount : ℕ) (date : List
   -- row 68 holds of the book that is left
   pub accept-stays-good : bookGood b t ≡ true → bookGood (after .book) (after .rows) ≡ true
   accept-stays-good good =
-      accept-elim (λ (r : Accepted). bookGood (r .book) (r .rows) ≡ true)
+      accept-elim (λ (r : Acceptance). bookGood (r .book) (r .rows) ≡ true)
       (λ c h. good)
       (λ g m h. made-good m h g)
 
   pub accept-stays-ready : ReadyBook b t → ReadyBook (after .book) (after .rows)
   accept-stays-ready y =
-      accept-elim (λ (r : Accepted). ReadyBook (r .book) (r .rows))
+      accept-elim (λ (r : Acceptance). ReadyBook (r .book) (r .rows))
       (λ c h. y)
       (λ g m h. more-ready b t made g (place-room m h))
 
   -- so its receipts are consecutive from the same first one
   pub accept-receipts : bookGood b t ≡ true → (i : ℕ) → i < after .book .used → (entryAt (after .rows) i) .receipt ≡ b .first + i
   accept-receipts good i l =
-      let f : after .book .first ≡ b .first = accept-elim (λ (r : Accepted). r .book .first ≡ b .first) (λ c h. refl) (λ g m h. refl) in
+      let f : after .book .first ≡ b .first = accept-elim (λ (r : Acceptance). r .book .first ≡ b .first) (λ c h. refl) (λ g m h. refl) in
       good-book (after .book) (after .rows) (accept-stays-good good) .turn i l ∙ ap (λ (k : ℕ). k + i) f
 
   -- the registry of a day up to the frozen one stays
@@ -257,7 +257,7 @@ module _ (b : Book) (t : BookRows) (n : Number) (kind amount : ℕ) (date : List
       → registryOf day (entriesOf (after .rows) (after .book .used)) ≡ registryOf day (entriesOf t (b .used))
   unfolding madeEntry
   accept-keeps-registry day f =
-      accept-elim (λ (r : Accepted). registryOf day (entriesOf (r .rows) (r .book .used)) ≡ registryOf day (entriesOf t (b .used)))
+      accept-elim (λ (r : Acceptance). registryOf day (entriesOf (r .rows) (r .book .used)) ≡ registryOf day (entriesOf t (b .used)))
       (λ c h. refl)
       (λ g m h.
       ap (registryOf day) (entries-now b t made)
@@ -268,12 +268,12 @@ module _ (b : Book) (t : BookRows) (n : Number) (kind amount : ℕ) (date : List
   pub accept-writes-alike : bookGood b t ≡ true → (day : Day) → dayBefore (b .frozen) day ≡ false → (out : List ℕ)
       → writeRegistry (after .book) (after .rows) day out ≡ writeRegistry b t day out
   accept-writes-alike good day f out =
-      let k : after .book .frozen ≡ b .frozen = accept-elim (λ (r : Accepted). r .book .frozen ≡ b .frozen) (λ c h. refl) (λ g m h. refl) in
+      let k : after .book .frozen ≡ b .frozen = accept-elim (λ (r : Acceptance). r .book .frozen ≡ b .frozen) (λ c h. refl) (λ g m h. refl) in
       writing-same (after .book) b (after .rows) t day out (accept-stays-good good) good (ap (λ (x : Day). dayBefore x day) k ∙ f) f (accept-keeps-registry day f)
 
 -- ---- freezing
 module _ (b : Book) (t : BookRows) (day : Day) where
-  pub freeze-elim : (P : Froze → Type 0) → ((c : ℕ) → 0 < c → P (froze c b))
+  pub freeze-elim : (P : Freezing → Type 0) → ((c : ℕ) → 0 < c → P (froze c b))
       → (bookGood b t ≡ true → isDay day ≡ true → onDay day (nextDay (b .frozen)) && b .settled ≡ true → P (froze 0 (frozenOn b day))) → P (freeze b t day)
   unfolding freeze freezeOn
   freeze-elim P f s =
@@ -288,34 +288,34 @@ module _ (b : Book) (t : BookRows) (day : Day) where
   -- a fault keeps the book; the rows are lent to be read alone
   pub freeze-fault : ((freeze b t day) .code ≡ 0 → ⊥) → freeze b t day ≡ froze ((freeze b t day) .code) b
   freeze-fault =
-      freeze-elim (λ (r : Froze). (r .code ≡ 0 → ⊥) → r ≡ froze (r .code) b)
+      freeze-elim (λ (r : Freezing). (r .code ≡ 0 → ⊥) → r ≡ froze (r .code) b)
       (λ c h k. refl)
       (λ g d n k. absurd (k refl))
 
   -- the day after the frozen one, which had its report, is frozen and waits for its own
   pub freeze-book : (freeze b t day) .code ≡ 0 → (freeze b t day) .book ≡ frozenOn b day
   freeze-book =
-      freeze-elim (λ (r : Froze). r .code ≡ 0 → r .book ≡ frozenOn b day)
+      freeze-elim (λ (r : Freezing). r .code ≡ 0 → r .book ≡ frozenOn b day)
       (λ c h k. absurd (omega arith))
       (λ g d n k. refl)
 
   pub freeze-next : (freeze b t day) .code ≡ 0 → onDay day (nextDay (b .frozen)) && b .settled ≡ true
   freeze-next =
-      freeze-elim (λ (r : Froze). r .code ≡ 0 → onDay day (nextDay (b .frozen)) && b .settled ≡ true)
+      freeze-elim (λ (r : Freezing). r .code ≡ 0 → onDay day (nextDay (b .frozen)) && b .settled ≡ true)
       (λ c h k. absurd (omega arith))
       (λ g d n k. n)
 
   -- row 68 holds of the book that is left
   pub freeze-stays-good : bookGood b t ≡ true → bookGood ((freeze b t day) .book) t ≡ true
   freeze-stays-good good =
-      freeze-elim (λ (r : Froze). bookGood (r .book) t ≡ true)
+      freeze-elim (λ (r : Freezing). bookGood (r .book) t ≡ true)
       (λ c h. good)
       (λ g d n. frozen-good b t g day false d)
 
   -- what was frozen stays frozen
   pub freeze-stays-frozen : (d : Day) → dayBefore (b .frozen) d ≡ false → dayBefore ((freeze b t day) .book .frozen) d ≡ false
   freeze-stays-frozen d f =
-      freeze-elim (λ (r : Froze). dayBefore (r .book .frozen) d ≡ false)
+      freeze-elim (λ (r : Freezing). dayBefore (r .book .frozen) d ≡ false)
       (λ c h. f)
       (λ g y n. go (dayBefore day d) refl (next-before (nextDay (b .frozen)) refl (and-left (onDay day (nextDay (b .frozen))) (b .settled) n)))
     where
@@ -331,6 +331,6 @@ module _ (b : Book) (t : BookRows) (day : Day) where
   pub freeze-writes-alike : bookGood b t ≡ true → (d : Day) → dayBefore (b .frozen) d ≡ false → (out : List ℕ)
       → writeRegistry ((freeze b t day) .book) t d out ≡ writeRegistry b t d out
   freeze-writes-alike good d f out =
-      let k : (freeze b t day) .book .used ≡ b .used = freeze-elim (λ (r : Froze). r .book .used ≡ b .used) (λ c h. refl) (λ g y n. refl) in
+      let k : (freeze b t day) .book .used ≡ b .used = freeze-elim (λ (r : Freezing). r .book .used ≡ b .used) (λ c h. refl) (λ g y n. refl) in
       writing-same ((freeze b t day) .book) b t t d out (freeze-stays-good good) good (freeze-stays-frozen d f) f
       (ap (λ (m : ℕ). registryOf d (entriesOf t m)) k)

@@ -7,7 +7,7 @@ use Rattle.dates.specs.Calendar.{isDay, nextDay, onDay}
 use Rattle.book.specs.declared.Book.{Book}
 use Rattle.book.specs.Entries.{BookRows}
 use Rattle.book.specs.BookValid.{bookGood}
-use Rattle.daybook.specs.declared.freezing.Froze.{Froze}
+use Rattle.daybook.specs.declared.freezing.Freezing.{Freezing}
 use Rattle.daybook.specs.Freezing.{froze, frozenOn, freezeOn, freeze}
 
 -- ---- the next day, once the last one has its report
@@ -19,7 +19,7 @@ module _ (b : Book) (day : Day) (n : Bool) (en : n ≡ onDay day (nextDay (b .fr
   next-not h = rw (← en, h)
 
 -- ---- the call
-module _ (b : Book) (t : BookRows) (day : Day) (g : Bool) (eg : g ≡ bookGood b t) (r : Froze) where
+module _ (b : Book) (t : BookRows) (day : Day) (g : Bool) (eg : g ≡ bookGood b t) (r : Freezing) where
   pub freeze-not-book : r ≡ froze 68 b → not g ≡ true → r ≡ freeze b t day
   unfolding freeze
   freeze-not-book e h = e ∙ rw (← eg, not-true g h)

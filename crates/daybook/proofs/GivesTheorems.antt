@@ -26,7 +26,7 @@ use Rattle.book.specs.BookValid.{dayCount, bookGood}
 use Rattle.book.proofs.EntryLaws.{book-more}
 use Rattle.book.proofs.BookLaws.{good-lent}
 use Rattle.daybook.specs.Acceptance.{isFrozen, nextReceipt, madeEntry, mayAccept, hasPlace, acceptTo, accept}
-use Rattle.daybook.specs.Freezing.{freezeOn, freeze, listed, entryLine, registryOf, Listed, listOn, writeRegistry}
+use Rattle.daybook.specs.Freezing.{freezeOn, freeze, listed, entryLine, registryOf, Listing, listOn, writeRegistry}
 use Rattle.daybook.proofs.RegistryLaws.{registry-few}
 use Rattle.daybook.proofs.ListedTheorems.{registry-reads, registry-holds, list-elim}
 
@@ -38,7 +38,7 @@ good-whole b t good six =
 
 -- ---- a registry
 module _ (b : Book) (t : BookRows) (day : Day) (out : List ℕ) where
-  abbrev call : Listed
+  abbrev call : Listing
   call = writeRegistry b t day out
 
   abbrev entries : List Entry
@@ -48,12 +48,12 @@ module _ (b : Book) (t : BookRows) (day : Day) (out : List ℕ) where
     book-was-good : bookGood b t ≡ true
     unfolding writeRegistry
     book-was-good =
-        cond-elim (λ (d : Listed). d .code ≡ 0 → bookGood b t ≡ true) (bookGood b t) _ _ (λ g _. g) (λ _ z. absurd (omega arith)) done
+        cond-elim (λ (d : Listing). d .code ≡ 0 → bookGood b t ≡ true) (bookGood b t) _ _ (λ g _. g) (λ _ z. absurd (omega arith)) done
 
     -- a writing with 0 leaves the day's registry at the start of the buffer
     pub registry-text : take (call .size) (call .out) ≡ registryOf day entries
     registry-text =
-        list-elim b t day out (λ (d : Listed). d .code ≡ 0 → take (d .size) (d .out) ≡ registryOf day entries)
+        list-elim b t day out (λ (d : Listing). d .code ≡ 0 → take (d .size) (d .out) ≡ registryOf day entries)
         (λ c h z. absurd (omega arith))
         (λ room _ _ _. text-back out (registryOf day entries) (omega (arith, room, registry-few b t day book-was-good)))
         done

@@ -28,7 +28,7 @@ use Rattle.book.specs.Entries.{BookRows, entriesOf}
 use Rattle.book.specs.BookValid.{entryFields, inTurn, entryGood, dayCount, bookGood}
 use Rattle.book.proofs.BookLaws.{good-book}
 use Rattle.daybook.specs.Acceptance.{isFrozen}
-use Rattle.daybook.specs.Freezing.{isListed, listed, entryLine, registryOf, Listed, unlisted, listOn, writeRegistry}
+use Rattle.daybook.specs.Freezing.{isListed, listed, entryLine, registryOf, Listing, unlisted, listOn, writeRegistry}
 use Rattle.daybook.proofs.RegistryLaws.{entry-line, entries-all}
 
 -- ---- it reads back
@@ -97,11 +97,11 @@ module _ (b : Book) (t : BookRows) (day : Day) (good : bookGood b t ≡ true) wh
 -- ---- the call
 module _ (b : Book) (t : BookRows) (day : Day) (out : List ℕ) where
   -- what a writing that gives 0 leaves
-  abbrev pub wrote : Listed
+  abbrev pub wrote : Listing
   wrote = record { code = 0; out = written out 0 (registryOf day (entriesOf t (b .used))); size = cursorAfter out 0 (registryOf day (entriesOf t (b .used))) }
 
   -- a property of what a writing gives, which a fault has and a success has
-  pub list-elim : (P : Listed → Type 0) → ((c : ℕ) → 0 < c → P (unlisted c out))
+  pub list-elim : (P : Listing → Type 0) → ((c : ℕ) → 0 < c → P (unlisted c out))
       → (65536 ≤ length out → isDay day ≡ true → dayBefore (b .frozen) day ≡ false → P wrote) → P (writeRegistry b t day out)
   unfolding writeRegistry listOn
   list-elim P f s =

@@ -28,7 +28,7 @@ use Rattle.book.specs.Entries.{BookRows, entryAt, entriesOf}
 use Rattle.book.specs.BookValid.{entryFields, inTurn, entryGood, dayCount, daysGood, bookLent, bookHead, bookGood}
 use Rattle.book.proofs.EntryLaws.{length-entries, entries-rest}
 use Rattle.book.proofs.BookLaws.{good-book}
-use Rattle.daybook.specs.Freezing.{isListed, listed, entryLine, registryOf, Listed, unlisted, listOn, writeRegistry}
+use Rattle.daybook.specs.Freezing.{isListed, listed, entryLine, registryOf, Listing, unlisted, listOn, writeRegistry}
 
 -- ---- the test
 module _ (day : Day) (e : Entry) (o : Bool) (eo : o ≡ onDay day (dateDay (e .date))) where
@@ -160,7 +160,7 @@ module _ (b : Book) (t : BookRows) (day : Day) where
     lines-written m = sym (m ∙ ap (written out at) none ∙ sym (written-over out at [] fits) ∙ over-none out at)
 
 -- ---- the call; r is what is answered and left
-module _ (b : Book) (t : BookRows) (day : Day) (out : List ℕ) (r : Listed) (g : Bool) (eg : g ≡ bookGood b t) where
+module _ (b : Book) (t : BookRows) (day : Day) (out : List ℕ) (r : Listing) (g : Bool) (eg : g ≡ bookGood b t) where
   pub registry-not-book : not g ≡ true → r ≡ unlisted 68 out → r ≡ writeRegistry b t day out
   unfolding writeRegistry
   registry-not-book h q = q ∙ rw (← eg, not-true g h)

@@ -17,13 +17,17 @@ use Rattle.book.specs.declared.Book.{Book}
 use Rattle.book.specs.declared.Entry.{Entry}
 use Rattle.book.specs.Entries.{BookRows, entriesOf, bookFrom}
 use Rattle.book.specs.BookValid.{dayCount, bookGood}
+use Rattle.daybook.specs.declared.accepting.Acceptance.{Acceptance as Given}
 
 -- what an acceptance answers and leaves; the receipt is 0 with a fault
-pub record Accepted : Type 0 where
+pub record Acceptance : Type 0 where
   pub code : ℕ
   pub book : Book
   pub rows : BookRows
   pub receipt : ℕ
+
+abbrev pub acceptanceOf : Given → BookRows → Acceptance
+acceptanceOf r rows = record { code = r .code; book = r .book; rows = rows; receipt = r .receipt }
 
 -- a date on or before the frozen day
 unfoldable pub isFrozen : Book → List ℕ → Bool
@@ -54,7 +58,7 @@ hasPlace b t date =
 abbrev pub withEntry : Book → Book
 withEntry b = record { first = b .first; used = b .used + 1; frozen = b .frozen; settled = b .settled }
 
-unfoldable pub acceptTo : Book → BookRows → Number → ℕ → ℕ → List ℕ → Accepted
+unfoldable pub acceptTo : Book → BookRows → Number → ℕ → ℕ → List ℕ → Acceptance
 acceptTo b t n k amount date =
     cond (mayAccept b n k amount date)
     (cond (hasPlace b t date)
@@ -67,5 +71,5 @@ acceptTo b t n k amount date =
     (record { code = 61; book = b; rows = t; receipt = 0 }))
     (record { code = 60; book = b; rows = t; receipt = 0 })
 
-unfoldable pub accept : Book → BookRows → Number → ℕ → ℕ → List ℕ → Accepted
+unfoldable pub accept : Book → BookRows → Number → ℕ → ℕ → List ℕ → Acceptance
 accept b t n k amount date = cond (bookGood b t) (acceptTo b t n k amount date) (record { code = 68; book = b; rows = t; receipt = 0 })

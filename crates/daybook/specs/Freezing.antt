@@ -14,20 +14,21 @@ use Rattle.book.specs.declared.Book.{Book}
 use Rattle.book.specs.declared.Entry.{Entry}
 use Rattle.book.specs.Entries.{BookRows, entriesOf}
 use Rattle.book.specs.BookValid.{bookGood}
-use Rattle.daybook.specs.declared.freezing.Froze.{Froze}
+use Rattle.daybook.specs.declared.freezing.Freezing.{Freezing}
+use Rattle.daybook.specs.declared.Writing.{Writing}
 
 -- ---- freezing: a day that follows the last frozen one, which has to be settled
 abbrev pub frozenOn : Book → Day → Book
 frozenOn b day = record { first = b .first; used = b .used; frozen = day; settled = false }
 
-abbrev pub froze : ℕ → Book → Froze
+abbrev pub froze : ℕ → Book → Freezing
 froze code b = record { code = code; book = b }
 
-unfoldable pub freezeOn : Book → Day → Froze
+unfoldable pub freezeOn : Book → Day → Freezing
 freezeOn b day =
     cond (isDay day) (cond (onDay day (nextDay (b .frozen)) && b .settled) (froze 0 (frozenOn b day)) (froze 66 b)) (froze 55 b)
 
-unfoldable pub freeze : Book → BookRows → Day → Froze
+unfoldable pub freeze : Book → BookRows → Day → Freezing
 freeze b t day = cond (bookGood b t) (freezeOn b day) (froze 68 b)
 
 -- ---- the registry of a day: its entries that are not cancelled, in their order
@@ -45,21 +46,24 @@ unfoldable pub registryOf : Day → List Entry → List ℕ
 registryOf day es = registryBytes (map entryLine (listed day es))
 
 -- what a registry's writing answers and leaves; the book is kept
-pub record Listed : Type 0 where
+pub record Listing : Type 0 where
   pub code : ℕ
   pub out : List ℕ
   pub size : ℕ
 
-abbrev pub unlisted : ℕ → List ℕ → Listed
+abbrev pub listingOf : Writing → List ℕ → Listing
+listingOf r out = record { code = r .code; out = out; size = r .size }
+
+abbrev pub unlisted : ℕ → List ℕ → Listing
 unlisted code out = record { code = code; out = out; size = 0 }
 
 -- a day up to the frozen one
-unfoldable pub listOn : Book → BookRows → Day → List ℕ → Listed
+unfoldable pub listOn : Book → BookRows → Day → List ℕ → Listing
 listOn b t day out =
     cond (isDay day && not (dayBefore (b .frozen) day))
     (record { code = 0; out = written out 0 (registryOf day (entriesOf t (b .used))); size = cursorAfter out 0 (registryOf day (entriesOf t (b .used))) })
     (unlisted 55 out)
 
-unfoldable pub writeRegistry : Book → BookRows → Day → List ℕ → Listed
+unfoldable pub writeRegistry : Book → BookRows → Day → List ℕ → Listing
 writeRegistry b t day out =
     cond (bookGood b t) (cond (leb 65536 (length out)) (listOn b t day out) (unlisted 50 out)) (unlisted 68 out)

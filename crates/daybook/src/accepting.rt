@@ -5,10 +5,10 @@ use book::Entry;
 use book::days;
 use book::rows;
 use book::valid;
-use fields::amount;
 use dates::calendar::DayRead;
-use fields::codes;
 use dates::date;
+use fields::amount;
+use fields::codes;
 use fields::number::Number;
 ghost use mathlib.Core.Path.{_≡_};
 ghost use mathlib.Core.Bool.{true};
@@ -18,10 +18,10 @@ ghost use Rattle.dates.specs.Date.{dateDay};
 ghost use Rattle.book.specs.Entries.{entriesOf};
 ghost use Rattle.book.specs.Lent.{lentBook, bookBefore, bookAfter};
 ghost use Rattle.book.specs.BookValid.{bookGood, ReadyBook};
-ghost use Rattle.daybook.specs.Acceptance.{Accepted, madeEntry, mayAccept, dayOpen, hasPlace, acceptTo, accept};
+ghost use Rattle.daybook.specs.Acceptance.{acceptanceOf, madeEntry, mayAccept, dayOpen, hasPlace, acceptTo, accept};
 
 // The receipt is 0 with a fault.
-pub struct Receipted {
+pub struct Acceptance {
     pub code: u64,
     pub book: Book,
     pub receipt: u64,
@@ -110,21 +110,19 @@ pub(crate) fn accept_to(
     kind: u64,
     kopecks: u64,
     written: [u8; 19],
-) -> Receipted
+) -> Acceptance
     requires { ⌜ (bookGood b (lentBook nums numbers dates) ≡ true) × ReadyBook b (lentBook nums numbers dates) ⌝ }
-    ensures { λ r. ⌜ _≡_ {A = Accepted}
-        (record { code = r .code; book = r .book; rows = bookAfter nums numbers dates; receipt = r .receipt })
-        (acceptTo b (bookBefore nums numbers dates) n kind kopecks written) ⌝ }
+    ensures { λ r. ⌜ acceptanceOf r (bookAfter nums numbers dates) ≡ acceptTo b (bookBefore nums numbers dates) n kind kopecks written ⌝ }
 {
     if !may_accept(b, n, kind, kopecks, written) {
-        return Receipted {
+        return Acceptance {
             code: 60,
             book: b,
             receipt: 0,
         };
     }
     if !has_place(nums, numbers, dates, b, written) {
-        return Receipted {
+        return Acceptance {
             code: 61,
             book: b,
             receipt: 0,
@@ -135,7 +133,7 @@ pub(crate) fn accept_to(
     rows::store_entry(nums, numbers, dates, used, e);
     let mut next = b;
     next.used = used + 1;
-    Receipted {
+    Acceptance {
         code: 0,
         book: next,
         receipt: e.receipt,
@@ -152,13 +150,11 @@ pub fn accept(
     kind: u64,
     kopecks: u64,
     written: [u8; 19],
-) -> Receipted
-    ensures { λ r. ⌜ _≡_ {A = Accepted}
-        (record { code = r .code; book = r .book; rows = bookAfter nums numbers dates; receipt = r .receipt })
-        (accept b (bookBefore nums numbers dates) n kind kopecks written) ⌝ }
+) -> Acceptance
+    ensures { λ r. ⌜ acceptanceOf r (bookAfter nums numbers dates) ≡ accept b (bookBefore nums numbers dates) n kind kopecks written ⌝ }
 {
     if !valid::book_good(nums, numbers, dates, b) {
-        return Receipted {
+        return Acceptance {
             code: 68,
             book: b,
             receipt: 0,

@@ -8,7 +8,7 @@ ghost use Rattle.dates.specs.Calendar.{nextDay, onDay};
 ghost use Rattle.daybook.specs.Freezing.{freeze};
 ghost use Rattle.book.specs.Lent.{bookBefore};
 
-pub struct Froze {
+pub struct Freezing {
     pub code: u64,
     pub book: Book,
 }
@@ -32,22 +32,22 @@ pub fn freeze(
     dates: &[[u8; 19]],
     b: Book,
     day: Day,
-) -> Froze
+) -> Freezing
     ensures { λ r. ⌜ r ≡ freeze b (bookBefore nums numbers dates) day ⌝ }
 {
     if !valid::book_good(nums, numbers, dates, b) {
-        return Froze { code: 68, book: b };
+        return Freezing { code: 68, book: b };
     }
     if !day.is_valid() {
-        return Froze { code: 55, book: b };
+        return Freezing { code: 55, book: b };
     }
     if !may_freeze(b, day) {
-        return Froze { code: 66, book: b };
+        return Freezing { code: 66, book: b };
     }
     let mut next = b;
     next.frozen = day;
     next.settled = false;
-    Froze {
+    Freezing {
         code: 0,
         book: next,
     }

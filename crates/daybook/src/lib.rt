@@ -5,7 +5,7 @@ pub mod frozen;
 pub mod listing;
 
 // What a writing gives: `size` bytes of the buffer hold its text, none with a fault.
-pub struct Sent {
+pub struct Writing {
     pub code: u64,
     pub size: usize,
 }

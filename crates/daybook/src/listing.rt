@@ -1,5 +1,5 @@
 // The registry of a frozen day.
-use crate::Sent;
+use crate::Writing;
 use book::Book;
 use book::Entry;
 use book::rows;
@@ -15,7 +15,7 @@ ghost use Rattle.fields.specs.Lists.{written, cursorAfter};
 ghost use Rattle.book.specs.Entries.{entriesOf};
 ghost use Rattle.book.specs.Lent.{lentBook, bookBefore};
 ghost use Rattle.book.specs.BookValid.{bookGood, ReadyBook};
-ghost use Rattle.daybook.specs.Freezing.{isListed, entryLine, registryOf, Listed, writeRegistry};
+ghost use Rattle.daybook.specs.Freezing.{isListed, entryLine, registryOf, listingOf, writeRegistry};
 
 // Whether the day's registry lists the entry.
 pub fn is_listed(day: Day, e: Entry) -> bool
@@ -81,23 +81,22 @@ pub fn write_registry(
     b: Book,
     day: Day,
     out: &mut [u8],
-) -> Sent
-    ensures { λ r. ⌜ _≡_ {A = Listed} (record { code = r .code; out = now (out .exit); size = r .size })
-        (writeRegistry b (bookBefore nums numbers dates) day (now (out .entry))) ⌝ }
+) -> Writing
+    ensures { λ r. ⌜ listingOf r (now (out .exit)) ≡ writeRegistry b (bookBefore nums numbers dates) day (now (out .entry)) ⌝ }
 {
     if !valid::book_good(nums, numbers, dates, b) {
-        return Sent { code: 68, size: 0 };
+        return Writing { code: 68, size: 0 };
     }
     if out.len() < 65536 {
-        return Sent { code: 50, size: 0 };
+        return Writing { code: 50, size: 0 };
     }
     if !day.is_valid() {
-        return Sent { code: 55, size: 0 };
+        return Writing { code: 55, size: 0 };
     }
     let frozen = b.frozen;
     if frozen.before(day) {
-        return Sent { code: 55, size: 0 };
+        return Writing { code: 55, size: 0 };
     }
     let size = write_lines(nums, numbers, dates, b, day, out);
-    Sent { code: 0, size }
+    Writing { code: 0, size }
 }

@@ -32,35 +32,35 @@ use Rattle.table.specs.declared.Gate.{Gate}
 use Rattle.table.specs.Table.{Rows, recordsOf, rowsFrom}
 use Rattle.table.specs.Valid.{tableGood}
 use Rattle.gate.specs.declared.plan.Plan.{Plan}
-use Rattle.gate.specs.Deliver.{planOf, changed, Made, answerOf, Delivered, answered, respond, deliver}
+use Rattle.gate.specs.Deliver.{planOf, changed, Made, answerOf, Delivery, answered, respond, deliver}
 
 pub asked-answered : (g : Gate) (t : Rows) (clock : List ℕ) (fault : ℕ) (q : Asked) (out : List ℕ) (p : Plan) (gate : Gate) (subject : Record) (rows : Rows) (x : Answer) (left : List ℕ) (size : ℕ)
     → p ≡ planOf g (recordsOf t (g .used)) (length (t .nums)) fault q
     → Made t (changed (p .decided .change) g (recordsOf t (g .used)) clock q p) gate subject rows
     → x ≡ answerOf (q .action) (p .decided .code) subject clock → size ≡ cursorAfter out 0 (answerBytes x) → left ≡ written out 0 (answerBytes x)
-    → _≡_ {A = Delivered} (record { code = p .decided .code; gate = gate; rows = rows; out = left; size = size }) (respond g t clock fault q out)
+    → _≡_ {A = Delivery} (record { code = p .decided .code; gate = gate; rows = rows; out = left; size = size }) (respond g t clock fault q out)
 unfolding respond
 asked-answered g t clock fault q out p gate subject rows x left size ep made ex es el = rw (← ep, el, es, ex, made .subjects, made .gates, made .left)
 
 -- ---- the ways out of a delivery
 module _ (g : Gate) (t : Rows) (clock params out : List ℕ) where
   module _ (rows : Rows) (left : List ℕ) (er : rows ≡ t) (el : left ≡ out) (b : Bool) (eb : b ≡ tableGood g t) where
-    pub not-table : not b ≡ true → _≡_ {A = Delivered} (record { code = 68; gate = g; rows = rows; out = left; size = 0 }) (deliver g t clock params out)
+    pub not-table : not b ≡ true → _≡_ {A = Delivery} (record { code = 68; gate = g; rows = rows; out = left; size = 0 }) (deliver g t clock params out)
     unfolding deliver
     not-table h = rw (← eb, not-true b h, er, el)
 
     module _ (h : not b ≡ false) where
-      pub no-room : length out < 512 → _≡_ {A = Delivered} (record { code = 50; gate = g; rows = rows; out = left; size = 0 }) (deliver g t clock params out)
+      pub no-room : length out < 512 → _≡_ {A = Delivery} (record { code = 50; gate = g; rows = rows; out = left; size = 0 }) (deliver g t clock params out)
       unfolding deliver
       no-room l = rw (← eb, not-false b h, lt-leb _ _ l, er, el)
 
-      pub no-clock : 512 ≤ length out → (w : Bool) → w ≡ isWritten clock → not w ≡ true → _≡_ {A = Delivered} (record { code = 51; gate = g; rows = rows; out = left; size = 0 }) (deliver g t clock params out)
+      pub no-clock : 512 ≤ length out → (w : Bool) → w ≡ isWritten clock → not w ≡ true → _≡_ {A = Delivery} (record { code = 51; gate = g; rows = rows; out = left; size = 0 }) (deliver g t clock params out)
       unfolding deliver
       no-clock l w ew n = rw (← eb, not-false b h, le-leb _ _ l, ← ew, not-true w n, er, el)
 
   -- a request that was read
   pub read-done : (b : Bool) → b ≡ tableGood g t → not b ≡ false → 512 ≤ length out → (w : Bool) → w ≡ isWritten clock → not w ≡ false → (q : RequestRead) → q ≡ requestRead params
-      → (d : Delivered) → d ≡ respond g t clock (q .fault) (q .asked) out → d ≡ deliver g t clock params out
+      → (d : Delivery) → d ≡ respond g t clock (q .fault) (q .asked) out → d ≡ deliver g t clock params out
   unfolding deliver
   read-done b eb h l w ew n q eq d e = e ∙ rw (← eb, not-false b h, le-leb _ _ l, ← ew, not-false w n, ← eq)
 

@@ -33,6 +33,7 @@ use Rattle.gate.specs.declared.decision.Change.the-variants.{Keep, Appen
 use Rattle.gate.specs.declared.decision.Decided.{Decided}
 use Rattle.gate.specs.declared.plan.Plan.{Plan}
 use Rattle.gate.specs.Decision.{decision}
+use Rattle.gate.specs.declared.Reply.{Reply}
 
 -- a place that was found, below a bound
 pub record Within (f : Found) (n : ℕ) : Type 0 where
@@ -217,18 +218,21 @@ answerOf a code r clock =
 
 -- ---- the call
 -- what a call answers and leaves: its code, the gate, the rows and the answer's buffer, whose first `size` bytes are the answer (none where nothing is written)
-pub record Delivered : Type 0 where
+pub record Delivery : Type 0 where
   pub code : ℕ
   pub gate : Gate
   pub rows : Rows
   pub out : List ℕ
   pub size : ℕ
 
+abbrev pub deliveryOf : Reply → Rows → List ℕ → Delivery
+deliveryOf r rows out = record { code = r .code; gate = r .gate; rows = rows; out = out; size = r .size }
+
 -- nothing is written, and all is kept
-abbrev pub undelivered : ℕ → Gate → Rows → List ℕ → Delivered
+abbrev pub undelivered : ℕ → Gate → Rows → List ℕ → Delivery
 undelivered code g t out = record { code = code; gate = g; rows = t; out = out; size = 0 }
 
-abbrev pub answered : Rows → List ℕ → Action → ℕ → List ℕ → Changed → Delivered
+abbrev pub answered : Rows → List ℕ → Action → ℕ → List ℕ → Changed → Delivery
 answered t out a code clock c =
     record {
       code = code;
@@ -239,16 +243,16 @@ answered t out a code clock c =
     }
 
 -- the decision, its change and the answer
-abbrev pub respondBy : Gate → Rows → List ℕ → Asked → List ℕ → Plan → Delivered
+abbrev pub respondBy : Gate → Rows → List ℕ → Asked → List ℕ → Plan → Delivery
 respondBy g t clock q out p =
     answered t out (q .action) (p .decided .code) clock (changed (p .decided .change) g (recordsOf t (g .used)) clock q p)
 
 -- a request as it was read: its fault, 0 where it has none, and what it asks
-unfoldable pub respond : Gate → Rows → List ℕ → ℕ → Asked → List ℕ → Delivered
+unfoldable pub respond : Gate → Rows → List ℕ → ℕ → Asked → List ℕ → Delivery
 respond g t clock fault q out = respondBy g t clock q out (planOf g (recordsOf t (g .used)) (length (t .nums)) fault q)
 
 -- 68, 50 and 51 write nothing and keep all
-unfoldable pub deliver : Gate → Rows → List ℕ → List ℕ → List ℕ → Delivered
+unfoldable pub deliver : Gate → Rows → List ℕ → List ℕ → List ℕ → Delivery
 deliver g t clock params out =
     cond (tableGood g t)
     (cond (leb 512 (length out))

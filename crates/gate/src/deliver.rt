@@ -14,7 +14,7 @@ ghost use mathlib.Core.Bool.{true};
 ghost use Prim.Native.Nat.{_<_};
 ghost use Rattle.table.specs.Lent.{lent, before, after};
 ghost use Rattle.table.specs.Valid.{Ready, tableGood};
-ghost use Rattle.gate.specs.Deliver.{Delivered, respond, deliver};
+ghost use Rattle.gate.specs.Deliver.{deliveryOf, respond, deliver};
 
 // Decides on a request as it was read, makes the change and writes the answer.
 fn answer_read(
@@ -29,9 +29,7 @@ fn answer_read(
     requires { ⌜ Ready g (lent nums numbers dates) ⌝ }
     requires { ⌜ tableGood g (lent nums numbers dates) ≡ true ⌝ }
     requires { ⌜ q .asked .amount < 1000000000 ⌝ }
-    ensures { λ r. ⌜ _≡_ {A = Delivered}
-        (record { code = r .code; gate = r .gate; rows = after nums numbers dates; out = now (out .exit); size = r .size })
-        (respond g (before nums numbers dates) clock (q .fault) (q .asked) (now (out .entry))) ⌝ }
+    ensures { λ r. ⌜ deliveryOf r (after nums numbers dates) (now (out .exit)) ≡ respond g (before nums numbers dates) clock (q .fault) (q .asked) (now (out .entry)) ⌝ }
 {
     let asked = q.asked;
     let p = plan::make_plan(nums, numbers, dates, g, q);
@@ -55,9 +53,7 @@ pub fn deliver(
     params: &[u8],
     out: &mut [u8],
 ) -> Reply
-    ensures { λ r. ⌜ _≡_ {A = Delivered}
-        (record { code = r .code; gate = r .gate; rows = after nums numbers dates; out = now (out .exit); size = r .size })
-        (deliver g (before nums numbers dates) clock (now (params .entry)) (now (out .entry))) ⌝ }
+    ensures { λ r. ⌜ deliveryOf r (after nums numbers dates) (now (out .exit)) ≡ deliver g (before nums numbers dates) clock (now (params .entry)) (now (out .entry)) ⌝ }
 {
     if !valid::table_good(nums, numbers, dates, g) {
         return Reply {

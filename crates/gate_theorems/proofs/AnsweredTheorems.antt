@@ -31,7 +31,7 @@ use Rattle.gate.specs.declared.decision.Change.{Change}
 use Rattle.gate.specs.declared.decision.Change.the-variants.{Keep, Append, Revoke}
 use Rattle.gate.specs.declared.plan.Plan.{Plan}
 use Rattle.gate.specs.Decision.{isFault, faultCode, decision}
-use Rattle.gate.specs.Deliver.{noRecord, recordFound, standingOf, accountOf, viewOf, planWith, planOf, nextAuthcode, makeRecord, revoked, Changed, changed, settles, answersAuthcode, answersDate, answerDate, answerOf, Delivered, undelivered, respond, deliver}
+use Rattle.gate.specs.Deliver.{noRecord, recordFound, standingOf, accountOf, viewOf, planWith, planOf, nextAuthcode, makeRecord, revoked, Changed, changed, settles, answersAuthcode, answersDate, answerDate, answerOf, Delivery, undelivered, respond, deliver}
 use Rattle.gate_theorems.proofs.AnswerGood.{gate-answers}
 use Rattle.gate.proofs.GoodLaws.{used-few}
 use Rattle.gate_theorems.proofs.CodeLaws.{oneOf, answerCodes, isSilent, not-in, decision-by, fault-by, Told, subject, decided-told, known-found, told-fits, again-same}
@@ -103,7 +103,7 @@ module _ (g : Gate) (t : Rows) (clock params : List ℕ) where
       go Revoke k = unfold changed planWith in k
 
 module _ (g : Gate) (t : Rows) (clock params out : List ℕ) where
-  abbrev pub delivery : Delivered
+  abbrev pub delivery : Delivery
   delivery = deliver g t clock params out
 
   abbrev answer : Answer
@@ -113,7 +113,7 @@ module _ (g : Gate) (t : Rows) (clock params out : List ℕ) where
   gives c r = answerOf (asks params) c r clock
 
   -- 68, 50 and 51 write nothing and keep all; else an answer is written that tells what it should
-  answer-cases : (P : Delivered → Type 0) → P (undelivered 68 g t out) → P (undelivered 50 g t out) → P (undelivered 51 g t out)
+  answer-cases : (P : Delivery → Type 0) → P (undelivered 68 g t out) → P (undelivered 50 g t out) → P (undelivered 51 g t out)
       → ((c : ℕ) (r : Record) (g′ : Gate) (t′ : Rows) → 512 ≤ length out → Told clock (asks params) c r → answer ≡ gives c r
       → P (record { code = c; gate = g′; rows = t′; out = written out 0 (answerBytes (gives c r)); size = cursorAfter out 0 (answerBytes (gives c r)) }))
       → P delivery
@@ -128,34 +128,34 @@ module _ (g : Gate) (t : Rows) (clock params out : List ℕ) where
       (λ _. table)
 
   -- the same where a code other than 68, 50 and 51 is known
-  answered-by : (P : Delivered → Type 0)
+  answered-by : (P : Delivery → Type 0)
       → ((c : ℕ) (r : Record) (g′ : Gate) (t′ : Rows) → length (answerBytes (gives c r)) ≤ length out → Told clock (asks params) c r → answer ≡ gives c r
       → P (record { code = c; gate = g′; rows = t′; out = written out 0 (answerBytes (gives c r)); size = cursorAfter out 0 (answerBytes (gives c r)) }))
       → isSilent (delivery .code) ≡ false → P delivery
   answered-by P given =
-      answer-cases (λ (d : Delivered). isSilent (d .code) ≡ false → P d) (λ h. no-claim (sym h)) (λ h. no-claim (sym h)) (λ h. no-claim (sym h))
+      answer-cases (λ (d : Delivery). isSilent (d .code) ≡ false → P d) (λ h. no-claim (sym h)) (λ h. no-claim (sym h)) (λ h. no-claim (sym h))
       (λ c r g′ t′ l k e h. given c r g′ t′ (omega (arith, l, told-fits clock (asks params) c r k)) k e)
 
   -- what is written is the text of that answer
   pub deliver-text : isSilent (delivery .code) ≡ false → take (delivery .size) (delivery .out) ≡ answerBytes answer
-  deliver-text = answered-by (λ (d : Delivered). take (d .size) (d .out) ≡ answerBytes answer) (λ c r g′ t′ fits k e. text-back out (answerBytes (gives c r)) fits ∙ ap answerBytes (sym e))
+  deliver-text = answered-by (λ (d : Delivery). take (d .size) (d .out) ≡ answerBytes answer) (λ c r g′ t′ fits k e. text-back out (answerBytes (gives c r)) fits ∙ ap answerBytes (sym e))
 
   -- the agent's reader takes it, and reads that answer again
   pub deliver-reads : isSilent (delivery .code) ≡ false → answerRead (asks params) (take (delivery .size) (delivery .out)) ≡ record { ok = true; answer = answer }
   deliver-reads h =
       ap (answerRead (asks params)) (deliver-text h)
-      ∙ answered-by (λ (d : Delivered). answerRead (asks params) (answerBytes answer) ≡ record { ok = true; answer = answer })
+      ∙ answered-by (λ (d : Delivery). answerRead (asks params) (answerBytes answer) ≡ record { ok = true; answer = answer })
       (λ c r g′ t′ fits k e. rw e (gate-answers (asks params) c r clock (k .small) (k .auth) (k .date) ∙ ap (λ (x : Answer). record { ok = true; answer = x }) (again-same clock (asks params) c r))) h
 
   -- which has the code that is returned
   pub deliver-told : isSilent (delivery .code) ≡ false → answer .code ≡ delivery .code
   unfolding answerOf
-  deliver-told = answered-by (λ (d : Delivered). answer .code ≡ d .code) (λ c r g′ t′ fits k e. ap (λ (x : Answer). x .code) e)
+  deliver-told = answered-by (λ (d : Delivery). answer .code ≡ d .code) (λ c r g′ t′ fits k e. ap (λ (x : Answer). x .code) e)
 
   -- its size is the length of the answer's text
   pub deliver-size : isSilent (delivery .code) ≡ false → delivery .size ≡ length (answerBytes answer)
   deliver-size =
-      answered-by (λ (d : Delivered). d .size ≡ length (answerBytes answer))
+      answered-by (λ (d : Delivery). d .size ≡ length (answerBytes answer))
       (λ c r g′ t′ fits k e.
       let l : 0 + length (answerBytes (gives c r)) ≤ length out = omega arith in
       sym (cursor-moves out 0 (answerBytes (gives c r)) l) ∙ zero-add _ ∙ ap (λ (x : Answer). length (answerBytes x)) (sym e))
@@ -163,13 +163,13 @@ module _ (g : Gate) (t : Rows) (clock params out : List ℕ) where
   -- with 68, 50 and 51 nothing is written, and all is kept
   pub deliver-silent : isSilent (delivery .code) ≡ true → delivery ≡ undelivered (delivery .code) g t out
   deliver-silent =
-      answer-cases (λ (d : Delivered). isSilent (d .code) ≡ true → d ≡ undelivered (d .code) g t out) (λ _. refl) (λ _. refl) (λ _. refl)
+      answer-cases (λ (d : Delivery). isSilent (d .code) ≡ true → d ≡ undelivered (d .code) g t out) (λ _. refl) (λ _. refl) (λ _. refl)
       (λ c r g′ t′ l k e h. no-claim (sym (k .loud) ∙ h))
 
   -- never more than 512 bytes are written
   pub deliver-most : delivery .size ≤ 512
   deliver-most =
-      answer-cases (λ (d : Delivered). d .size ≤ 512) (omega arith) (omega arith) (omega arith)
+      answer-cases (λ (d : Delivery). d .size ≤ 512) (omega arith) (omega arith) (omega arith)
       (λ c r g′ t′ l k e.
       let fits : 0 + length (answerBytes (gives c r)) ≤ length out = omega (arith, l, told-fits clock (asks params) c r k) in
       omega (arith, cursor-moves out 0 (answerBytes (gives c r)) fits, told-fits clock (asks params) c r k))
@@ -177,7 +177,7 @@ module _ (g : Gate) (t : Rows) (clock params out : List ℕ) where
   -- a delivery gives one of fifteen codes
   pub codes-of : oneOf answerCodes (delivery .code) || isSilent (delivery .code) ≡ true
   unfolding oneOf
-  codes-of = answer-cases (λ (d : Delivered). oneOf answerCodes (d .code) || isSilent (d .code) ≡ true) refl refl refl (λ c r g′ t′ l k e. rw (k .listed) refl)
+  codes-of = answer-cases (λ (d : Delivery). oneOf answerCodes (d .code) || isSilent (d .code) ≡ true) refl refl refl (λ c r g′ t′ l k e. rw (k .listed) refl)
 
   -- never 8
   pub never-eight : delivery .code ≡ 8 → ⊥

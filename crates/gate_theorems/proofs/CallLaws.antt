@@ -32,7 +32,7 @@ use Rattle.gate.specs.declared.Reply.{Reply}
 use Rattle.message.specs.declared.action.Action.the-variants.{Payment}
 use Rattle.message.specs.declared.request.Asked.{Asked}
 use Rattle.message.specs.Request.{requestRead}
-use Rattle.gate.specs.Deliver.{isShort, debitedAt, respond, deliver, Delivered}
+use Rattle.gate.specs.Deliver.{isShort, debitedAt, respond, deliver, Delivery}
 use Rattle.gate.specs.Opening.{replies, openTo, openCall, drawOn, drawFrom, drawCall}
 use Rattle.gate_theorems.proofs.OutcomeLaws.{Outcome, stays, appends, revokes, outcome}
 use Rattle.gate_theorems.proofs.KeepsLaws.{delivered-by}
@@ -246,7 +246,7 @@ module _ (g : Gate) (t : Rows) (ready : Ready g t) (good : tableGood g t ≡ tru
   short-near Nothing n k m is funds = bound
   short-near (At a) n k m is funds = near-debited g a m bound (holder-within g n k a (At a) is refl) funds
 
-  outcome-near : (clock : List ℕ) (q : Asked) (d : Delivered) → Outcome g t clock q d → Roomy g t q → Near (d .gate)
+  outcome-near : (clock : List ℕ) (q : Asked) (d : Delivery) → Outcome g t clock q d → Roomy g t q → Near (d .gate)
   outcome-near clock q d (stays eg er) room = rw eg bound
   outcome-near clock q d (appends a ea en ef _ day ec eg er) room = rw eg (near-used (credited g a (q .amount)) (g .used + 1) (near-credited g a (q .amount) bound (room a ea en ef)))
   outcome-near clock q d (revokes i r f ea ei er ef es day fu ec eg el) room = rw eg (short-near f (r .number) (r .kind) (r .amount) ef fu)
@@ -254,7 +254,7 @@ module _ (g : Gate) (t : Rows) (ready : Ready g t) (good : tableGood g t ≡ tru
   module _ (clock params out : List ℕ) (room : Roomy g t ((requestRead params) .asked)) where
     delivered-near : Near ((deliver g t clock params out) .gate)
     delivered-near =
-        delivered-by g t clock params out (λ (d : Delivered). Near (d .gate)) (λ code left size. bound)
+        delivered-by g t clock params out (λ (d : Delivery). Near (d .gate)) (λ code left size. bound)
         (λ _ _. outcome-near clock ((requestRead params) .asked) (respond g t clock ((requestRead params) .fault) ((requestRead params) .asked) out) (outcome g t clock ((requestRead params) .fault) ((requestRead params) .asked) out) room)
 
     -- 5: a delivery keeps row 68 where its account has room for a payment

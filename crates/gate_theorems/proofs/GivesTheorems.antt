@@ -32,7 +32,7 @@ use Rattle.table.proofs.TableLaws.{length-records, getD-records, receipt-within
 use Rattle.gate.specs.declared.decision.Change.the-variants.{Append, Revoke}
 use Rattle.gate.specs.declared.plan.Plan.{Plan}
 use Rattle.gate.specs.Decision.{paymentNew, cancelDone, decisionOn, decision}
-use Rattle.gate.specs.Deliver.{noRecord, dateClosed, isCancel, accountOf, dateOf, isFull, viewOf, planWith, planOf, makeRecord, revoked, debitedAt, changed, respondBy, respond, deliver, Delivered}
+use Rattle.gate.specs.Deliver.{noRecord, dateClosed, isCancel, accountOf, dateOf, isFull, viewOf, planWith, planOf, makeRecord, revoked, debitedAt, changed, respondBy, respond, deliver, Delivery}
 use Rattle.gate.specs.Opening.{replies, openTo, openCall, drawOn, drawFrom, drawCall}
 use Rattle.gate_theorems.proofs.CallLaws.{newAccount, opened-other, opened-new}
 use Rattle.gate_theorems.proofs.OutcomeLaws.{Outcome, stays, appends, revokes, outcome}
@@ -87,14 +87,14 @@ module _ (g : Gate) (t : Rows) (n : Number) (k : ℕ) (good : tableGood g t ≡ 
 
 -- ---- a request without a fault
 -- the payment asked is recorded, and credited to account a
-pub record Paid (g : Gate) (t : Rows) (clock : List ℕ) (q : Asked) (a : ℕ) (d : Delivered) : Type 0 where
+pub record Paid (g : Gate) (t : Rows) (clock : List ℕ) (q : Asked) (a : ℕ) (d : Delivery) : Type 0 where
   pub code : d .code ≡ 0
   pub gate : d .gate ≡ withUsed (credited g a (q .amount)) (g .used + 1)
   pub rows : d .rows ≡ rowsFrom t (recordsOf t (g .used) ++ (makeRecord g clock q ∷ []))
   pub balances : Moved g (d .gate) a (balanceAt g a +ℤ pos (q .amount))
 
 -- record i is cancelled at the clock, and its amount taken from account a
-pub record Revoked (g : Gate) (t : Rows) (clock : List ℕ) (i a : ℕ) (d : Delivered) : Type 0 where
+pub record Revoked (g : Gate) (t : Rows) (clock : List ℕ) (i a : ℕ) (d : Delivery) : Type 0 where
   pub code : d .code ≡ 0
   pub gate : d .gate ≡ debited g a ((recordAt t i) .amount)
   pub rows : d .rows ≡ rowsFrom t (set (recordsOf t (g .used)) i (revoked clock (recordAt t i)))
@@ -167,7 +167,7 @@ module _ (g : Gate) (t : Rows) (clock params out : List ℕ) (good : tableGood g
 
 -- ---- any delivery
 -- no record and no balance moves; or one record more, its amount on the first account that fits; or one record cancelled, its amount off its account
-pub data Moves (g : Gate) (t : Rows) (clock : List ℕ) (q : Asked) (d : Delivered) : Type 0 where
+pub data Moves (g : Gate) (t : Rows) (clock : List ℕ) (q : Asked) (d : Delivery) : Type 0 where
   none-moves : recordsOf (d .rows) (d .gate .used) ≡ recordsOf t (g .used) → ((j : ℕ) → balanceAt (d .gate) j ≡ balanceAt g j) → Moves g t clock q d
   one-paid : (a : ℕ) → findRecord (q .receipt) (recordsOf t (g .used)) ≡ Nothing → findAccount (q .number) (q .kind) (accountsOf g) ≡ At a
       → recordsOf (d .rows) (d .gate .used) ≡ recordsOf t (g .used) ++ (makeRecord g clock q ∷ []) → Moved g (d .gate) a (balanceAt g a +ℤ pos (q .amount)) → Moves g t clock q d
@@ -176,7 +176,7 @@ pub data Moves (g : Gate) (t : Rows) (clock : List ℕ) (q : Asked) (d : Deliver
       → recordsOf (d .rows) (d .gate .used) ≡ set (recordsOf t (g .used)) i (revoked clock (recordAt t i))
       → Moved g (d .gate) a (balanceAt g a -ℤ pos ((recordAt t i) .amount)) → Moves g t clock q d
 
-module _ (g : Gate) (t : Rows) (clock : List ℕ) (q : Asked) (d : Delivered) where
+module _ (g : Gate) (t : Rows) (clock : List ℕ) (q : Asked) (d : Delivery) where
   -- the records that the rows hold
   left-records : (xs : List Record) (g′ : Gate) → d .rows ≡ rowsFrom t xs → d .gate ≡ g′ → length xs ≡ g′ .used → recordsOf (d .rows) (d .gate .used) ≡ xs
   left-records xs g′ er eg l =
@@ -217,11 +217,11 @@ amountAt j Nothing n = 0
 amountAt j (At a) n = cond (eqb a j) n 0
 
 -- what a delivery that added a record adds to the balance at j
-abbrev pub raised : Gate → Asked → Delivered → ℕ → ℕ
+abbrev pub raised : Gate → Asked → Delivery → ℕ → ℕ
 raised g q d j = cond (ltb (g .used) (d .gate .used)) (amountAt j (findAccount (q .number) (q .kind) (accountsOf g)) (q .amount)) 0
 
 -- what a delivery that turned record i from done to cancelled takes from it
-abbrev pub lowered : Gate → Rows → Delivered → Found → ℕ → ℕ
+abbrev pub lowered : Gate → Rows → Delivery → Found → ℕ → ℕ
 lowered g t d Nothing j = 0
 lowered g t d (At i) j =
     cond (eqb ((recordAt t i) .state) 1 && eqb ((recordAt (d .rows) i) .state) 2) (amountAt j (findAccount ((recordAt t i) .number) ((recordAt t i) .kind) (accountsOf g)) ((recordAt t i) .amount)) 0
@@ -238,7 +238,7 @@ moved-by amount none g g′ a n j m = go (ℕ-discrete j a)
     go (yes e) = rw (eq-eqb a j (sym e), e) (m .here)
     go (no d) = rw (ne-eqb a j (λ q. d (sym q)), none) (m .others j d ∙ sym (+ℤ-idr (balanceAt g j)))
 
-module _ (g : Gate) (t : Rows) (clock : List ℕ) (q : Asked) (d : Delivered) (j : ℕ) where
+module _ (g : Gate) (t : Rows) (clock : List ℕ) (q : Asked) (d : Delivery) (j : ℕ) where
   -- the records of d tell how many there are, and what is at i
   used-now : (xs : List Record) → recordsOf (d .rows) (d .gate .used) ≡ xs → d .gate .used ≡ length xs
   used-now xs e = sym (length-records (d .rows) (d .gate .used)) ∙ ap length e

@@ -26,7 +26,7 @@ use Rattle.table.specs.Accounts.{accountsOf, findAccount, balanceAt, debited, o
 use Rattle.table.specs.Valid.{tableGood, Ready}
 use Rattle.table.proofs.TableLaws.{rows-kept}
 use Rattle.gate.specs.declared.Reply.{Reply}
-use Rattle.gate.specs.Deliver.{Delivered, undelivered, respond, deliver}
+use Rattle.gate.specs.Deliver.{Delivery, undelivered, respond, deliver}
 use Rattle.gate.specs.Opening.{replies, openTo, openCall, drawOn, drawFrom, drawCall}
 use Rattle.gate_theorems.proofs.OutcomeLaws.{Outcome, stays, appends, revokes, outcome}
 
@@ -53,7 +53,7 @@ module _ (g : Gate) (t : Rows) (clock params out : List ℕ) where
   unfolding deliver
   refused-keeps = go (tableGood g t) (leb 512 (length out)) (isWritten clock) (respond g t clock ((requestRead params) .fault) ((requestRead params) .asked) out)
     where
-      go : (a b c : Bool) (x : Delivered) → a && (b && c) ≡ false
+      go : (a b c : Bool) (x : Delivery) → a && (b && c) ≡ false
           → ((cond a (cond b (cond c x (undelivered 51 g t out)) (undelivered 50 g t out)) (undelivered 68 g t out)) .gate ≡ g)
           × ((cond a (cond b (cond c x (undelivered 51 g t out)) (undelivered 50 g t out)) (undelivered 68 g t out)) .rows ≡ t)
           × ((cond a (cond b (cond c x (undelivered 51 g t out)) (undelivered 50 g t out)) (undelivered 68 g t out)) .out ≡ out)
@@ -63,7 +63,7 @@ module _ (g : Gate) (t : Rows) (clock params out : List ℕ) where
       go true true true x h = no-claim (sym h)
 
   -- what holds of every refusal and of every answer holds of a delivery
-  pub delivered-by : (P : Delivered → Type 0) → ((code : ℕ) (left : List ℕ) (size : ℕ) → P (record { code = code; gate = g; rows = t; out = left; size = size }))
+  pub delivered-by : (P : Delivery → Type 0) → ((code : ℕ) (left : List ℕ) (size : ℕ) → P (record { code = code; gate = g; rows = t; out = left; size = size }))
       → (tableGood g t ≡ true → isWritten clock ≡ true → P (respond g t clock ((requestRead params) .fault) ((requestRead params) .asked) out))
       → P (deliver g t clock params out)
   unfolding deliver
@@ -78,7 +78,7 @@ module _ (g : Gate) (t : Rows) (clock params out : List ℕ) where
 
 -- ---- a fault keeps the gate and the rows
 -- the gate and the rows are as they were
-pub record Kept (g : Gate) (t : Rows) (d : Delivered) : Type 0 where
+pub record Kept (g : Gate) (t : Rows) (d : Delivery) : Type 0 where
   pub gate : d .gate ≡ g
   pub rows : d .rows ≡ t
 
@@ -87,7 +87,7 @@ module _ (g : Gate) (t : Rows) (ready : Ready g t) (clock : List ℕ) where
   pub respond-keeps : (fault : ℕ) (q : Asked) (out : List ℕ) → ((respond g t clock fault q out) .code ≡ 0 → ⊥) → Kept g t (respond g t clock fault q out)
   respond-keeps fault q out = go (respond g t clock fault q out) (outcome g t clock fault q out)
     where
-      go : (d : Delivered) → Outcome g t clock q d → (d .code ≡ 0 → ⊥) → Kept g t d
+      go : (d : Delivery) → Outcome g t clock q d → (d .code ≡ 0 → ⊥) → Kept g t d
       go d (stays eg er) n = record { gate = eg; rows = er ∙ rows-kept t (g .used) (ready .whole) }
       go d (appends a ea en ef room day ec eg er) n = absurd (n ec)
       go d (revokes i r f ea ei er ef es day fu ec eg el) n = absurd (n ec)
@@ -95,7 +95,7 @@ module _ (g : Gate) (t : Rows) (ready : Ready g t) (clock : List ℕ) where
   -- a delivery with a code other than 0 keeps the gate and the rows
   pub fault-keeps : (params out : List ℕ) → ((deliver g t clock params out) .code ≡ 0 → ⊥) → Kept g t (deliver g t clock params out)
   fault-keeps params out =
-      delivered-by g t clock params out (λ (d : Delivered). (d .code ≡ 0 → ⊥) → Kept g t d)
+      delivered-by g t clock params out (λ (d : Delivery). (d .code ≡ 0 → ⊥) → Kept g t d)
       (λ code left size n. record { gate = refl; rows = refl })
       (λ _ _. respond-keeps ((requestRead params) .fault) ((requestRead params) .asked) out)
 

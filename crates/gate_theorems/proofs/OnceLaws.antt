@@ -21,7 +21,7 @@ use Rattle.table.specs.Table.{Rows, recordsOf, findRecord, rowsFrom}
 use Rattle.table.specs.Accounts.{noAccount, balanceAt, withBalance, debited}
 use Rattle.table.proofs.TableLaws.{length-records, records-from}
 use Rattle.gate.specs.declared.decision.Change.the-variants.{Append}
-use Rattle.gate.specs.Deliver.{noRecord, recordFound, standingOf, accountOf, viewOf, planWith, planOf, debitedAt, respond, deliver, Delivered}
+use Rattle.gate.specs.Deliver.{noRecord, recordFound, standingOf, accountOf, viewOf, planWith, planOf, debitedAt, respond, deliver, Delivery}
 use Rattle.gate.proofs.DecisionLaws.{Appends, append-of}
 use Rattle.gate_theorems.proofs.OutcomeLaws.{missing-of, Outcome, stays, appends, revokes, outcome}
 use Rattle.gate_theorems.proofs.KeepsLaws.{delivered-by}
@@ -82,7 +82,7 @@ module _ (g : Gate) (t : Rows) (clock : List ℕ) (fault : ℕ) (q : Asked) (out
   pub once-used : (respond g t clock fault q out) .gate .used ≡ g .used
   once-used = go (respond g t clock fault q out) (outcome g t clock fault q out)
     where
-      go : (d : Delivered) → Outcome g t clock q d → d .gate .used ≡ g .used
+      go : (d : Delivery) → Outcome g t clock q d → d .gate .used ≡ g .used
       go d (stays eg er) = ap (λ (x : Gate). x .used) eg
       go d (appends a ea en ef room day ec eg er) = absent en
       go d (revokes k r f ea ek er ef es day fu ec eg el) = ap (λ (x : Gate). x .used) eg ∙ debit-used g f (r .amount)
@@ -91,7 +91,7 @@ module _ (g : Gate) (t : Rows) (clock : List ℕ) (fault : ℕ) (q : Asked) (out
   pub once-balance : (j : ℕ) → balanceAt ((respond g t clock fault q out) .gate) j ≤ℤ balanceAt g j
   once-balance j = go (respond g t clock fault q out) (outcome g t clock fault q out)
     where
-      go : (d : Delivered) → Outcome g t clock q d → balanceAt (d .gate) j ≤ℤ balanceAt g j
+      go : (d : Delivery) → Outcome g t clock q d → balanceAt (d .gate) j ≤ℤ balanceAt g j
       go d (stays eg er) = rw eg (≤ℤ-refl (balanceAt g j))
       go d (appends a ea en ef room day ec eg er) = absent en
       go d (revokes k r f ea ek er ef es day fu ec eg el) = rw eg (debit-below g f (r .amount) j)
@@ -101,7 +101,7 @@ module _ (g : Gate) (t : Rows) (clock : List ℕ) (fault : ℕ) (q : Asked) (out
       → ((respond g t clock fault q out) .gate ≡ g) × (recordsOf ((respond g t clock fault q out) .rows) (g .used) ≡ recordsOf t (g .used))
   once-payment p = go (respond g t clock fault q out) (outcome g t clock fault q out)
     where
-      go : (d : Delivered) → Outcome g t clock q d → (d .gate ≡ g) × (recordsOf (d .rows) (g .used) ≡ recordsOf t (g .used))
+      go : (d : Delivery) → Outcome g t clock q d → (d .gate ≡ g) × (recordsOf (d .rows) (g .used) ≡ recordsOf t (g .used))
       go d (stays eg er) = (eg, ap (λ (x : Rows). recordsOf x (g .used)) er ∙ same-records t (g .used))
       go d (appends a ea en ef room day ec eg er) = absent en
       go d (revokes k r f ea ek er ef es day fu ec eg el) = let y : Payment ≡ Cancel = sym p ∙ ea in let z : _≡_ {A = ℕ} 0 1 = cc in absurd (omega arith)
@@ -111,11 +111,11 @@ module _ (g : Gate) (t : Rows) (clock params out : List ℕ) (i : ℕ) (known : 
   -- a delivery of a recorded receipt adds no record
   pub delivered-once : (deliver g t clock params out) .gate .used ≡ g .used
   delivered-once =
-      delivered-by g t clock params out (λ (d : Delivered). d .gate .used ≡ g .used) (λ code left size. refl)
+      delivered-by g t clock params out (λ (d : Delivery). d .gate .used ≡ g .used) (λ code left size. refl)
       (λ _ _. once-used g t clock ((requestRead params) .fault) ((requestRead params) .asked) out i known)
 
   -- and raises no balance
   pub delivered-balance : (j : ℕ) → balanceAt ((deliver g t clock params out) .gate) j ≤ℤ balanceAt g j
   delivered-balance j =
-      delivered-by g t clock params out (λ (d : Delivered). balanceAt (d .gate) j ≤ℤ balanceAt g j) (λ code left size. ≤ℤ-refl (balanceAt g j))
+      delivered-by g t clock params out (λ (d : Delivery). balanceAt (d .gate) j ≤ℤ balanceAt g j) (λ code left size. ≤ℤ-refl (balanceAt g j))
       (λ _ _. once-balance g t clock ((requestRead params) .fault) ((requestRead params) .asked) out i known j)

@@ -24,11 +24,11 @@ use Rattle.gate.specs.declared.decision.Change.the-variants.{Keep, Append, Revo
 use Rattle.gate.specs.declared.plan.Plan.{Plan}
 use Rattle.gate.specs.declared.decision.Decided.{Decided}
 use Rattle.gate.specs.Decision.{isFault, faultCode}
-use Rattle.gate.specs.Deliver.{recordFound, standingOf, dateClosed, isCancel, accountOf, dateOf, isShort, isFull, viewOf, planWith, planOf, makeRecord, revoked, creditedAt, debitedAt, changed, answered, respond, Delivered}
+use Rattle.gate.specs.Deliver.{recordFound, standingOf, dateClosed, isCancel, accountOf, dateOf, isShort, isFull, viewOf, planWith, planOf, makeRecord, revoked, creditedAt, debitedAt, changed, answered, respond, Delivery}
 use Rattle.gate.proofs.DecisionLaws.{Appends, Revokes, decision-cases, append-of, revoke-of}
 
 -- ---- the outcomes of a request: all stays, a payment is recorded, or a payment is revoked
-pub data Outcome (g : Gate) (t : Rows) (clock : List ℕ) (q : Asked) (d : Delivered) : Type 0 where
+pub data Outcome (g : Gate) (t : Rows) (clock : List ℕ) (q : Asked) (d : Delivery) : Type 0 where
   stays : d .gate ≡ g → d .rows ≡ rowsFrom t (recordsOf t (g .used)) → Outcome g t clock q d
   appends : (a : ℕ) → q .action ≡ Payment → findRecord (q .receipt) (recordsOf t (g .used)) ≡ Nothing
       → findAccount (q .number) (q .kind) (accountsOf g) ≡ At a → g .used < length (t .nums) → dateClosed g (q .date) ≡ false → d .code ≡ 0

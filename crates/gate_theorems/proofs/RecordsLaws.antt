@@ -20,7 +20,7 @@ use borrow.Author.Tests.{eqb-false}
 use Rattle.table.specs.Table.{findRecord, hasReceipt}
 use Rattle.lists.proofs.ListLaws.{found-none}
 use Rattle.table.proofs.TableLaws.{length-records, getD-records, from-at}
-use Rattle.gate.specs.Deliver.{noRecord, dateClosed, makeRecord, revoked, debitedAt, respond, deliver, Delivered}
+use Rattle.gate.specs.Deliver.{noRecord, dateClosed, makeRecord, revoked, debitedAt, respond, deliver, Delivery}
 use Rattle.gate.proofs.ChangeLaws.{debit-used}
 use Rattle.gate_theorems.proofs.OutcomeLaws.{Outcome, stays, appends, revokes, outcome}
 use Rattle.gate_theorems.proofs.KeepsLaws.{delivered-by}
@@ -37,7 +37,7 @@ pub record SameIdentity (r r′ : Record) : Type 0 where
   pub final : (r .state ≡ 1 → ⊥) → r′ ≡ r
 
 -- no record in use is lost, each keeps what it is known by, and one of a closed day keeps all
-pub record Lasting (g : Gate) (t : Rows) (d : Delivered) : Type 0 where
+pub record Lasting (g : Gate) (t : Rows) (d : Delivery) : Type 0 where
   pub used : g .used ≤ d .gate .used
   pub identity : (i : ℕ) (z : Record) → i < g .used → SameIdentity (getD (recordsOf t (g .used)) i z) (getD (recordsOf (d .rows) (d .gate .used)) i z)
   pub settled : (i : ℕ) → i < g .used → dateClosed g ((recordAt t i) .date) ≡ true → recordAt (d .rows) i ≡ recordAt t i
@@ -61,7 +61,7 @@ revoked-identity clock r h =
     record { receipt = refl; number = refl; kind = refl; amount = refl; date = refl; authcode = refl; credit = refl; final = λ n. absurd (n h) }
 
 -- the records after a delivery, place by place
-module _ (g : Gate) (t : Rows) (d : Delivered) where
+module _ (g : Gate) (t : Rows) (d : Delivery) where
   lasting-from : (rs : List Record) → d .rows ≡ rowsFrom t rs → g .used ≤ length rs → g .used ≤ d .gate .used
       → ((i : ℕ) → i < g .used → SameIdentity (recordAt t i) (getD rs i noRecord))
       → ((i : ℕ) → i < g .used → dateClosed g ((recordAt t i) .date) ≡ true → getD rs i noRecord ≡ recordAt t i) → Lasting g t d
@@ -135,7 +135,7 @@ records-last g t clock params out =
 pub record Distinct (g : Gate) (t : Rows) : Type 0 where
   pub apart : (i j : ℕ) → i < j → j < g .used → (recordAt t i) .receipt ≡ (recordAt t j) .receipt → ⊥
 
-module _ (g : Gate) (t : Rows) (once : Distinct g t) (d : Delivered) (last : Lasting g t d) where
+module _ (g : Gate) (t : Rows) (once : Distinct g t) (d : Delivery) (last : Lasting g t d) where
   receipt-kept : (i : ℕ) → i < g .used → (recordAt (d .rows) i) .receipt ≡ (recordAt t i) .receipt
   receipt-kept i h =
       let more = last .used in
@@ -174,7 +174,7 @@ module _ (g : Gate) (t : Rows) (once : Distinct g t) (d : Delivered) (last : Las
 -- where no receipt is recorded twice, none is after any delivery
 pub receipts-distinct : (g : Gate) (t : Rows) → Distinct g t → (clock params out : List ℕ) → Distinct ((deliver g t clock params out) .gate) ((deliver g t clock params out) .rows)
 receipts-distinct g t once clock params out =
-    delivered-by g t clock params out (λ (d : Delivered). Distinct (d .gate) (d .rows))
+    delivered-by g t clock params out (λ (d : Delivery). Distinct (d .gate) (d .rows))
     (λ code left size. once)
     (λ _ _. distinct-outcome g t once (respond g t clock ((requestRead params) .fault) ((requestRead params) .asked) out) (respond-lasts g t clock ((requestRead params) .fault) ((requestRead params) .asked) out)
     clock ((requestRead params) .asked) (outcome g t clock ((requestRead params) .fault) ((requestRead params) .asked) out))

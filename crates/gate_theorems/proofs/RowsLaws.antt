@@ -29,7 +29,7 @@ use Rattle.table.specs.Table.{Rows, recordAt, recordsOf, rowsFrom, Whole}
 use Rattle.table.specs.Accounts.{isAccount, accountsOf, findAccount, noAccount, withBalance, gateBalance, credited, debited, withUsed}
 use Rattle.table.specs.Valid.{stateGood, rangesGood, accountKnown, authcodeGood, recordGood, tableGood, Ready}
 use Rattle.table.proofs.TableLaws.{length-records, getD-records, from-at, from-whole, whole-from}
-use Rattle.gate.specs.Deliver.{noRecord, nextAuthcode, makeRecord, revoked, debitedAt, respond, deliver, Delivered}
+use Rattle.gate.specs.Deliver.{noRecord, nextAuthcode, makeRecord, revoked, debitedAt, respond, deliver, Delivery}
 use Rattle.gate_theorems.proofs.OutcomeLaws.{Outcome, stays, appends, revokes, outcome, respond-zero}
 use Rattle.gate_theorems.proofs.KeepsLaws.{delivered-by}
 use Rattle.gate.proofs.ChangeLaws.{debit-used}
@@ -170,7 +170,7 @@ module _ (g : Gate) (t : Rows) (good : Good g t) (g′ : Gate) (t′ : Rows) (sa
       one : (i : ℕ) → i < length rs → recordGood g′ i (recordAt t′ i) ≡ true
       one i h = good-there g g′ same i (recordAt t′ i) (ap (recordGood g i) (rw er (from-at t rs i noRecord h)) ∙ each i h)
 
-module _ (g : Gate) (t : Rows) (good : Good g t) (clock : List ℕ) (dated : isWritten clock ≡ true) (q : Asked) (d : Delivered) (asked : d .code ≡ 0 → AskedGood q) where
+module _ (g : Gate) (t : Rows) (good : Good g t) (clock : List ℕ) (dated : isWritten clock ≡ true) (q : Asked) (d : Delivery) (asked : d .code ≡ 0 → AskedGood q) where
   each-used : (i : ℕ) → i < g .used → recordGood g i (getD (recordsOf t (g .used)) i noRecord) ≡ true
   each-used i h = ap (recordGood g i) (getD-records t (g .used) i noRecord h) ∙ good .records i h
 
@@ -226,7 +226,7 @@ module _ (g : Gate) (t : Rows) (ready : Ready g t) (good : tableGood g t ≡ tru
   pub delivered-again : Again g ((deliver g t clock params out) .gate) ((deliver g t clock params out) .rows)
   delivered-again =
       let facts : Good g t = good-table g t (ready .sound .places) good in
-      delivered-by g t clock params out (λ (d : Delivered). Again g (d .gate) (d .rows))
+      delivered-by g t clock params out (λ (d : Delivery). Again g (d .gate) (d .rows))
       (λ code left size. record { good = facts; names = names-same g g refl; whole = ready .whole })
       (λ _ dated. again-outcome g t facts clock dated ((requestRead params) .asked) (respond g t clock ((requestRead params) .fault) ((requestRead params) .asked) out)
       (λ z. read-good params (respond-zero g t clock ((requestRead params) .fault) ((requestRead params) .asked) out z)) (outcome g t clock ((requestRead params) .fault) ((requestRead params) .asked) out))

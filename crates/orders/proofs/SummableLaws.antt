@@ -37,7 +37,7 @@ use Rattle.table.proofs.RangeLaws.{near-mag}
 use Rattle.table.proofs.SignedLaws.{mag-up}
 use Rattle.gate.specs.declared.Reply.{Reply}
 use Rattle.gate.specs.Opening.{openTo, openCall, drawOn, drawFrom, drawCall}
-use Rattle.gate.specs.Deliver.{isShort, debitedAt, deliver, respond, Delivered}
+use Rattle.gate.specs.Deliver.{isShort, debitedAt, deliver, respond, Delivery}
 use Rattle.gate.proofs.DeliverLaws.{asked-amount}
 use Rattle.gate_theorems.proofs.OutcomeLaws.{Outcome, stays, appends, revokes, outcome}
 use Rattle.gate_theorems.proofs.KeepsLaws.{delivered-by}
@@ -133,7 +133,7 @@ module _ (g : Gate) (s : Summable g) where
         (λ covered. debited-summable (At a) n k m is (not-true _ (and-right (isAmount m) _ covered)))
         (λ _. s)
 
-    outcome-summable : (clock : List ℕ) (q : Asked) (d : Delivered) → q .amount < 1000000000 → Outcome g t clock q d → Summable (d .gate)
+    outcome-summable : (clock : List ℕ) (q : Asked) (d : Delivery) → q .amount < 1000000000 → Outcome g t clock q d → Summable (d .gate)
     outcome-summable clock q d few (stays eg er) = rw eg s
     outcome-summable clock q d few (appends a ea en ef fu day ec eg er) =
         rw eg (credited-summable a (q .amount) (g .used + 1) (holder-within g (q .number) (q .kind) a (findAccount (q .number) (q .kind) (accountsOf g)) refl ef) few)
@@ -150,7 +150,7 @@ module _ (g : Gate) (s : Summable g) where
   deliver-summable t clock params out =
       let f : ℕ = (requestRead params) .fault in
       let q : Asked = (requestRead params) .asked in
-      delivered-by g t clock params out (λ (d : Delivered). Summable (d .gate)) (λ code left size. s)
+      delivered-by g t clock params out (λ (d : Delivery). Summable (d .gate)) (λ code left size. s)
       (λ good _. outcome-summable t good clock q (respond g t clock f q out) (asked-amount params (requestRead params) refl) (outcome g t clock f q out))
 
 -- ---- a line

@@ -22,8 +22,9 @@ use Rattle.table.specs.Table.{Rows}
 use Rattle.table.specs.Accounts.{accountsOf, withClosed}
 use Rattle.gate.specs.declared.Reply.{Reply}
 use Rattle.gate.specs.Opening.{openCall, drawCall}
-use Rattle.gate.specs.Deliver.{deliver, Delivered}
+use Rattle.gate.specs.Deliver.{deliver, Delivery}
 use Rattle.orders.specs.declared.Console.{Console}
+use Rattle.orders.specs.declared.turn.Turn.{Turn as Given}
 
 -- ---- the fields of a line: every space (32) splits
 abbrev pub spaced : List ℕ → List (List ℕ)
@@ -52,6 +53,9 @@ pub record Turn : Type 0 where
   pub code : ℕ
   pub console : Console
   pub rows : Rows
+
+abbrev pub turnOf : Given → Rows → Turn
+turnOf r rows = record { code = r .code; console = r .console; rows = rows }
 
 abbrev pub unread : Console → Rows → Turn
 unread x t = record { code = 99; console = x; rows = t }
@@ -88,7 +92,7 @@ unfoldable pub drawTurn : Console → Rows → List ℕ → Turn
 drawTurn x t l = drawOf x t l (digitsRead 15 (fieldAt 3 l))
 
 -- R clock parameters: the answer goes into a buffer of 512 bytes
-abbrev pub answered : Delivered → Turn
+abbrev pub answered : Delivery → Turn
 answered d = record { code = d .code; console = record { started = true; gate = d .gate }; rows = d .rows }
 
 unfoldable pub askTurn : Console → Rows → List ℕ → Turn

@@ -3,8 +3,8 @@ use crate::Console;
 use crate::line;
 use dates::calendar;
 use dates::calendar::DayRead;
-use fields::codes;
 use dates::date;
+use fields::codes;
 use fields::digits;
 use fields::digits::Digits;
 use fields::number;
@@ -16,31 +16,31 @@ ghost use mathlib.Core.Bool.{true};
 ghost use Rattle.fields.specs.declared.digits.Digits.the-variants.{Value};
 ghost use Rattle.table.specs.Table.{Rows};
 ghost use Rattle.table.specs.Lent.{before, after};
-ghost use Rattle.orders.specs.declared.turn.Turned.{Turned};
-ghost use Rattle.orders.specs.Order.{Turn, kindIn, startTurn, openTurn, drawOf, drawTurn, askTurn, orderTurn, lineTurn};
+ghost use Rattle.orders.specs.declared.turn.Turn.{Turn};
+ghost use Rattle.orders.specs.Order.{turnOf, kindIn, startTurn, openTurn, drawOf, drawTurn, askTurn, orderTurn, lineTurn};
 
 // A line's code, or 99, and the console after it.
-pub struct Turned {
+pub struct Turn {
     pub code: u64,
     pub console: Console,
 }
 
 // A line that is not understood.
-fn not_read(x: Console) -> Turned
-    ensures { λ r. ⌜ _≡_ {A = Turned} r (record { code = 99; console = x }) ⌝ }
+fn not_read(x: Console) -> Turn
+    ensures { λ r. ⌜ _≡_ {A = Turn} r (record { code = 99; console = x }) ⌝ }
 {
-    Turned {
+    Turn {
         code: 99,
         console: x,
     }
 }
 
 // What a call at the gate answers.
-fn answered(r: Reply) -> Turned
-    ensures { λ a. ⌜ _≡_ {A = Turned} a (record { code = r .code; console = record { started = true; gate = r .gate } }) ⌝ }
+fn answered(r: Reply) -> Turn
+    ensures { λ a. ⌜ _≡_ {A = Turn} a (record { code = r .code; console = record { started = true; gate = r .gate } }) ⌝ }
 {
     let gate = r.gate;
-    Turned {
+    Turn {
         code: r.code,
         console: Console {
             started: true,
@@ -60,8 +60,8 @@ fn kind_in(d: Digits) -> u64
 }
 
 // C: a day starts the session.
-fn start_turn(x: Console, line: &[u8]) -> Turned
-    ensures { λ r. ⌜ ((t : Rows) → _≡_ {A = Turn} (record { code = r .code; console = r .console; rows = t }) (startTurn x t (now (line .entry)))) ⌝ }
+fn start_turn(x: Console, line: &[u8]) -> Turn
+    ensures { λ r. ⌜ ((t : Rows) → turnOf r t ≡ startTurn x t (now (line .entry))) ⌝ }
 {
     if !line::has_form(line, 67, 2) {
         return not_read(x);
@@ -85,10 +85,8 @@ fn open_turn(
     dates: &[[[u8; 19]; 3]],
     x: Console,
     line: &[u8],
-) -> Turned
-    ensures { λ r. ⌜ _≡_ {A = Turn}
-        (record { code = r .code; console = r .console; rows = before nums numbers dates })
-        (openTurn x (before nums numbers dates) (now (line .entry))) ⌝ }
+) -> Turn
+    ensures { λ r. ⌜ turnOf r (before nums numbers dates) ≡ openTurn x (before nums numbers dates) (now (line .entry)) ⌝ }
 {
     let n = number::read_number(line::field_at(line, 1));
     let kind = kind_in(codes::read_kind(line::field_at(line, 2)));
@@ -105,10 +103,8 @@ fn draw_of(
     x: Console,
     line: &[u8],
     kopecks: u64,
-) -> Turned
-    ensures { λ r. ⌜ _≡_ {A = Turn}
-        (record { code = r .code; console = r .console; rows = before nums numbers dates })
-        (drawOf x (before nums numbers dates) (now (line .entry)) (Value kopecks)) ⌝ }
+) -> Turn
+    ensures { λ r. ⌜ turnOf r (before nums numbers dates) ≡ drawOf x (before nums numbers dates) (now (line .entry)) (Value kopecks) ⌝ }
 {
     let n = number::read_number(line::field_at(line, 1));
     let kind = kind_in(codes::read_kind(line::field_at(line, 2)));
@@ -124,10 +120,8 @@ fn draw_turn(
     dates: &[[[u8; 19]; 3]],
     x: Console,
     line: &[u8],
-) -> Turned
-    ensures { λ r. ⌜ _≡_ {A = Turn}
-        (record { code = r .code; console = r .console; rows = before nums numbers dates })
-        (drawTurn x (before nums numbers dates) (now (line .entry))) ⌝ }
+) -> Turn
+    ensures { λ r. ⌜ turnOf r (before nums numbers dates) ≡ drawTurn x (before nums numbers dates) (now (line .entry)) ⌝ }
 {
     let Digits::Value(kopecks) = digits::read_digits(line::field_at(line, 3), 15) else {
         return not_read(x);
@@ -142,10 +136,8 @@ fn ask_turn(
     dates: &mut [[[u8; 19]; 3]],
     x: Console,
     line: &[u8],
-) -> Turned
-    ensures { λ r. ⌜ _≡_ {A = Turn}
-        (record { code = r .code; console = r .console; rows = after nums numbers dates })
-        (askTurn x (before nums numbers dates) (now (line .entry))) ⌝ }
+) -> Turn
+    ensures { λ r. ⌜ turnOf r (after nums numbers dates) ≡ askTurn x (before nums numbers dates) (now (line .entry)) ⌝ }
 {
     let mut out = [0u8; 512];
     let d = date::read_date(line::field_at(line, 1));
@@ -162,10 +154,8 @@ fn order_turn(
     dates: &mut [[[u8; 19]; 3]],
     x: Console,
     line: &[u8],
-) -> Turned
-    ensures { λ r. ⌜ _≡_ {A = Turn}
-        (record { code = r .code; console = r .console; rows = after nums numbers dates })
-        (orderTurn x (before nums numbers dates) (now (line .entry))) ⌝ }
+) -> Turn
+    ensures { λ r. ⌜ turnOf r (after nums numbers dates) ≡ orderTurn x (before nums numbers dates) (now (line .entry)) ⌝ }
 {
     if line::has_form(line, 79, 3) {
         return open_turn(nums, numbers, dates, x, line);
@@ -180,16 +170,14 @@ fn order_turn(
 }
 
 // What a line does: the first of a session starts it.
-pub fn turn(
+pub fn line_turn(
     nums: &mut [[u64; 6]],
     numbers: &mut [[u8; 30]],
     dates: &mut [[[u8; 19]; 3]],
     x: Console,
     line: &[u8],
-) -> Turned
-    ensures { λ r. ⌜ _≡_ {A = Turn}
-        (record { code = r .code; console = r .console; rows = after nums numbers dates })
-        (lineTurn x (before nums numbers dates) (now (line .entry))) ⌝ }
+) -> Turn
+    ensures { λ r. ⌜ turnOf r (after nums numbers dates) ≡ lineTurn x (before nums numbers dates) (now (line .entry)) ⌝ }
 {
     if x.started {
         order_turn(nums, numbers, dates, x, line)

@@ -1,8 +1,8 @@
 // One line of a registry: number, type, date, amount and receipt, split by 09.
-use fields::amount;
-use fields::codes;
 use dates::date;
 use dates::date::DateRead;
+use fields::amount;
+use fields::codes;
 use fields::digits;
 use fields::digits::Digits;
 use fields::number;

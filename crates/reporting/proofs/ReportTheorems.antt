@@ -29,7 +29,7 @@ use Rattle.book.proofs.BookLaws.{good-book, good-lent, book-again, state-again}
 use Rattle.book.proofs.PaymentLaws.{SamePayment, same-payment, entry-parts, fields-kept, state-range, waits}
 use Rattle.daybook.specs.Freezing.{isListed, listed, entryLine, registryOf, writeRegistry}
 use Rattle.daybook.proofs.ListedTheorems.{registry-alike, writing-same}
-use Rattle.reporting.specs.Reporting.{Reported, markedState, markedEntry, marked, unreported, settledBook, awaits, reportOn, takeReport}
+use Rattle.reporting.specs.Reporting.{Reporting, markedState, markedEntry, marked, unreported, settledBook, awaits, reportOn, takeReport}
 use Rattle.reporting.proofs.ReportingLaws.{marked-none, marked-length, marked-skip, marked-take}
 
 -- ---- the entry that a mark leaves
@@ -338,13 +338,13 @@ module _ (b : Book) (t : BookRows) (day : Day) (report : List ℕ) where
   abbrev before : List Entry
   before = entriesOf t (b .used)
 
-  abbrev after : Reported
+  abbrev after : Reporting
   after = takeReport b t day report
 
-  abbrev settles : Reported
+  abbrev settles : Reporting
   settles = record { code = 0; book = settledBook b; rows = rows b t day report }
 
-  module _ (P : Reported → Type 0)
+  module _ (P : Reporting → Type 0)
       (faults : (code : ℕ) → (code ≡ 55) ⊎ ((code ≡ 65) ⊎ (code ≡ 68)) → P (unreported code b t))
       (heard : awaits b day ≡ false → P (unreported 0 b t))
       (taken : bookGood b t ≡ true → isDay day && not (dayBefore (b .frozen) day) ≡ true → isReport (length (listed day before)) report ≡ true → awaits b day ≡ true → P settles) where
@@ -365,29 +365,29 @@ module _ (b : Book) (t : BookRows) (day : Day) (report : List ℕ) where
   -- ---- the codes, and what a fault leaves
   pub report-codes : (after .code ≡ 0) ⊎ ((after .code ≡ 55) ⊎ ((after .code ≡ 65) ⊎ (after .code ≡ 68)))
   report-codes =
-      report-cases (λ (r : Reported). (r .code ≡ 0) ⊎ ((r .code ≡ 55) ⊎ ((r .code ≡ 65) ⊎ (r .code ≡ 68))))
+      report-cases (λ (r : Reporting). (r .code ≡ 0) ⊎ ((r .code ≡ 55) ⊎ ((r .code ≡ 65) ⊎ (r .code ≡ 68))))
       (λ code h. inr h) (λ heard. inl refl) (λ good past fits waiting. inl refl)
 
   pub report-fault : (after .code ≡ 0 → ⊥) → after ≡ unreported (after .code) b t
   report-fault =
-      report-cases (λ (r : Reported). (r .code ≡ 0 → ⊥) → r ≡ unreported (r .code) b t)
+      report-cases (λ (r : Reporting). (r .code ≡ 0 → ⊥) → r ≡ unreported (r .code) b t)
       (λ code h n. refl) (λ heard n. refl) (λ good past fits waiting n. absurd (n refl))
 
   -- ---- row 68 is kept
   pub report-good : bookGood b t ≡ true → bookGood (after .book) (after .rows) ≡ true
   report-good good =
-      report-cases (λ (r : Reported). bookGood (r .book) (r .rows) ≡ true)
+      report-cases (λ (r : Reporting). bookGood (r .book) (r .rows) ≡ true)
       (λ code h. good) (λ heard. good) (λ good past fits waiting. rows-good b t day report good)
 
   pub report-ready : ReadyBook b t → ReadyBook (after .book) (after .rows)
   report-ready ready =
-      report-cases (λ (r : Reported). ReadyBook (r .book) (r .rows))
+      report-cases (λ (r : Reporting). ReadyBook (r .book) (r .rows))
       (λ code h. ready) (λ heard. ready) (λ good past fits waiting. rows-ready b t day report good)
 
   -- ---- what stays: of the book all but whether its day is settled
   pub report-head : after .book ≡ record { first = b .first; used = b .used; frozen = b .frozen; settled = after .book .settled }
   report-head =
-      report-cases (λ (r : Reported). r .book ≡ record { first = b .first; used = b .used; frozen = b .frozen; settled = r .book .settled })
+      report-cases (λ (r : Reporting). r .book ≡ record { first = b .first; used = b .used; frozen = b .frozen; settled = r .book .settled })
       (λ code h. refl) (λ heard. refl) (λ good past fits waiting. refl)
 
   report-used : after .book .used ≡ b .used
@@ -397,7 +397,7 @@ module _ (b : Book) (t : BookRows) (day : Day) (report : List ℕ) where
   each-kept : (P : Entry → Entry → Type 0) → ((e : Entry) → P e e) → ((e : Entry) (m : ℕ) → isListed day e ≡ true → P e (markedEntry e m))
       → (j : ℕ) → P (entryAt t j) (entryAt (after .rows) j)
   each-kept P p q j =
-      report-cases (λ (r : Reported). P (entryAt t j) (entryAt (r .rows) j))
+      report-cases (λ (r : Reporting). P (entryAt t j) (entryAt (r .rows) j))
       (λ code h. p (entryAt t j)) (λ heard. p (entryAt t j)) (λ good past fits waiting. each-marked b t day report P p q j)
 
   pub report-payments : (j : ℕ) → SamePayment (entryAt t j) (entryAt (after .rows) j)
@@ -416,7 +416,7 @@ module _ (b : Book) (t : BookRows) (day : Day) (report : List ℕ) where
       × (drop (b .used) (after .rows .dates) ≡ drop (b .used) (t .dates))
   report-past =
       report-cases
-      (λ (r : Reported).
+      (λ (r : Reporting).
       (drop (b .used) (r .rows .nums) ≡ drop (b .used) (t .nums))
       × (drop (b .used) (r .rows .numbers) ≡ drop (b .used) (t .numbers))
       × (drop (b .used) (r .rows .dates) ≡ drop (b .used) (t .dates)))
@@ -426,7 +426,7 @@ module _ (b : Book) (t : BookRows) (day : Day) (report : List ℕ) where
   -- ---- every registry is the same bytes
   pub report-registry : (d : Day) → registryOf d (entriesOf (after .rows) (after .book .used)) ≡ registryOf d (entriesOf t (b .used))
   report-registry d =
-      report-cases (λ (r : Reported). registryOf d (entriesOf (r .rows) (r .book .used)) ≡ registryOf d (entriesOf t (b .used)))
+      report-cases (λ (r : Reporting). registryOf d (entriesOf (r .rows) (r .book .used)) ≡ registryOf d (entriesOf t (b .used)))
       (λ code h. refl) (λ heard. refl) (λ good past fits waiting. registry-now b t day report d)
 
   -- and is written alike
@@ -439,7 +439,7 @@ module _ (b : Book) (t : BookRows) (day : Day) (report : List ℕ) where
   -- ---- a report of a day that does not wait for one changes nothing, whatever its bytes
   pub report-again : awaits b day ≡ false → after ≡ unreported (after .code) b t
   report-again none =
-      report-cases (λ (r : Reported). r ≡ unreported (r .code) b t)
+      report-cases (λ (r : Reporting). r ≡ unreported (r .code) b t)
       (λ code h. refl) (λ heard. refl) (λ good past fits waiting. no-claim (sym none ∙ waiting))
 
   -- only the last frozen day waits
@@ -450,13 +450,13 @@ module _ (b : Book) (t : BookRows) (day : Day) (report : List ℕ) where
   -- the day that has its report waits no more
   pub report-heard : after .code ≡ 0 → awaits (after .book) day ≡ false
   report-heard =
-      report-cases (λ (r : Reported). r .code ≡ 0 → awaits (r .book) day ≡ false)
+      report-cases (λ (r : Reporting). r .code ≡ 0 → awaits (r .book) day ≡ false)
       (λ code h z. absurd (fault-code code h z)) (λ none z. none) (λ good past fits waiting z. settled-awaits (settledBook b) day refl)
 
   -- twice the same report: what once leaves
   pub report-twice : takeReport (after .book) (after .rows) day report ≡ after
   report-twice =
-      report-cases (λ (r : Reported). after ≡ r → takeReport (r .book) (r .rows) day report ≡ r)
+      report-cases (λ (r : Reporting). after ≡ r → takeReport (r .book) (r .rows) day report ≡ r)
       (λ code h is. is) (λ none is. is) (λ good past fits waiting is. second good past fits) refl
     where
       second : bookGood b t ≡ true → isDay day && not (dayBefore (b .frozen) day) ≡ true → isReport (length (listed day before)) report ≡ true
@@ -468,15 +468,15 @@ module _ (b : Book) (t : BookRows) (day : Day) (report : List ℕ) where
   -- ---- the report that the day waits for
   module _ (waiting : awaits b day ≡ true) (zero : after .code ≡ 0) where
     -- what is known of it, and what it leaves
-    taken-cases : (P : Reported → Type 0) → (length (listed day before) ≡ length report → P settles) → P after
+    taken-cases : (P : Reporting → Type 0) → (length (listed day before) ≡ length report → P settles) → P after
     taken-cases P taken =
-        report-cases (λ (r : Reported). r .code ≡ 0 → P r)
+        report-cases (λ (r : Reporting). r .code ≡ 0 → P r)
         (λ code h z. absurd (fault-code code h z)) (λ none z. no-claim (sym none ∙ waiting))
         (λ good past fits _ z. taken (lines-of (length (listed day before)) report fits)) zero
 
     -- the day is settled
     pub report-settles : after .book ≡ settledBook b
-    report-settles = taken-cases (λ (r : Reported). r .book ≡ settledBook b) (λ n. refl)
+    report-settles = taken-cases (λ (r : Reporting). r .book ≡ settledBook b) (λ n. refl)
 
     -- the report has a byte for each entry that the day's registry lists
     pub report-lines : length (listed day (entriesOf t (b .used))) ≡ length report
@@ -486,13 +486,13 @@ module _ (b : Book) (t : BookRows) (day : Day) (report : List ℕ) where
     pub report-marks : (k : ℕ) → k < length report
         → getD (listed day (entriesOf (after .rows) (b .used))) k noEntry ≡ markedEntry (getD (listed day (entriesOf t (b .used))) k noEntry) (getD report k 0)
     report-marks k l =
-        taken-cases (λ (r : Reported). getD (listed day (entriesOf (r .rows) (b .used))) k noEntry ≡ markedEntry (getD (listed day before) k noEntry) (getD report k 0))
+        taken-cases (λ (r : Reporting). getD (listed day (entriesOf (r .rows) (b .used))) k noEntry ≡ markedEntry (getD (listed day before) k noEntry) (getD report k 0))
         (λ n. ap (λ (x : List Entry). getD (listed day x) k noEntry) (entries-now b t day report) ∙ marked-kth day before report n k l)
 
     -- no entry of the day waits any longer: it is credited, cancelled or unposted
     pub report-final : (j : ℕ) → j < b .used → onDay day (dateDay ((entryAt t j) .date)) ≡ true → waits (stateOf ((entryAt (after .rows) j) .state)) ≡ false
     report-final j l on =
-        taken-cases (λ (r : Reported). waits (stateOf ((entryAt (r .rows) j) .state)) ≡ false)
+        taken-cases (λ (r : Reporting). waits (stateOf ((entryAt (r .rows) j) .state)) ≡ false)
         (λ n.
         ap (λ (x : Entry). waits (stateOf (x .state))) (entry-from t (now b t day report) j noEntry (omega (arith, now-size b t day report)))
         ∙ marked-final day before report n j (omega (arith, length-entries t (b .used)))

@@ -1,6 +1,6 @@
 // The session program: it moves bytes from standard input to the console, and what the console prints to standard output.
 use console::feed;
-use console::feed::Session;
+use console::feed::Part;
 use console::gather;
 use fields::scan;
 ghost use mathlib.Core.Path.{_≡_};
@@ -9,7 +9,7 @@ ghost use Rattle.orders.specs.Sums.{Summable};
 
 // A session, whether its input goes on, and whether what it printed was written.
 struct Stage {
-    session: Session,
+    session: Part,
     going: bool,
     written: bool,
 }
@@ -41,12 +41,12 @@ fn input_part() -> [u8; 1024]
 }
 
 // A session that has not begun.
-fn begin() -> Session
+fn begin() -> Part
     ensures { λ r. ⌜ Summable (r .console .gate) ⌝ }
 {
     let console = gather::new_console();
     let held = gather::new_held();
-    Session {
+    Part {
         console,
         held,
         size: 0,
@@ -63,7 +63,7 @@ fn feed_some(
     nums: &mut [[u64; 6]],
     numbers: &mut [[u8; 30]],
     dates: &mut [[[u8; 19]; 3]],
-    s: Session,
+    s: Part,
 ) -> Stage
     requires { ⌜ Summable (s .console .gate) ⌝ }
     ensures { λ r. ⌜ Summable (r .session .console .gate) ⌝ }
@@ -98,7 +98,7 @@ fn feed_all(
     nums: &mut [[u64; 6]],
     numbers: &mut [[u8; 30]],
     dates: &mut [[[u8; 19]; 3]],
-    s: Session,
+    s: Part,
 ) -> Stage
     requires { ⌜ Summable (s .console .gate) ⌝ }
     ensures { λ r. ⌜ Summable (r .session .console .gate) ⌝ }
@@ -125,7 +125,7 @@ fn print_last(
     nums: &mut [[u64; 6]],
     numbers: &mut [[u8; 30]],
     dates: &mut [[[u8; 19]; 3]],
-    s: Session,
+    s: Part,
 ) -> bool
     requires { ⌜ Summable (s .console .gate) ⌝ }
 {

@@ -12,7 +12,7 @@ use Rattle.table.specs.declared.Gate.{Gate}
 use Rattle.table.specs.declared.Record.{Record}
 use Rattle.table.specs.Table.{Rows, recordsOf, rowsFrom}
 use Rattle.table.specs.Accounts.{withClosed}
-use Rattle.settlement.specs.Settle.{Ledger, settleLines, sweptRecord, swept, reportOf, Settled, settleDay}
+use Rattle.settlement.specs.Settle.{Ledger, settleLines, sweptRecord, swept, reportOf, Settlement, settleDay}
 use Rattle.settlement.specs.Steps.{Left, ledgerOf}
 use Rattle.settlement.proofs.HeldLaws.{from-from}
 
@@ -41,7 +41,7 @@ module _ (g : Gate) (t : Rows) (clock : List ℕ) (day : Day) (xs : List Line) (
       ∙ from-from t (recordsOf t₁ (a .used)) (recordsOf t₂ (b .used)) (omega (arith, as-many))
 
   pub day-settled : (out′ : List ℕ) → out′ ≡ over out 0 (reportOf xs (recordsOf t₂ (b .used))) → (n : ℕ) → n ≡ length xs
-      → _≡_ {A = Settled} (record { code = 0; gate = withClosed b day; rows = t₂; report = out′; size = n }) (settleDay g t clock day xs out)
+      → _≡_ {A = Settlement} (record { code = 0; gate = withClosed b day; rows = t₂; report = out′; size = n }) (settleDay g t clock day xs out)
   unfolding settleDay
   day-settled out′ e n en =
       rw (is₁, is₂)

@@ -22,7 +22,7 @@ use Rattle.table.specs.declared.Record.{Record}
 use Rattle.table.specs.Table.{Rows, recordAt, recordsOf}
 use Rattle.table.specs.Valid.{rangesGood, recordGood, authcodeGood, tableGood, Ready}
 use Rattle.gate.proofs.GoodLaws.{good-table}
-use Rattle.settlement.specs.Settle.{Settled, reportOf, settleDay, settleText, settle}
+use Rattle.settlement.specs.Settle.{Settlement, reportOf, settleDay, settleText, settle}
 use Rattle.settlement.specs.Steps.{Held}
 use Rattle.settlement.proofs.DayLaws.{report-written}
 
@@ -54,22 +54,22 @@ count-few day s f e z =
 
 -- ---- a text without a fault
 module _ (g : Gate) (t : Rows) (clock : List ℕ) (day : Day) (s out : List ℕ) (n : Bool) (en : n ≡ onDay day (nextDay (g .closed))) where
-  pub text-next : n ≡ true → (d : Settled) → d ≡ settleDay g t clock day (registryLines s) out → d ≡ settleText g t clock day s out
+  pub text-next : n ≡ true → (d : Settlement) → d ≡ settleDay g t clock day (registryLines s) out → d ≡ settleText g t clock day s out
   unfolding settleText
   text-next h d e = e ∙ rw (← en, h)
 
   module _ (h : n ≡ false) (rows : Rows) (er : rows ≡ t) (v : Bool) (ev : v ≡ isDay day) where
-    pub text-no-date : not v ≡ true → (left : List ℕ) → left ≡ out → _≡_ {A = Settled} (record { code = 55; gate = g; rows = rows; report = left; size = 0 }) (settleText g t clock day s out)
+    pub text-no-date : not v ≡ true → (left : List ℕ) → left ≡ out → _≡_ {A = Settlement} (record { code = 55; gate = g; rows = rows; report = left; size = 0 }) (settleText g t clock day s out)
     unfolding settleText
     text-no-date c left el = rw (← en, h, ← ev, not-true v c, er, el)
 
     module _ (c : not v ≡ false) (b : Bool) (eb : b ≡ dayBefore (g .closed) day) where
-      pub text-later : b ≡ true → (left : List ℕ) → left ≡ out → _≡_ {A = Settled} (record { code = 55; gate = g; rows = rows; report = left; size = 0 }) (settleText g t clock day s out)
+      pub text-later : b ≡ true → (left : List ℕ) → left ≡ out → _≡_ {A = Settlement} (record { code = 55; gate = g; rows = rows; report = left; size = 0 }) (settleText g t clock day s out)
       unfolding settleText
       text-later y left el = rw (← en, h, ← ev, not-false v c, ← eb, y, er, el)
 
       pub text-reported : b ≡ false → length (registryLines s) ≤ 512 → 512 ≤ length out → (left : List ℕ) → left ≡ over out 0 (reportOf (registryLines s) (recordsOf t (g .used)))
-          → (k : ℕ) → k ≡ length (registryLines s) → _≡_ {A = Settled} (record { code = 0; gate = g; rows = rows; report = left; size = k }) (settleText g t clock day s out)
+          → (k : ℕ) → k ≡ length (registryLines s) → _≡_ {A = Settlement} (record { code = 0; gate = g; rows = rows; report = left; size = k }) (settleText g t clock day s out)
       unfolding settleText
       text-reported y few room left el k ek =
           let w = el ∙ report-written (registryLines s) (recordsOf t (g .used)) out few room in
@@ -78,25 +78,25 @@ module _ (g : Gate) (t : Rows) (clock : List ℕ) (day : Day) (s out : List ℕ)
 -- ---- the call
 module _ (g : Gate) (t : Rows) (clock : List ℕ) (day : Day) (s out : List ℕ) (b : Bool) (eb : b ≡ tableGood g t) where
   module _ (rows : Rows) (er : rows ≡ t) (left : List ℕ) (el : left ≡ out) where
-    pub settle-not-table : not b ≡ true → _≡_ {A = Settled} (record { code = 68; gate = g; rows = rows; report = left; size = 0 }) (settle g t clock day s out)
+    pub settle-not-table : not b ≡ true → _≡_ {A = Settlement} (record { code = 68; gate = g; rows = rows; report = left; size = 0 }) (settle g t clock day s out)
     unfolding settle
     settle-not-table h = rw (← eb, not-true b h, er, el)
 
     module _ (h : not b ≡ false) where
-      pub settle-no-room : length out < 512 → _≡_ {A = Settled} (record { code = 50; gate = g; rows = rows; report = left; size = 0 }) (settle g t clock day s out)
+      pub settle-no-room : length out < 512 → _≡_ {A = Settlement} (record { code = 50; gate = g; rows = rows; report = left; size = 0 }) (settle g t clock day s out)
       unfolding settle
       settle-no-room l = rw (← eb, not-false b h, lt-leb _ _ l, er, el)
 
       module _ (l : 512 ≤ length out) (w : Bool) (ew : w ≡ isWritten clock) where
-        pub settle-no-clock : not w ≡ true → _≡_ {A = Settled} (record { code = 51; gate = g; rows = rows; report = left; size = 0 }) (settle g t clock day s out)
+        pub settle-no-clock : not w ≡ true → _≡_ {A = Settlement} (record { code = 51; gate = g; rows = rows; report = left; size = 0 }) (settle g t clock day s out)
         unfolding settle
         settle-no-clock n = rw (← eb, not-false b h, le-leb _ _ l, ← ew, not-true w n, er, el)
 
-        pub settle-fault : not w ≡ false → (f : ℕ) → f ≡ registryFault day s → (f ≡ 0 → ⊥) → _≡_ {A = Settled} (record { code = f; gate = g; rows = rows; report = left; size = 0 }) (settle g t clock day s out)
+        pub settle-fault : not w ≡ false → (f : ℕ) → f ≡ registryFault day s → (f ≡ 0 → ⊥) → _≡_ {A = Settlement} (record { code = f; gate = g; rows = rows; report = left; size = 0 }) (settle g t clock day s out)
         unfolding settle
         settle-fault n f ef z = rw (← eb, not-false b h, le-leb _ _ l, ← ew, not-false w n, ← ef, ne-eqb _ _ z, er, el)
 
   pub settle-read : not b ≡ false → 512 ≤ length out → (w : Bool) → w ≡ isWritten clock → not w ≡ false → (f : ℕ) → f ≡ registryFault day s → f ≡ 0
-      → (d : Settled) → d ≡ settleText g t clock day s out → d ≡ settle g t clock day s out
+      → (d : Settlement) → d ≡ settleText g t clock day s out → d ≡ settle g t clock day s out
   unfolding settle
   settle-read h l w ew n f ef z d e = e ∙ rw (← eb, not-false b h, le-leb _ _ l, ← ew, not-false w n, ← ef, eq-eqb _ _ z)

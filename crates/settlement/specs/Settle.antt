@@ -22,6 +22,7 @@ use Rattle.table.specs.Table.{Rows, recordsOf, rowsFrom, findRecord}
 use Rattle.table.specs.Accounts.{accountsOf, findAccount, withUsed, withClosed}
 use Rattle.table.specs.Valid.{tableGood}
 use Rattle.gate.specs.Deliver.{noRecord, makeRecord, revoked, creditedAt, debitedAt, isFull}
+use Rattle.gate.specs.declared.Reply.{Reply}
 pub use Rattle.settlement.specs.declared.verdict.Verdict.{Verdict}
 pub use Rattle.settlement.specs.declared.verdict.Verdict.the-variants.{Keeps, Restores, Posts, Unposted}
 
@@ -135,18 +136,21 @@ reportOf (x ∷ xs) rs = cond (anyDone x rs) 49 48 ∷ reportOf xs rs
 
 -- ---- the call
 -- what it answers and leaves; the first `size` bytes of the buffer are the report, none with a fault
-pub record Settled : Type 0 where
+pub record Settlement : Type 0 where
   pub code : ℕ
   pub gate : Gate
   pub rows : Rows
   pub report : List ℕ
   pub size : ℕ
 
-abbrev pub unsettled : ℕ → Gate → Rows → List ℕ → Settled
+abbrev pub settlementOf : Reply → Rows → List ℕ → Settlement
+settlementOf r rows report = record { code = r .code; gate = r .gate; rows = rows; report = report; size = r .size }
+
+abbrev pub unsettled : ℕ → Gate → Rows → List ℕ → Settlement
 unsettled code g t out = record { code = code; gate = g; rows = t; report = out; size = 0 }
 
 -- the next day: settled, then closed
-unfoldable pub settleDay : Gate → Rows → List ℕ → Day → List Line → List ℕ → Settled
+unfoldable pub settleDay : Gate → Rows → List ℕ → Day → List Line → List ℕ → Settlement
 settleDay g t clock day xs out =
     let l = swept clock day xs (settleLines clock (length (t .nums)) xs (record { gate = g; records = recordsOf t (g .used) })) in
     record {
@@ -158,12 +162,12 @@ settleDay g t clock day xs out =
     }
 
 -- an earlier day is only reported
-abbrev pub reported : Gate → Rows → List Line → List ℕ → Settled
+abbrev pub reported : Gate → Rows → List Line → List ℕ → Settlement
 reported g t xs out =
     record { code = 0; gate = g; rows = t; report = written out 0 (reportOf xs (recordsOf t (g .used))); size = length xs }
 
 -- one that is further on, or none, is 55
-unfoldable pub settleText : Gate → Rows → List ℕ → Day → List ℕ → List ℕ → Settled
+unfoldable pub settleText : Gate → Rows → List ℕ → Day → List ℕ → List ℕ → Settlement
 settleText g t clock day text out =
     cond (onDay day (nextDay (g .closed)))
     (settleDay g t clock day (registryLines text) out)
@@ -172,7 +176,7 @@ settleText g t clock day text out =
     (unsettled 55 g t out))
 
 -- 68, 50, 51, then 53, 52, 54 of the text, then 55
-unfoldable pub settle : Gate → Rows → List ℕ → Day → List ℕ → List ℕ → Settled
+unfoldable pub settle : Gate → Rows → List ℕ → Day → List ℕ → List ℕ → Settlement
 settle g t clock day text out =
     cond (tableGood g t)
     (cond (leb 512 (length out))

@@ -10,7 +10,7 @@ ghost use Prim.Native.Nat.{_≤_};
 ghost use lib.ListN.{length};
 ghost use Rattle.registry.specs.Registry.{lineCount, registryLines};
 ghost use Rattle.table.specs.Lent.{lent, before, after};
-ghost use Rattle.settlement.specs.Settle.{Settled, settleDay};
+ghost use Rattle.settlement.specs.Settle.{settlementOf, settleDay};
 ghost use Rattle.settlement.specs.Steps.{Held};
 
 // Settles the day after the closed one, closes it and writes its report.
@@ -26,9 +26,8 @@ pub(crate) fn settle_day(
 ) -> Reply
     requires { ⌜ Held g (lent nums numbers dates) 10000000000000 ⌝ }
     requires { ⌜ (lineCount (now s) ≤ 512) × (length (registryLines (now s)) ≤ 512) × (512 ≤ length (now out)) ⌝ }
-    ensures { λ r. ⌜ _≡_ {A = Settled}
-        (record { code = r .code; gate = r .gate; rows = after nums numbers dates; report = now (out .exit); size = r .size })
-        (settleDay g (before nums numbers dates) clock day (registryLines (now (s .entry))) (now (out .entry))) ⌝ }
+    ensures { λ r. ⌜ settlementOf r (after nums numbers dates) (now (out .exit))
+        ≡ settleDay g (before nums numbers dates) clock day (registryLines (now (s .entry))) (now (out .entry)) ⌝ }
 {
     let a = lines::settle_lines(nums, numbers, dates, g, clock, s);
     let b = sweeping::sweep(nums, numbers, dates, a, clock, day, s);

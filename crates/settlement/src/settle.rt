@@ -12,7 +12,7 @@ ghost use Prim.Native.Nat.{_≤_};
 ghost use lib.ListN.{length};
 ghost use Rattle.registry.specs.Registry.{lineCount, registryLines};
 ghost use Rattle.table.specs.Lent.{lent, before, after};
-ghost use Rattle.settlement.specs.Settle.{Settled, settleText, settle};
+ghost use Rattle.settlement.specs.Settle.{settlementOf, settleText, settle};
 ghost use Rattle.settlement.specs.Steps.{Held};
 
 // A text without a fault: the day after the closed one is settled, one up to it only reported.
@@ -28,9 +28,7 @@ pub(crate) fn settle_text(
 ) -> Reply
     requires { ⌜ Held g (lent nums numbers dates) 10000000000000 ⌝ }
     requires { ⌜ (lineCount (now s) ≤ 512) × (length (registryLines (now s)) ≤ 512) × (512 ≤ length (now out)) ⌝ }
-    ensures { λ r. ⌜ _≡_ {A = Settled}
-        (record { code = r .code; gate = r .gate; rows = after nums numbers dates; report = now (out .exit); size = r .size })
-        (settleText g (before nums numbers dates) clock day (now (s .entry)) (now (out .entry))) ⌝ }
+    ensures { λ r. ⌜ settlementOf r (after nums numbers dates) (now (out .exit)) ≡ settleText g (before nums numbers dates) clock day (now (s .entry)) (now (out .entry)) ⌝ }
 {
     let closed = g.closed;
     if day.follows(closed) {
@@ -70,9 +68,7 @@ pub fn settle(
     s: &[u8],
     out: &mut [u8],
 ) -> Reply
-    ensures { λ r. ⌜ _≡_ {A = Settled}
-        (record { code = r .code; gate = r .gate; rows = after nums numbers dates; report = now (out .exit); size = r .size })
-        (settle g (before nums numbers dates) clock day (now (s .entry)) (now (out .entry))) ⌝ }
+    ensures { λ r. ⌜ settlementOf r (after nums numbers dates) (now (out .exit)) ≡ settle g (before nums numbers dates) clock day (now (s .entry)) (now (out .entry)) ⌝ }
 {
     if !valid::table_good(nums, numbers, dates, g) {
         return Reply {

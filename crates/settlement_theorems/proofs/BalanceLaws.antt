@@ -27,7 +27,7 @@ use Rattle.table.specs.Table.{Rows, findRecord}
 use Rattle.table.specs.Accounts.{isAccount, accountsOf, findAccount, noAccount, withBalance, balanceAt, gateBalance, credited, debited, withClosed}
 use Rattle.gate.specs.Deliver.{creditedAt, debitedAt, isFull}
 use Rattle.gate_theorems.proofs.RowsLaws.{SameNames, names-same, names-used, names-credited, names-debited}
-use Rattle.settlement.specs.Settle.{matches, Verdict, Keeps, Restores, Posts, Unposted, verdictOf, Ledger, applied, settleLine, settleLines, isStray, sweptGate, sweepGates, swept, Settled, settleDay, settle}
+use Rattle.settlement.specs.Settle.{matches, Verdict, Keeps, Restores, Posts, Unposted, verdictOf, Ledger, applied, settleLine, settleLines, isStray, sweptGate, sweepGates, swept, Settlement, settleDay, settle}
 use Rattle.settlement.specs.Steps.{ledgerOf}
 use Rattle.settlement_theorems.specs.Balances.{isAt, creditOf, credits, debitOf, sweptFrom, creditsOn, sweptOn}
 use Rattle.settlement.proofs.HeldLaws.{post-room, verdict-post}
@@ -189,7 +189,7 @@ module _ (a : ℕ) where
         ∙ ap (λ (z : ℤ). z -ℤ pos (sweptOn g t clock day xs a)) (lines-balance clock (length (t .nums)) xs (ledgerOf g t))
 
     -- a fault, and a day that is not the one after the closed, leave it; the day that is settled adds what it credits and takes what it sweeps
-    pub record Balanced (text : List ℕ) (d : Settled) : Type 0 where
+    pub record Balanced (text : List ℕ) (d : Settlement) : Type 0 where
       pub fault : (d .code ≡ 0 → ⊥) → balanceAt (d .gate) a ≡ balanceAt g a
       pub closed : onDay day (nextDay (g .closed)) ≡ false → balanceAt (d .gate) a ≡ balanceAt g a
       pub settled : d .code ≡ 0 → onDay day (nextDay (g .closed)) ≡ true
@@ -220,7 +220,7 @@ module _ (g : Gate) (t : Rows) (clock : List ℕ) (day : Day) (text out : List �
   pub settle-names : SameNames (withClosed g ((settle g t clock day text out) .gate .closed)) ((settle g t clock day text out) .gate)
   unfolding settleDay
   settle-names =
-      settled-by g t clock day text out (λ (d : Settled). SameNames (withClosed g (d .gate .closed)) (d .gate))
+      settled-by g t clock day text out (λ (d : Settlement). SameNames (withClosed g (d .gate .closed)) (d .gate))
       (λ _ _. names-closed g g (g .closed) (names-same g g refl))
       (λ _ _. names-closed g g (g .closed) (names-same g g refl))
       (λ _ _. day-names)
@@ -229,7 +229,7 @@ module _ (g : Gate) (t : Rows) (clock : List ℕ) (day : Day) (text out : List �
   pub settle-closed : (settle g t clock day text out) .code ≡ 0 → onDay day (nextDay (g .closed)) ≡ true → (settle g t clock day text out) .gate .closed ≡ day
   unfolding settleDay
   settle-closed =
-      settled-by g t clock day text out (λ (d : Settled). d .code ≡ 0 → onDay day (nextDay (g .closed)) ≡ true → d .gate .closed ≡ day)
+      settled-by g t clock day text out (λ (d : Settlement). d .code ≡ 0 → onDay day (nextDay (g .closed)) ≡ true → d .gate .closed ≡ day)
       (λ code n e _. absurd (n e))
       (λ _ off _ on. no-claim (sym off ∙ on))
       (λ _ _ _ _. refl)
@@ -237,7 +237,7 @@ module _ (g : Gate) (t : Rows) (clock : List ℕ) (day : Day) (text out : List �
   -- a day that is not the one after the closed leaves that as it was, and so does a fault (`fault-keeps`)
   pub settle-open : onDay day (nextDay (g .closed)) ≡ false → (settle g t clock day text out) .gate .closed ≡ g .closed
   settle-open =
-      settled-by g t clock day text out (λ (d : Settled). onDay day (nextDay (g .closed)) ≡ false → d .gate .closed ≡ g .closed)
+      settled-by g t clock day text out (λ (d : Settlement). onDay day (nextDay (g .closed)) ≡ false → d .gate .closed ≡ g .closed)
       (λ _ _ _. refl)
       (λ _ _ _. refl)
       (λ _ on off. no-claim (sym off ∙ on))

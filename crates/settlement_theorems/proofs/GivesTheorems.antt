@@ -19,7 +19,7 @@ use Rattle.table.specs.declared.Gate.{Gate}
 use Rattle.table.specs.declared.Record.{Record}
 use Rattle.table.specs.Table.{Rows, recordsOf}
 use Rattle.table.specs.Valid.{tableGood}
-use Rattle.settlement.specs.Settle.{anyDone, reportOf, Settled, settleDay, settleText, settle}
+use Rattle.settlement.specs.Settle.{anyDone, reportOf, Settlement, settleDay, settleText, settle}
 use Rattle.settlement.proofs.DayLaws.{report-length}
 use Rattle.settlement_theorems.proofs.SettleLaws.{settled-by, report-now}
 
@@ -39,14 +39,14 @@ unfolding isReport
 report-is xs rs = rw (eq-eqb _ _ (report-length xs rs), report-marks xs rs) refl
 
 module _ (g : Gate) (t : Rows) (clock : List ℕ) (day : Day) (text out : List ℕ) where
-  abbrev call : Settled
+  abbrev call : Settlement
   call = settle g t clock day text out
 
   -- ---- every settlement with code 0
   module _ (done : call .code ≡ 0) where
     counted : (call .size ≡ length (registryLines text)) × (length (registryLines text) ≤ length out)
     counted =
-        settled-by g t clock day text out (λ (d : Settled). d .code ≡ 0 → (d .size ≡ length (registryLines text)) × (length (registryLines text) ≤ length out))
+        settled-by g t clock day text out (λ (d : Settlement). d .code ≡ 0 → (d .size ≡ length (registryLines text)) × (length (registryLines text) ≤ length out))
         (λ code n z. absurd (n z))
         (λ p off z. (refl, omega (arith, p .room, lines-good day text (p .faultless) .few)))
         (λ p next z. (unfold settleDay in refl, omega (arith, p .room, lines-good day text (p .faultless) .few)))
@@ -81,9 +81,9 @@ module _ (g : Gate) (t : Rows) (clock : List ℕ) (day : Day) (text out : List �
     -- with code 0
     pub settle-gives-code : (settle g t clock day text out) .code ≡ 0
     unfolding settleDay
-    settle-gives-code = ap (λ (d : Settled). d .code) settle-gives
+    settle-gives-code = ap (λ (d : Settlement). d .code) settle-gives
 
     -- and closed
     pub settle-gives-closed : (settle g t clock day text out) .gate .closed ≡ day
     unfolding settleDay
-    settle-gives-closed = ap (λ (d : Settled). d .gate .closed) settle-gives
+    settle-gives-closed = ap (λ (d : Settlement). d .gate .closed) settle-gives

@@ -27,7 +27,7 @@ use Rattle.table.proofs.TableLaws.{length-records, getD-records, from-at, from-
 use Rattle.gate.specs.Deliver.{noRecord, isFull}
 use Rattle.gate_theorems.proofs.RowsLaws.{SameNames}
 use Rattle.gate_theorems.proofs.KeptLaws.{GateRep, GateBase, gate-facts, base-of, names-apart}
-use Rattle.settlement.specs.Settle.{matches, Verdict, Keeps, Restores, Posts, Unposted, postVerdict, verdictOf, restored, postedRecord, Ledger, applied, settleLine, settleLines, sweptRecord, swept, Settled, settleDay, settle}
+use Rattle.settlement.specs.Settle.{matches, Verdict, Keeps, Restores, Posts, Unposted, postVerdict, verdictOf, restored, postedRecord, Ledger, applied, settleLine, settleLines, sweptRecord, swept, Settlement, settleDay, settle}
 use Rattle.settlement.proofs.HeldLaws.{post-room, verdict-post}
 use Rattle.settlement_theorems.proofs.SettleLaws.{line-onward, Passed, settle-elim, before, after, after-used}
 use Rattle.settlement_theorems.proofs.BalanceLaws.{sweep-names, settle-names}
@@ -136,7 +136,7 @@ module _ (g : Gate) (t : Rows) (rep : GateRep g t) (clock : List ℕ) (day : Day
   pub settle-good : GateBase ((settle g t clock day text out) .gate) ((settle g t clock day text out) .rows)
   unfolding settleDay
   settle-good =
-      settle-elim g t clock day text out (λ (d : Settled). SameNames (withClosed g (d .gate .closed)) (d .gate) → GateBase (d .gate) (d .rows))
+      settle-elim g t clock day text out (λ (d : Settlement). SameNames (withClosed g (d .gate .closed)) (d .gate) → GateBase (d .gate) (d .rows))
       (λ c z s. base-of g t rep)
       (λ p o b s. base-of g t rep)
       (λ p dated next s. day-good p dated next s)

@@ -35,7 +35,7 @@ use Rattle.table.proofs.TableLaws.{length-records, getD-records, from-at}
 use Rattle.gate.specs.Deliver.{noRecord, makeRecord, revoked, creditedAt, isFull}
 use Rattle.gate_theorems.proofs.RecordsLaws.{Distinct}
 use Rattle.gate_theorems.proofs.RowsLaws.{SameNames, names-used, names-credited, good-there, made-good, state-good, revoked-good}
-use Rattle.settlement.specs.Settle.{matches, Verdict, Keeps, Restores, Posts, Unposted, paymentOf, postVerdict, verdictOf, restored, postedRecord, Ledger, applied, settleLine, settleLines, isStray, sweptRecord, swept, Settled, settleDay, settle}
+use Rattle.settlement.specs.Settle.{matches, Verdict, Keeps, Restores, Posts, Unposted, paymentOf, postVerdict, verdictOf, restored, postedRecord, Ledger, applied, settleLine, settleLines, isStray, sweptRecord, swept, Settlement, settleDay, settle}
 use Rattle.settlement.proofs.HeldLaws.{post-room, post-new, verdict-post}
 use Rattle.settlement_theorems.proofs.SettleLaws.{Onward, applied-onward, line-onward, swept-onward, map-at, restores-at, settled-by, before, after, after-used}
 use Rattle.settlement_theorems.proofs.BalanceLaws.{names-credited-at}
@@ -267,4 +267,4 @@ module _ (g : Gate) (t : Rows) (clock : List ℕ) (day : Day) (text out : List �
       at n h = ap (λ (r : Record). r .receipt) (from-at t rs n noRecord h)
 
   pub settle-once : Distinct ((settle g t clock day text out) .gate) ((settle g t clock day text out) .rows)
-  settle-once = settled-by g t clock day text out (λ (d : Settled). Distinct (d .gate) (d .rows)) (λ _ _. once) (λ _ _. once) (λ _ _. today-once)
+  settle-once = settled-by g t clock day text out (λ (d : Settlement). Distinct (d .gate) (d .rows)) (λ _ _. once) (λ _ _. once) (λ _ _. today-once)

@@ -34,7 +34,7 @@ use Rattle.table.proofs.TableLaws.{length-records, getD-records, from-at, recor
 use borrow.Author.Tests.{leb-true, eqb-true, eqb-false, not-true}
 use Rattle.gate.specs.Deliver.{noRecord, revoked, debitedAt, isFull}
 use Rattle.gate.proofs.ChangeLaws.{debit-used}
-use Rattle.settlement.specs.Settle.{matches, isDone, Verdict, Keeps, Restores, Posts, Unposted, postVerdict, matchVerdict, verdictOf, restored, postedRecord, Ledger, applied, settleLine, settleLines, anyMatches, isStray, sweptRecord, sweptGate, sweepGates, swept, anyDone, reportOf, Settled, unsettled, reported, settleDay, settleText, settle}
+use Rattle.settlement.specs.Settle.{matches, isDone, Verdict, Keeps, Restores, Posts, Unposted, postVerdict, matchVerdict, verdictOf, restored, postedRecord, Ledger, applied, settleLine, settleLines, anyMatches, isStray, sweptRecord, sweptGate, sweepGates, swept, anyDone, reportOf, Settlement, unsettled, reported, settleDay, settleText, settle}
 use Rattle.settlement.proofs.DayLaws.{report-length}
 use Rattle.settlement.proofs.HeldLaws.{credit-used}
 
@@ -223,7 +223,7 @@ pub record Passed (g : Gate) (t : Rows) (day : Day) (text out : List ℕ) : Type
   pub faultless : registryFault day text ≡ 0
 
 module _ (g : Gate) (t : Rows) (clock : List ℕ) (day : Day) (text out : List ℕ) where
-  pub settle-elim : (P : Settled → Type 0) → ((code : ℕ) → (code ≡ 0 → ⊥) → P (unsettled code g t out))
+  pub settle-elim : (P : Settlement → Type 0) → ((code : ℕ) → (code ≡ 0 → ⊥) → P (unsettled code g t out))
       → (Passed g t day text out → onDay day (nextDay (g .closed)) ≡ false → dayBefore (g .closed) day ≡ false → P (reported g t (registryLines text) out))
       → (Passed g t day text out → isWritten clock ≡ true → onDay day (nextDay (g .closed)) ≡ true → P (settleDay g t clock day (registryLines text) out))
       → P (settle g t clock day text out)
@@ -244,13 +244,13 @@ module _ (g : Gate) (t : Rows) (clock : List ℕ) (day : Day) (text out : List �
       (λ _. keep 68 (λ e. absurd (omega arith)))
 
   -- the same where the clock and the order of days do not matter
-  pub settled-by : (P : Settled → Type 0) → ((code : ℕ) → (code ≡ 0 → ⊥) → P (unsettled code g t out)) → (Passed g t day text out → onDay day (nextDay (g .closed)) ≡ false → P (reported g t (registryLines text) out))
+  pub settled-by : (P : Settlement → Type 0) → ((code : ℕ) → (code ≡ 0 → ⊥) → P (unsettled code g t out)) → (Passed g t day text out → onDay day (nextDay (g .closed)) ≡ false → P (reported g t (registryLines text) out))
       → (Passed g t day text out → onDay day (nextDay (g .closed)) ≡ true → P (settleDay g t clock day (registryLines text) out))
       → P (settle g t clock day text out)
   settled-by P keep report settles = settle-elim P keep (λ p off _. report p off) (λ p _ next. settles p next)
 
   -- a fault keeps all
-  pub record Kept (d : Settled) : Type 0 where
+  pub record Kept (d : Settlement) : Type 0 where
     pub gates : d .gate ≡ g
     pub tables : d .rows ≡ t
     pub buffer : d .report ≡ out
@@ -259,7 +259,7 @@ module _ (g : Gate) (t : Rows) (clock : List ℕ) (day : Day) (text out : List �
   pub fault-keeps : ((settle g t clock day text out) .code ≡ 0 → ⊥) → Kept (settle g t clock day text out)
   unfolding settleDay
   fault-keeps =
-      settled-by (λ (d : Settled). (d .code ≡ 0 → ⊥) → Kept d)
+      settled-by (λ (d : Settlement). (d .code ≡ 0 → ⊥) → Kept d)
       (λ code _ _. record { gates = refl; tables = refl; buffer = refl; empty = refl })
       (λ _ _ n. absurd (n refl))
       (λ _ _ n. absurd (n refl))
@@ -287,19 +287,19 @@ module _ (g : Gate) (t : Rows) (clock : List ℕ) (day : Day) (text out : List �
       (sym (ap (recordsOf (rowsFrom t (after .records))) (sym after-used) ∙ records-from t (after .records) noRecord))
 
   -- the report is that of the table as the call leaves it
-  abbrev left : Settled → List Record
+  abbrev left : Settlement → List Record
   left d = recordsOf (d .rows) (d .gate .used)
 
   pub report-now : (settle g t clock day text out) .code ≡ 0
       → (settle g t clock day text out) .report ≡ written out 0 (reportOf (registryLines text) (left (settle g t clock day text out)))
   report-now =
-      settled-by (λ (d : Settled). d .code ≡ 0 → d .report ≡ written out 0 (reportOf (registryLines text) (left d)))
+      settled-by (λ (d : Settlement). d .code ≡ 0 → d .report ≡ written out 0 (reportOf (registryLines text) (left d)))
       (λ code n e. absurd (n e))
       (λ _ _ _. refl)
       (λ _ _ _. today-report)
 
 -- no used record is lost, and each keeps its key
-pub record Lasting (g : Gate) (t : Rows) (d : Settled) : Type 0 where
+pub record Lasting (g : Gate) (t : Rows) (d : Settlement) : Type 0 where
   pub used : g .used ≤ d .gate .used
   pub keys : (i : ℕ) → i < g .used → SameKey (recordAt t i) (recordAt (d .rows) i)
 
@@ -336,7 +336,7 @@ module _ (g : Gate) (t : Rows) (clock : List ℕ) (day : Day) (text out : List �
   report-room : length (registryLines text) ≤ length out
   unfolding settleDay
   report-room =
-      settled-by g t clock day text out (λ (d : Settled). d .code ≡ 0 → length (registryLines text) ≤ length out)
+      settled-by g t clock day text out (λ (d : Settlement). d .code ≡ 0 → length (registryLines text) ≤ length out)
       (λ code n e. absurd (n e))
       (λ p _ _. room p)
       (λ p _ _. room p)
@@ -458,4 +458,4 @@ module _ (g : Gate) (t : Rows) (clock : List ℕ) (day : Day) (text out : List �
       ∙ at
 
   pub other-day : recordAt ((settle g t clock day text out) .rows) i ≡ recordAt t i
-  other-day = settled-by g t clock day text out (λ (d : Settled). recordAt (d .rows) i ≡ recordAt t i) (λ _ _. refl) (λ _ _. refl) (λ p _. today-other p)
+  other-day = settled-by g t clock day text out (λ (d : Settlement). recordAt (d .rows) i ≡ recordAt t i) (λ _ _. refl) (λ _ _. refl) (λ p _. today-other p)

@@ -9,9 +9,9 @@ use Rattle.fields.specs.Number.{numberOf}
 use Rattle.table.specs.declared.Gate.{Gate}
 use Rattle.table.specs.Table.{Rows}
 use Rattle.gate.specs.declared.Reply.{Reply}
-use Rattle.gate.specs.Deliver.{Delivered, deliver}
+use Rattle.gate.specs.Deliver.{Delivery, deliver}
 use Rattle.gate.specs.Opening.{openCall, drawCall}
-use Rattle.settlement.specs.Settle.{Settled, settle}
+use Rattle.settlement.specs.Settle.{Settlement, settle}
 
 -- ---- the texts
 -- account12
@@ -148,14 +148,14 @@ opens = openCall emptyGate emptyRows account12 1
 
 -- ---- the runs
 -- a request at the start
-unfoldable pub atStart : List ℕ → Delivered
+unfoldable pub atStart : List ℕ → Delivery
 atStart params = deliver (opens .gate) emptyRows clock1 params blank
 
 -- K1, and again
-unfoldable pub pays : Delivered
+unfoldable pub pays : Delivery
 pays = atStart payment1
 
-unfoldable pub paysAgain : Delivered
+unfoldable pub paysAgain : Delivery
 paysAgain = deliver (pays .gate) (pays .rows) clock2 payment1 blank
 
 -- K1, draw 1
@@ -163,28 +163,28 @@ unfoldable pub draws : Reply
 draws = drawCall (pays .gate) (pays .rows) account12 1 1
 
 -- K7: K1, draw 1, cancel
-unfoldable pub cancelsDrawn : Delivered
+unfoldable pub cancelsDrawn : Delivery
 cancelsDrawn = deliver (draws .gate) (pays .rows) clock3 cancel1 blank
 
 -- K8: K1, cancel, payment again
-unfoldable pub cancels : Delivered
+unfoldable pub cancels : Delivery
 cancels = deliver (pays .gate) (pays .rows) clock3 cancel1 blank
 
-unfoldable pub paysCancelled : Delivered
+unfoldable pub paysCancelled : Delivery
 paysCancelled = deliver (cancels .gate) (cancels .rows) clock4 payment1 blank
 
 -- K9: K1, draw 1, empty registry
-unfoldable pub settlesNone : Settled
+unfoldable pub settlesNone : Settlement
 settlesNone = settle (draws .gate) (pays .rows) clock5 day20 [] blank
 
 -- K10: K8, registry with K1's line
-unfoldable pub settlesLine : Settled
+unfoldable pub settlesLine : Settlement
 settlesLine = settle (paysCancelled .gate) (paysCancelled .rows) clock5 day20 line1 blank
 
 -- K11: after K9 a new receipt of that day
-unfoldable pub paysLate : Delivered
+unfoldable pub paysLate : Delivery
 paysLate = deliver (settlesNone .gate) (settlesNone .rows) clock6 payment2 blank
 
 -- K12: after K9 day 2005-09-22
-unfoldable pub settlesLater : Settled
+unfoldable pub settlesLater : Settlement
 settlesLater = settle (settlesNone .gate) (settlesNone .rows) clock6 day22 [] blank

@@ -2,9 +2,9 @@
 use crate::Account;
 use crate::Gate;
 use crate::Record;
+use dates::date;
 use fields::amount;
 use fields::codes;
-use dates::date;
 ghost use mathlib.Core.Bool.{true, _&&_};
 ghost use mathlib.Core.Path.{_≡_};
 ghost use Prim.Native.Nat.{_<_, _≤_};

@@ -22,11 +22,11 @@ use Rattle.table.specs.declared.Record.{Record}
 use Rattle.table.specs.Table.{Rows, recordsOf}
 use Rattle.table.specs.Valid.{lentGood, tableGood}
 use Rattle.gate.specs.declared.Reply.{Reply}
-use Rattle.gate.specs.Deliver.{Delivered}
+use Rattle.gate.specs.Deliver.{Delivery}
 use Rattle.gate.specs.Opening.{replies, openCall, drawCall}
 use Rattle.gate.proofs.GoodLaws.{good-table}
 use Rattle.gate_theorems.proofs.KeepsLaws.{refused-table}
-use Rattle.settlement.specs.Settle.{Settled, unsettled, settle}
+use Rattle.settlement.specs.Settle.{Settlement, unsettled, settle}
 use Rattle.book.specs.declared.Book.{Book}
 use Rattle.book.specs.declared.Entry.{Entry}
 use Rattle.book.specs.declared.State.{State}
@@ -34,10 +34,10 @@ use Rattle.book.specs.declared.State.the-variants.{Asked, Credited, CancelAsked
 use Rattle.book.specs.Entries.{BookRows, entriesOf}
 use Rattle.book.specs.BookValid.{bookGood}
 use Rattle.book.proofs.BookLaws.{good-lent, good-book}
-use Rattle.daybook.specs.declared.freezing.Froze.{Froze}
-use Rattle.daybook.specs.Acceptance.{Accepted, accept}
-use Rattle.daybook.specs.Freezing.{Listed, froze, unlisted, freeze, writeRegistry}
-use Rattle.agent.specs.Writing.{Wrote, unwritten, writeRequest, writeCheck}
+use Rattle.daybook.specs.declared.freezing.Freezing.{Freezing}
+use Rattle.daybook.specs.Acceptance.{Acceptance, accept}
+use Rattle.daybook.specs.Freezing.{Listing, froze, unlisted, freeze, writeRegistry}
+use Rattle.agent.specs.Writing.{Writing, unwritten, writeRequest, writeCheck}
 use Rattle.channel.specs.World.{World, Sent, sentRequest, sentAnswer, sentRegistry, sentReport, Step, opens, draws, accepts, writesCheck, writesPayment, writesStatus, writesCancel, freezes, writesRegistry, delivers, sentIf, atGate, atAgent, isAnswered, requestArrives, registryArrives, answerArrives, reportArrives, delivered, opening, drawing, accepting, checking, writing, freezing, listing, step, run}
 use Rattle.channel.specs.Claim.{Start, Lent, recordsIn, entryIn, entriesIn, stateIn, doneOn, creditedOn, byNumber, total, Says, DeliversReport, ReportDelivered, SettledDay, Safe}
 use Rattle.channel.proofs.words.Safety.{safe}
@@ -64,14 +64,14 @@ module _ (u : World) (bad : tableGood (u .gate) (u .table) ≡ false) where
   request-stays : (a : Action) (receipt : ℕ) (text clock out : List ℕ) → (requestArrives u a receipt text clock out) .world ≡ u
   unfolding requestArrives
   request-stays a receipt text clock out =
-      ap (λ (d : Delivered). atGate u (d .gate) (d .rows) (sentIf (isAnswered (d .code)) (sentAnswer a receipt (take (d .size) (d .out))) (u .sent)))
+      ap (λ (d : Delivery). atGate u (d .gate) (d .rows) (sentIf (isAnswered (d .code)) (sentAnswer a receipt (take (d .size) (d .out))) (u .sent)))
       (refused-table (u .gate) (u .table) clock text out bad)
 
   registry-stays : (day : Day) (text clock out : List ℕ) → (registryArrives u day text clock out) .world ≡ u
   unfolding registryArrives settle
   registry-stays day text clock out =
       let e : settle (u .gate) (u .table) clock day text out ≡ unsettled 68 (u .gate) (u .table) out = rw bad in
-      ap (λ (d : Settled). atGate u (d .gate) (d .rows) (sentIf (eqb (d .code) 0) (sentReport day (take (d .size) (d .report))) (u .sent))) e
+      ap (λ (d : Settlement). atGate u (d .gate) (d .rows) (sentIf (eqb (d .code) 0) (sentReport day (take (d .size) (d .report))) (u .sent))) e
 
 -- the agent's: a book that is not good
 module _ (u : World) (bad : bookGood (u .book) (u .bookRows) ≡ false) where
@@ -79,31 +79,31 @@ module _ (u : World) (bad : bookGood (u .book) (u .bookRows) ≡ false) where
   unfolding accepting accept
   accept-stays n k kopecks date =
       let e : accept (u .book) (u .bookRows) n k kopecks date ≡ record { code = 68; book = u .book; rows = u .bookRows; receipt = 0 } = rw bad in
-      ap (λ (d : Accepted). atAgent u (d .book) (d .rows) (u .sent)) e
+      ap (λ (d : Acceptance). atAgent u (d .book) (d .rows) (u .sent)) e
 
   check-stays : (n : Number) (k kopecks : ℕ) (out : List ℕ) → (checking u n k kopecks out) .world ≡ u
   unfolding checking writeCheck
   check-stays n k kopecks out =
       let e : writeCheck (u .book) (u .bookRows) n k kopecks out ≡ unwritten 68 (u .bookRows) out = rw bad in
-      ap (λ (d : Wrote). atAgent u (u .book) (d .rows) (sentIf (eqb (d .code) 0) (sentRequest Check 0 (take (d .size) (d .out))) (u .sent))) e
+      ap (λ (d : Writing). atAgent u (u .book) (d .rows) (sentIf (eqb (d .code) 0) (sentRequest Check 0 (take (d .size) (d .out))) (u .sent))) e
 
   write-stays : (a : Action) (receipt reason : ℕ) (out : List ℕ) → (writing u a receipt reason out) .world ≡ u
   unfolding writing writeRequest
   write-stays a receipt reason out =
       let e : writeRequest (u .book) (u .bookRows) a receipt reason out ≡ unwritten 68 (u .bookRows) out = rw bad in
-      ap (λ (d : Wrote). atAgent u (u .book) (d .rows) (sentIf (eqb (d .code) 0) (sentRequest a receipt (take (d .size) (d .out))) (u .sent))) e
+      ap (λ (d : Writing). atAgent u (u .book) (d .rows) (sentIf (eqb (d .code) 0) (sentRequest a receipt (take (d .size) (d .out))) (u .sent))) e
 
   freeze-stays : (day : Day) → (freezing u day) .world ≡ u
   unfolding freezing freeze
   freeze-stays day =
       let e : freeze (u .book) (u .bookRows) day ≡ froze 68 (u .book) = rw bad in
-      ap (λ (d : Froze). atAgent u (d .book) (u .bookRows) (u .sent)) e
+      ap (λ (d : Freezing). atAgent u (d .book) (u .bookRows) (u .sent)) e
 
   list-stays : (day : Day) (out : List ℕ) → (listing u day out) .world ≡ u
   unfolding listing writeRegistry
   list-stays day out =
       let e : writeRegistry (u .book) (u .bookRows) day out ≡ unlisted 68 out = rw bad in
-      ap (λ (d : Listed). atAgent u (u .book) (u .bookRows) (sentIf (eqb (d .code) 0) (sentRegistry day (take (d .size) (d .out))) (u .sent))) e
+      ap (λ (d : Listing). atAgent u (u .book) (u .bookRows) (sentIf (eqb (d .code) 0) (sentRegistry day (take (d .size) (d .out))) (u .sent))) e
 
 -- where nothing was sent there is nothing to deliver
 none-stays : (u : World) → u .sent ≡ [] → (i : ℕ) (clock out : List ℕ) → (delivered u (getElem? (u .sent) i) clock out) .world ≡ u

@@ -29,16 +29,16 @@ use Rattle.registry.specs.Registry.{registryLines}
 use Rattle.registry.proofs.LinesGood.{lines-good}
 use Rattle.lists.specs.declared.Found.the-variants.{At}
 use Rattle.table.specs.Table.{recordsOf}
-use Rattle.gate.specs.Deliver.{Delivered, deliver}
+use Rattle.gate.specs.Deliver.{Delivery, deliver}
 use Rattle.gate_theorems.proofs.AnsweredTheorems.{answerTo as gateAnswer, deliver-text, deliver-told, deliver-silent}
-use Rattle.settlement.specs.Settle.{reportOf, Settled, settleDay, settle}
+use Rattle.settlement.specs.Settle.{reportOf, Settlement, settleDay, settle}
 use Rattle.settlement.proofs.DayLaws.{report-length}
 use Rattle.settlement_theorems.proofs.SettleLaws.{settled-by, fault-keeps, report-now}
 use Rattle.book.specs.Entries.{findEntry}
 use Rattle.book.specs.BookValid.{bookGood}
-use Rattle.daybook.specs.Freezing.{registryOf, Listed, listOn, writeRegistry}
+use Rattle.daybook.specs.Freezing.{registryOf, Listing, listOn, writeRegistry}
 use Rattle.daybook.proofs.RegistryLaws.{registry-few}
-use Rattle.agent.specs.Writing.{Wrote, requestOf, checkOf, writeCheck}
+use Rattle.agent.specs.Writing.{Writing, requestOf, checkOf, writeCheck}
 use Rattle.book.proofs.PaymentLaws.{entry-parts}
 use Rattle.agent.proofs.MovedLaws.{same-place, found-fields}
 use Rattle.agent_theorems.proofs.WritingTheorems.{write-cases}
@@ -63,7 +63,7 @@ module _ (w : World) (a : Action) (receipt reason : ℕ) (out : List ℕ) where
   pub request-found : (writing w a receipt reason out) .code ≡ 0 → (i : ℕ) × (findEntry receipt (entriesIn w) ≡ At i)
   unfolding writing
   request-found =
-      write-cases (w .book) (w .bookRows) a receipt reason out (λ (k : Wrote). k .code ≡ 0 → (i : ℕ) × (findEntry receipt (entriesIn w) ≡ At i)) (λ code n z. absurd (n z))
+      write-cases (w .book) (w .bookRows) a receipt reason out (λ (k : Writing). k .code ≡ 0 → (i : ℕ) × (findEntry receipt (entriesIn w) ≡ At i)) (λ code n z. absurd (n z))
       (λ i good room forms e free z. (i, e))
 
   -- a payment, a status or a cancel is the text of its entry
@@ -72,7 +72,7 @@ module _ (w : World) (a : Action) (receipt reason : ℕ) (out : List ℕ) where
   unfolding writing requestOf
   request-sent i found =
       write-cases (w .book) (w .bookRows) a receipt reason out
-      (λ (k : Wrote). k .code ≡ 0 → sentIf (eqb (k .code) 0) (sentRequest a receipt (take (k .size) (k .out))) (w .sent) ≡ w .sent ++ (sentRequest a receipt (requestText (requestOf a (entryIn w i) reason)) ∷ []))
+      (λ (k : Writing). k .code ≡ 0 → sentIf (eqb (k .code) 0) (sentRequest a receipt (take (k .size) (k .out))) (w .sent) ≡ w .sent ++ (sentRequest a receipt (requestText (requestOf a (entryIn w i) reason)) ∷ []))
       (λ code n z. absurd (n z))
       (λ j good room forms e free z.
       let same : j ≡ i = same-place j i (sym e ∙ found) in
@@ -99,7 +99,7 @@ check-sent w n k kopecks out =
     text : List ℕ
     text = requestText (checkOf n k kopecks)
 
-    P : Wrote → Type 0
+    P : Writing → Type 0
     P d = d .code ≡ 0 → sentIf (eqb (d .code) 0) (sentRequest Check 0 (take (d .size) (d .out))) (w .sent) ≡ w .sent ++ (sentRequest Check 0 text ∷ [])
 
 -- ---- an answer
@@ -109,7 +109,7 @@ module _ (w : World) (text clock : List ℕ) where
   answerTo = gateAnswer (w .gate) (w .table) clock text
 
   module _ (a : Action) (receipt : ℕ) (out : List ℕ) where
-    abbrev answered : Delivered
+    abbrev answered : Delivery
     answered = deliver (w .gate) (w .table) clock text out
 
     -- it has the code that the gate returns
@@ -128,7 +128,7 @@ module _ (w : World) (text clock : List ℕ) where
     unfolding requestArrives
     answer-none h =
         ap (atGate w (answered .gate) (answered .rows)) (same-sent (isAnswered (answered .code)) _ (w .sent) h)
-        ∙ ap (λ (d : Delivered). atGate w (d .gate) (d .rows) (w .sent)) (deliver-silent (w .gate) (w .table) clock text out (not-false _ h))
+        ∙ ap (λ (d : Delivery). atGate w (d .gate) (d .rows) (w .sent)) (deliver-silent (w .gate) (w .table) clock text out (not-false _ h))
 
 -- ---- a registry
 pub registry-sent : (w : World) (day : Day) (out : List ℕ) → (listing w day out) .code ≡ 0
@@ -148,7 +148,7 @@ registry-sent w day out =
     text : List ℕ
     text = registryOf day (entriesIn w)
 
-    P : Listed → Type 0
+    P : Listing → Type 0
     P d = d .code ≡ 0 → sentIf (eqb (d .code) 0) (sentRegistry day (take (d .size) (d .out))) (w .sent) ≡ w .sent ++ (sentRegistry day text ∷ [])
 
 -- ---- a report
@@ -165,7 +165,7 @@ module _ (w : World) (day : Day) (text clock out : List ℕ) where
   report-room : (settle (w .gate) (w .table) clock day text out) .code ≡ 0
       → ((settle (w .gate) (w .table) clock day text out) .size ≡ length (registryLines text)) × (length (registryLines text) ≤ length out)
   report-room =
-      settled-by (w .gate) (w .table) clock day text out (λ (d : Settled). d .code ≡ 0 → (d .size ≡ length (registryLines text)) × (length (registryLines text) ≤ length out))
+      settled-by (w .gate) (w .table) clock day text out (λ (d : Settlement). d .code ≡ 0 → (d .size ≡ length (registryLines text)) × (length (registryLines text) ≤ length out))
       (λ code n z. absurd (n z))
       (λ p off z. (refl, omega (arith, p .room, lines-good day text (p .faultless) .few)))
       (λ p next z. (unfold settleDay in refl, omega (arith, p .room, lines-good day text (p .faultless) .few)))
@@ -174,7 +174,7 @@ module _ (w : World) (day : Day) (text clock out : List ℕ) where
       → (registryArrives w day text clock out) .world .sent ≡ w .sent ++ (sentReport day reportText ∷ [])
   unfolding registryArrives
   report-sent z =
-      let d : Settled = settle (w .gate) (w .table) clock day text out in
+      let d : Settlement = settle (w .gate) (w .table) clock day text out in
       let r = report-room z in
       let s : List ℕ = reportOf (registryLines text) (recordsOf (d .rows) (d .gate .used)) in
       let l : length s ≡ length (registryLines text) = report-length (registryLines text) (recordsOf (d .rows) (d .gate .used)) in
@@ -190,7 +190,7 @@ module _ (w : World) (day : Day) (text clock out : List ℕ) where
   unfolding registryArrives
   report-none n =
       let k = fault-keeps (w .gate) (w .table) clock day text out n in
-      let d : Settled = settle (w .gate) (w .table) clock day text out in
+      let d : Settlement = settle (w .gate) (w .table) clock day text out in
       let e = same-sent (eqb (d .code) 0) (sentReport day (take (d .size) (d .report))) (w .sent) (ne-eqb (d .code) 0 n) in
       λ i. atGate w (k .gates i) (k .tables i) (e i)
 

@@ -1,12 +1,12 @@
 use Rattle.orders.proofs.TurnLaws.{turn-order, turn-start}
 use borrow.Author.Needs.{needs}
-use Rattle.orders.proofs.turn.turn.Statement.{statement}
-use Rattle.orders.proofs.turn.turn.Tie as tie
+use Rattle.orders.proofs.turn.line_turn.Statement.{statement}
+use Rattle.orders.proofs.turn.line_turn.Tie as tie
 
 ruleset laws = (turn-order, turn-start, needs)
 
-pub turn-spec : {M : Type 1} → statement M
-turn-spec =
+pub line-turn-spec : {M : Type 1} → statement M
+line-turn-spec =
     tie.close
     (tie.spec
     (λ c κs. search laws)
