@@ -27,7 +27,9 @@ use Rattle.table.specs.Table.{Rows, findRecord}
 use Rattle.table.specs.Accounts.{isAccount, accountsOf, findAccount, noAccount, withBalance, balanceAt, gateBalance, credited, debited, withClosed}
 use Rattle.gate.specs.Deliver.{creditedAt, debitedAt, isFull}
 use Rattle.gate_theorems.proofs.RowsLaws.{SameNames, names-same, names-used, names-credited, names-debited}
-use Rattle.settlement.specs.Settle.{matches, Verdict, Keeps, Restores, Posts, Unposted, verdictOf, Ledger, applied, settleLine, settleLines, isStray, sweptGate, sweepGates, swept, Settlement, settleDay, settle}
+use Rattle.settlement.specs.declared.verdict.Verdict.{Verdict}
+use Rattle.settlement.specs.declared.verdict.Verdict.the-variants.{Keeps, Restores, Posts, Unposted}
+use Rattle.settlement.specs.Settle.{matches, verdictOf, Ledger, applied, settleLine, settleLines, isStray, sweptGate, sweepGates, swept, Settlement, settleDay, settle}
 use Rattle.settlement.specs.Steps.{ledgerOf}
 use Rattle.settlement_theorems.specs.Balances.{isAt, creditOf, credits, debitOf, sweptFrom, creditsOn, sweptOn}
 use Rattle.settlement.proofs.HeldLaws.{post-room, verdict-post}

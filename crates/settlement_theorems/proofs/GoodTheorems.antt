@@ -27,7 +27,9 @@ use Rattle.table.proofs.TableLaws.{length-records, getD-records, from-at, from-
 use Rattle.gate.specs.Deliver.{noRecord, isFull}
 use Rattle.gate_theorems.proofs.RowsLaws.{SameNames}
 use Rattle.gate_theorems.proofs.KeptLaws.{GateRep, GateBase, gate-facts, base-of, names-apart}
-use Rattle.settlement.specs.Settle.{matches, Verdict, Keeps, Restores, Posts, Unposted, postVerdict, verdictOf, restored, postedRecord, Ledger, applied, settleLine, settleLines, sweptRecord, swept, Settlement, settleDay, settle}
+use Rattle.settlement.specs.declared.verdict.Verdict.{Verdict}
+use Rattle.settlement.specs.declared.verdict.Verdict.the-variants.{Keeps, Restores, Posts, Unposted}
+use Rattle.settlement.specs.Settle.{matches, postVerdict, verdictOf, restored, postedRecord, Ledger, applied, settleLine, settleLines, sweptRecord, swept, Settlement, settleDay, settle}
 use Rattle.settlement.proofs.HeldLaws.{post-room, verdict-post}
 use Rattle.settlement_theorems.proofs.SettleLaws.{line-onward, Passed, settle-elim, before, after, after-used}
 use Rattle.settlement_theorems.proofs.BalanceLaws.{sweep-names, settle-names}

@@ -35,7 +35,9 @@ use Rattle.table.proofs.TableLaws.{length-records, getD-records, from-at}
 use Rattle.gate.specs.Deliver.{noRecord, makeRecord, revoked, creditedAt, isFull}
 use Rattle.gate_theorems.proofs.RecordsLaws.{Distinct}
 use Rattle.gate_theorems.proofs.RowsLaws.{SameNames, names-used, names-credited, good-there, made-good, state-good, revoked-good}
-use Rattle.settlement.specs.Settle.{matches, Verdict, Keeps, Restores, Posts, Unposted, paymentOf, postVerdict, verdictOf, restored, postedRecord, Ledger, applied, settleLine, settleLines, isStray, sweptRecord, swept, Settlement, settleDay, settle}
+use Rattle.settlement.specs.declared.verdict.Verdict.{Verdict}
+use Rattle.settlement.specs.declared.verdict.Verdict.the-variants.{Keeps, Restores, Posts, Unposted}
+use Rattle.settlement.specs.Settle.{matches, paymentOf, postVerdict, verdictOf, restored, postedRecord, Ledger, applied, settleLine, settleLines, isStray, sweptRecord, swept, Settlement, settleDay, settle}
 use Rattle.settlement.proofs.HeldLaws.{post-room, post-new, verdict-post}
 use Rattle.settlement_theorems.proofs.SettleLaws.{Onward, applied-onward, line-onward, swept-onward, map-at, restores-at, settled-by, before, after, after-used}
 use Rattle.settlement_theorems.proofs.BalanceLaws.{names-credited-at}

@@ -34,7 +34,9 @@ use Rattle.table.proofs.TableLaws.{length-records, getD-records, from-at, recor
 use borrow.Author.Tests.{leb-true, eqb-true, eqb-false, not-true}
 use Rattle.gate.specs.Deliver.{noRecord, revoked, debitedAt, isFull}
 use Rattle.gate.proofs.ChangeLaws.{debit-used}
-use Rattle.settlement.specs.Settle.{matches, isDone, Verdict, Keeps, Restores, Posts, Unposted, postVerdict, matchVerdict, verdictOf, restored, postedRecord, Ledger, applied, settleLine, settleLines, anyMatches, isStray, sweptRecord, sweptGate, sweepGates, swept, anyDone, reportOf, Settlement, unsettled, reported, settleDay, settleText, settle}
+use Rattle.settlement.specs.declared.verdict.Verdict.{Verdict}
+use Rattle.settlement.specs.declared.verdict.Verdict.the-variants.{Keeps, Restores, Posts, Unposted}
+use Rattle.settlement.specs.Settle.{matches, isDone, postVerdict, matchVerdict, verdictOf, restored, postedRecord, Ledger, applied, settleLine, settleLines, anyMatches, isStray, sweptRecord, sweptGate, sweepGates, swept, anyDone, reportOf, Settlement, unsettled, reported, settleDay, settleText, settle}
 use Rattle.settlement.proofs.DayLaws.{report-length}
 use Rattle.settlement.proofs.HeldLaws.{credit-used}
 
