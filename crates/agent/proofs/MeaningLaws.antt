@@ -3,7 +3,7 @@ use Prim.Native.Nat.{ℕ}
 use mathlib.Core.Path.{_≡_, sym, ap, _∙_}
 use mathlib.Core.Bool.{Bool}
 use borrow.Author.Tests.{ne-eqb}
-use Rattle.message.specs.declared.action.Action.{Action}
+use Rattle.payments.specs.declared.Action.{Action}
 use Rattle.book.specs.declared.State.{State}
 use Rattle.agent.specs.declared.meaning.Meaning.{Meaning}
 use Rattle.agent.specs.declared.meaning.Meaning.the-variants.{Silent}

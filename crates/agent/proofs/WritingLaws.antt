@@ -10,8 +10,8 @@ use Rattle.fields.specs.Lists.{written, cursorAfter}
 use Rattle.fields.specs.Amount.{isAmount}
 use Rattle.fields.specs.Codes.{isReceipt, isKind, isReason}
 use Rattle.fields.specs.Number.{isNumber}
-use Rattle.message.specs.declared.action.Action.{Action}
-use Rattle.message.specs.declared.action.Action.the-variants.{Check, Payment, Status, Cancel}
+use Rattle.payments.specs.declared.Action.{Action}
+use Rattle.payments.specs.declared.Action.the-variants.{Check, Payment, Status, Cancel}
 use Rattle.message.specs.declared.request.Asked.{Asked as Request}
 use Rattle.message.specs.Names.{hasReason}
 use Rattle.message.specs.RequestText.{isAsked, requestText}

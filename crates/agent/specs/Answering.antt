@@ -5,9 +5,9 @@ use mathlib.Core.Bool.{Bool, true, false, cond}
 use lib.Dec.{eqb}
 use lib.ListN.{getD, set}
 use Rattle.fields.specs.Codes.{isReceipt}
-use Rattle.message.specs.declared.action.Action.{Action}
-use Rattle.message.specs.declared.action.Action.the-variants.{Check, Payment, Status, Cancel}
-use Rattle.answers.specs.declared.answer.Answer.{Answer}
+use Rattle.payments.specs.declared.Action.{Action}
+use Rattle.payments.specs.declared.Action.the-variants.{Check, Payment, Status, Cancel}
+use Rattle.payments.specs.declared.Answer.{Answer}
 use Rattle.answers.specs.AnswerRead.{answerRead}
 use Rattle.lists.specs.declared.Found.{Found}
 use Rattle.lists.specs.declared.Found.the-variants.{At, Nothing}

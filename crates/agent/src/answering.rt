@@ -1,6 +1,6 @@
 // An answer comes back, with the action and the receipt of its request.
 use crate::meaning;
-use answers::answer::Answer;
+use payments::Answer;
 use answers::read;
 use book::Book;
 use book::Entry;
@@ -10,7 +10,7 @@ use book::valid;
 use daybook::frozen;
 use fields::codes;
 use lists::Found;
-use message::action::Action;
+use payments::Action;
 ghost use mathlib.Core.Path.{_≡_};
 ghost use mathlib.Core.Bool.{true};
 ghost use Prim.Native.Nat.{_<_};

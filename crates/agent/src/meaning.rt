@@ -1,6 +1,6 @@
 // What an answer says of a payment, and the state that it leaves.
 use book::State;
-use message::action::Action;
+use payments::Action;
 ghost use mathlib.Core.Path.{_≡_};
 ghost use Rattle.agent.specs.Answering.{meaning, turned, credits, paymentMeaning, cancelMeaning};
 

@@ -10,7 +10,7 @@ use daybook::freezing;
 use daybook::listing;
 use fields::scan;
 use message::action;
-use message::action::Action;
+use payments::Action;
 use message::action::ActionRead;
 use reporting::taking;
 use table::Gate;

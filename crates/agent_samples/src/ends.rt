@@ -11,7 +11,7 @@ use gate::Reply;
 use gate::deliver;
 use gate::opening;
 use message::action;
-use message::action::Action;
+use payments::Action;
 use message::action::ActionRead;
 use reporting::taking;
 use settlement::settle;

@@ -4,7 +4,7 @@ use crate::desk::Desk;
 use crate::ends;
 use crate::given;
 use fields::scan;
-use message::action::Action;
+use payments::Action;
 
 // So many acceptances of what follows.
 fn accept_many(

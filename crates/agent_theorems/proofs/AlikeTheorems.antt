@@ -6,7 +6,7 @@ use mathlib.Core.List.{List}
 use lib.ListN.{set, getD}
 use Rattle.dates.specs.declared.calendar.Day.{Day}
 use Rattle.dates.specs.Calendar.{dayBefore}
-use Rattle.message.specs.declared.action.Action.{Action}
+use Rattle.payments.specs.declared.Action.{Action}
 use Rattle.lists.specs.declared.Found.{Found}
 use Rattle.lists.specs.declared.Found.the-variants.{At}
 use Rattle.book.specs.declared.Book.{Book}

@@ -10,9 +10,9 @@ use Rattle.fields.specs.Codes.{isReceipt}
 use Rattle.fields.specs.Digits.{within}
 use Rattle.fields.proofs.Tests.{cond-elim, cond-le, no-claim}
 use Rattle.fields.proofs.DigitLaws.{within-high}
-use Rattle.message.specs.declared.action.Action.{Action}
-use Rattle.message.specs.declared.action.Action.the-variants.{Check, Payment, Status, Cancel}
-use Rattle.answers.specs.declared.answer.Answer.{Answer}
+use Rattle.payments.specs.declared.Action.{Action}
+use Rattle.payments.specs.declared.Action.the-variants.{Check, Payment, Status, Cancel}
+use Rattle.payments.specs.declared.Answer.{Answer}
 use Rattle.answers.specs.AnswerRead.{answerRead}
 use Rattle.answers.proofs.AnswerRange.{read-code}
 use Rattle.lists.specs.declared.Found.{Found}

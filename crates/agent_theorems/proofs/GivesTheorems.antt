@@ -14,12 +14,12 @@ use Rattle.fields.specs.Number.{isNumber}
 use Rattle.fields.proofs.Tests.{cond-elim}
 use Rattle.fields.proofs.OutLaws.{text-back}
 use Rattle.dates.proofs.DateLaws.{written-parts}
-use Rattle.message.specs.declared.action.Action.{Action}
-use Rattle.message.specs.declared.action.Action.the-variants.{Check, Payment, Status, Cancel}
+use Rattle.payments.specs.declared.Action.{Action}
+use Rattle.payments.specs.declared.Action.the-variants.{Check, Payment, Status, Cancel}
 use Rattle.message.specs.declared.request.Asked.{Asked as Request}
 use Rattle.message.specs.RequestText.{isAsked, requestBytes, requestText}
 use Rattle.message.proofs.RequestAgain.{request-fits}
-use Rattle.answers.specs.declared.answer.Answer.{Answer}
+use Rattle.payments.specs.declared.Answer.{Answer}
 use Rattle.answers.specs.AnswerRead.{answerRead}
 use Rattle.lists.specs.declared.Found.the-variants.{At}
 use Rattle.book.specs.declared.Book.{Book}

@@ -16,8 +16,8 @@ use Rattle.fields.specs.Number.{isNumber}
 use Rattle.fields.proofs.Tests.{and-right, cond-elim, no-claim}
 use Rattle.fields.proofs.OutLaws.{buffer-stays, cursor-moves, bytes-past, text-back}
 use Rattle.dates.proofs.DateLaws.{written-parts}
-use Rattle.message.specs.declared.action.Action.{Action}
-use Rattle.message.specs.declared.action.Action.the-variants.{Check, Payment, Status, Cancel}
+use Rattle.payments.specs.declared.Action.{Action}
+use Rattle.payments.specs.declared.Action.the-variants.{Check, Payment, Status, Cancel}
 use Rattle.message.specs.declared.request.Asked.{Asked as Request}
 use Rattle.message.specs.Names.{hasReason}
 use Rattle.message.specs.Request.{requestRead}

@@ -16,8 +16,8 @@ use Rattle.fields.proofs.ListLaws.{every-weaker}
 use Rattle.fields.proofs.ScanLaws.{eqList-refl}
 use Rattle.fields.proofs.DecimalLaws.{digits-again, decimal-digits}
 use Rattle.dates.proofs.DateLaws.{date-bytes, date-again}
-use Rattle.message.specs.declared.action.Action.{Action}
-use Rattle.answers.specs.declared.answer.Answer.{Answer}
+use Rattle.payments.specs.declared.Action.{Action}
+use Rattle.payments.specs.declared.Answer.{Answer}
 use Rattle.answers.specs.declared.parts.Part.{Part}
 use Rattle.answers.specs.declared.parts.Part.the-variants.{Code, Authcode, Date, Message}
 use Rattle.answers.specs.Answer.{xmlLine, responseTag, codeTag, authcodeTag, dateTag, messageTag, opening, closing, element, elementIf, hasMessage, messageOf, answerBytes}

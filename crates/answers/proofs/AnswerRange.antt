@@ -12,8 +12,8 @@ use Rattle.fields.specs.Digits.{digitsRead}
 use Rattle.dates.specs.Date.{dateRead}
 use Rattle.fields.proofs.Tests.{cond-elim}
 use Rattle.fields.proofs.DigitLaws.{digits-below}
-use Rattle.message.specs.declared.action.Action.{Action}
-use Rattle.answers.specs.declared.answer.Answer.{Answer}
+use Rattle.payments.specs.declared.Action.{Action}
+use Rattle.payments.specs.declared.Answer.{Answer}
 use Rattle.answers.specs.declared.answer.AnswerRead.{AnswerRead}
 use Rattle.answers.specs.declared.parts.Part.{Part}
 use Rattle.answers.specs.declared.parts.Part.the-variants.{Code, Authcode, Date, Message}

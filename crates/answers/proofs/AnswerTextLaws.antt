@@ -14,7 +14,7 @@ use Rattle.fields.specs.Digits.{decimal}
 use Rattle.fields.proofs.OutLaws.{cursor-moves, written-over}
 use Rattle.fields.proofs.DecimalLaws.{fixed-length}
 use Rattle.fields.proofs.Tests.{cond-elim}
-use Rattle.answers.specs.declared.answer.Answer.{Answer}
+use Rattle.payments.specs.declared.Answer.{Answer}
 use Rattle.answers.specs.Answer.{xmlLine, responseTag, codeTag, authcodeTag, dateTag, messageTag, opening, closing, element, elementIf, hasMessage, messageOf, answerBytes}
 use Rattle.answers.specs.AnswerText.{Grown, enclosed, codeText, startText, dateText, messageText, endText}
 

@@ -10,8 +10,8 @@ use Rattle.dates.specs.declared.date.DateRead.{DateRead}
 use Rattle.fields.specs.Lists.{find}
 use Rattle.fields.specs.Digits.{digitsRead}
 use Rattle.dates.specs.Date.{dateRead}
-use Rattle.message.specs.declared.action.Action.{Action}
-use Rattle.answers.specs.declared.answer.Answer.{Answer}
+use Rattle.payments.specs.declared.Action.{Action}
+use Rattle.payments.specs.declared.Answer.{Answer}
 use Rattle.answers.specs.declared.answer.AnswerRead.{AnswerRead}
 use Rattle.answers.specs.declared.answer.Parsed.{Parsed}
 use Rattle.answers.specs.declared.tags.Element.{Element}

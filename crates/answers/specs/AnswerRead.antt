@@ -9,9 +9,9 @@ use Rattle.fields.specs.declared.digits.Digits.the-variants.{Value, Malformed}
 use Rattle.fields.specs.Lists.{find, eqList}
 use Rattle.fields.specs.Digits.{digitsRead}
 use Rattle.dates.specs.Date.{isWritten, emptyDate}
-use Rattle.message.specs.declared.action.Action.{Action}
-use Rattle.message.specs.declared.action.Action.the-variants.{Check, Payment, Status, Cancel}
-use Rattle.answers.specs.declared.answer.Answer.{Answer}
+use Rattle.payments.specs.declared.Action.{Action}
+use Rattle.payments.specs.declared.Action.the-variants.{Check, Payment, Status, Cancel}
+use Rattle.payments.specs.declared.Answer.{Answer}
 use Rattle.answers.specs.declared.answer.AnswerRead.{AnswerRead}
 use Rattle.answers.specs.declared.answer.Parsed.{Parsed}
 use Rattle.answers.specs.Answer.{xmlLine, responseTag, codeTag, authcodeTag, dateTag, messageTag, opening, closing}

@@ -1,14 +1,7 @@
 // Answers: a code, and where they have one an authcode and a date.
+use payments::Answer;
 ghost use mathlib.Core.Path.{_≡_};
 ghost use Rattle.answers.specs.AnswerRead.{emptyAnswer, unreadable};
-
-pub struct Answer {
-    pub code: u64,
-    pub authorized: bool,
-    pub authcode: u64,
-    pub dated: bool,
-    pub date: [u8; 19],
-}
 
 // An answer, or `ok` false and zeros.
 pub struct AnswerRead {

@@ -1,12 +1,12 @@
 // The four elements of a response, under one rule.
 use crate::answer;
-use crate::answer::Answer;
+use payments::Answer;
 use crate::answer::AnswerRead;
 use dates::date;
 use dates::date::DateRead;
 use fields::digits;
 use fields::digits::Digits;
-use message::action::Action;
+use payments::Action;
 ghost use mathlib.Core.Path.{_≡_};
 ghost use Rattle.answers.specs.AnswerRead.{takesMore, mayLackDate, withCode, withAuthcode};
 ghost use Rattle.answers.specs.AnswerParts.{mayStand, mayLack, numberHeld, dateHeld, messageHeld, filled};

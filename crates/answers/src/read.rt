@@ -1,6 +1,6 @@
 // Answers read, step by step: tags, elements, the end.
 use crate::answer;
-use crate::answer::Answer;
+use payments::Answer;
 use crate::answer::AnswerRead;
 use crate::answer::Parsed;
 use crate::parts;
@@ -8,7 +8,7 @@ use crate::parts::Part;
 use crate::tags;
 use crate::tags::Element;
 use fields::scan;
-use message::action::Action;
+use payments::Action;
 ghost use mathlib.Core.Path.{_≡_};
 ghost use lib.ListN.{drop};
 ghost use Rattle.answers.specs.AnswerRead.{openStep, readingOf, answerRead};

@@ -1,5 +1,5 @@
 // Answers written: piece by piece into a local text, and that at once into the lent buffer.
-use crate::answer::Answer;
+use payments::Answer;
 use fields::digits;
 use fields::out;
 use fields::scan;

@@ -20,7 +20,7 @@ use Rattle.fields.specs.Number.{isNumberText, numberRead, noNumber}
 use Rattle.dates.specs.Calendar.{dayRead}
 use Rattle.dates.specs.Date.{dateDay, dateRead, noDate}
 use Rattle.coding.specs.Params.{longer, splitAt}
-use Rattle.message.specs.declared.action.Action.the-variants.{Check}
+use Rattle.payments.specs.declared.Action.the-variants.{Check}
 use Rattle.message.specs.Request.{refused, requestRead}
 use Rattle.table.specs.declared.Gate.{Gate}
 use Rattle.table.specs.Table.{Rows}

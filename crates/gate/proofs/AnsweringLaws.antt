@@ -7,8 +7,8 @@ use mathlib.Core.List.{List}
 use lib.Dec.{eqb}
 use borrow.Author.Tests.{eq-eqb, ne-eqb}
 use Rattle.dates.specs.Date.{emptyDate}
-use Rattle.message.specs.declared.action.Action.{Action}
-use Rattle.answers.specs.declared.answer.Answer.{Answer}
+use Rattle.payments.specs.declared.Action.{Action}
+use Rattle.payments.specs.declared.Answer.{Answer}
 use Rattle.table.specs.declared.Record.{Record}
 use Rattle.gate.specs.Deliver.{settles, isCancel, answersAuthcode, answersDate, answerDate, answerOf}
 

@@ -4,8 +4,8 @@ use native.Mathlib.Omega.{arith}
 use mathlib.Core.Path.{_≡_, refl, _∙_}
 use mathlib.Core.Bool.{Bool, true, false, cond}
 use borrow.Author.Tests.{le-leb, lt-leb, ne-eqb}
-use Rattle.message.specs.declared.action.Action.{Action}
-use Rattle.message.specs.declared.action.Action.the-variants.{Check}
+use Rattle.payments.specs.declared.Action.{Action}
+use Rattle.payments.specs.declared.Action.the-variants.{Check}
 use Rattle.gate.specs.declared.decision.Standing.{Standing}
 use Rattle.gate.specs.declared.decision.View.{View}
 use Rattle.gate.specs.declared.decision.Decided.{Decided}

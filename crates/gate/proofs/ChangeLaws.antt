@@ -10,8 +10,8 @@ use lib.Signed.{mag}
 use lib.ListN.{length, getD, set}
 use borrow.Author.Tests.{leb-false}
 use Rattle.dates.specs.Date.{emptyDate}
-use Rattle.message.specs.declared.action.Action.{Action}
-use Rattle.message.specs.declared.action.Action.the-variants.{Check, Payment, Status, Cancel}
+use Rattle.payments.specs.declared.Action.{Action}
+use Rattle.payments.specs.declared.Action.the-variants.{Check, Payment, Status, Cancel}
 use Rattle.message.specs.declared.request.Asked.{Asked}
 use Rattle.table.specs.declared.Record.{Record}
 use Rattle.table.specs.declared.Gate.{Gate}

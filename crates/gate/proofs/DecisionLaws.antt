@@ -6,8 +6,8 @@ use mathlib.Core.Bool.{Bool, true, false, cond}
 use lib.Dec.{eqb}
 use borrow.Author.Tests.{eqb-true, eqb-false}
 use Rattle.fields.proofs.Tests.{cond-elim}
-use Rattle.message.specs.declared.action.Action.{Action}
-use Rattle.message.specs.declared.action.Action.the-variants.{Check, Payment, Status, Cancel}
+use Rattle.payments.specs.declared.Action.{Action}
+use Rattle.payments.specs.declared.Action.the-variants.{Check, Payment, Status, Cancel}
 use Rattle.gate.specs.declared.decision.Standing.{Standing}
 use Rattle.gate.specs.declared.decision.Standing.the-variants.{Unrecorded, Done, Cancelled}
 use Rattle.gate.specs.declared.decision.View.{View}

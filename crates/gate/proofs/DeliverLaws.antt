@@ -9,7 +9,7 @@ use lib.ListN.{length, getD}
 use borrow.Author.Tests.{not-true, not-false, le-leb, lt-leb}
 use Rattle.fields.specs.Lists.{written, cursorAfter}
 use Rattle.dates.specs.Date.{isWritten}
-use Rattle.message.specs.declared.action.Action.{Action}
+use Rattle.payments.specs.declared.Action.{Action}
 use Rattle.message.specs.declared.request.Asked.{Asked}
 use Rattle.message.specs.declared.request.RequestRead.{RequestRead}
 use Rattle.fields.specs.declared.digits.Digits.{Digits}
@@ -19,13 +19,13 @@ use Rattle.fields.proofs.Tests.{cond-elim}
 use Rattle.fields.proofs.DigitLaws.{within-high}
 use Rattle.fields.proofs.AmountLaws.{amount-within}
 use Rattle.coding.specs.Url.{decoded}
-use Rattle.message.specs.declared.action.Action.the-variants.{Check}
+use Rattle.payments.specs.declared.Action.the-variants.{Check}
 use Rattle.message.specs.declared.action.ActionRead.{ActionRead}
 use Rattle.message.specs.declared.action.ActionRead.the-variants.{Known, Unknown}
 use Rattle.message.specs.Names.{actionOf, hasAccount}
 use Rattle.message.specs.Slots.{Slot, Absent, Holds, Gathered, Broken, Values, gathered}
 use Rattle.message.specs.Request.{held, fieldOf, valueIn, refused, fieldFault, askedOf, fieldsRead, actionRead, valuesRead, requestRead}
-use Rattle.answers.specs.declared.answer.Answer.{Answer}
+use Rattle.payments.specs.declared.Answer.{Answer}
 use Rattle.answers.specs.Answer.{answerBytes}
 use Rattle.table.specs.declared.Record.{Record}
 use Rattle.table.specs.declared.Gate.{Gate}

@@ -3,8 +3,8 @@ use Prim.Native.Nat.{ℕ}
 use mathlib.Core.Bool.{Bool, true, false, cond, _||_}
 use lib.Dec.{eqb}
 use Rattle.fields.specs.Digits.{within}
-use Rattle.message.specs.declared.action.Action.{Action}
-use Rattle.message.specs.declared.action.Action.the-variants.{Check, Payment, Status, Cancel}
+use Rattle.payments.specs.declared.Action.{Action}
+use Rattle.payments.specs.declared.Action.the-variants.{Check, Payment, Status, Cancel}
 use Rattle.gate.specs.declared.decision.Standing.{Standing}
 use Rattle.gate.specs.declared.decision.Standing.the-variants.{Unrecorded, Done, Cancelled}
 use Rattle.gate.specs.declared.decision.View.{View}

@@ -11,10 +11,10 @@ use Rattle.fields.specs.declared.number.Number.{Number}
 use Rattle.fields.specs.Lists.{written, cursorAfter}
 use Rattle.dates.specs.Calendar.{upTo}
 use Rattle.dates.specs.Date.{dateDay, isWritten, emptyDate}
-use Rattle.message.specs.declared.action.Action.{Action}
-use Rattle.message.specs.declared.action.Action.the-variants.{Check, Payment, Status, Cancel}
+use Rattle.payments.specs.declared.Action.{Action}
+use Rattle.payments.specs.declared.Action.the-variants.{Check, Payment, Status, Cancel}
 use Rattle.message.specs.declared.request.Asked.{Asked}
-use Rattle.answers.specs.declared.answer.Answer.{Answer}
+use Rattle.payments.specs.declared.Answer.{Answer}
 use Rattle.message.specs.Request.{requestRead, unusedNumber}
 use Rattle.answers.specs.Answer.{answerBytes}
 use Rattle.table.specs.declared.Record.{Record}

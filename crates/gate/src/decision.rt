@@ -1,5 +1,5 @@
 // The decision on a request, from its fault, its action and the record of its receipt.
-use message::action::Action;
+use payments::Action;
 ghost use mathlib.Core.Path.{_≡_};
 ghost use Rattle.gate.specs.Decision.{keeps, checkCode, paymentNew, cancelDone, decision};
 

@@ -6,8 +6,8 @@ use mathlib.Core.List.{List}
 use lib.Dec.{eqb, leb}
 use borrow.Author.Tests.{le-leb}
 use Rattle.dates.specs.Date.{isWritten, emptyDate}
-use Rattle.message.specs.declared.action.Action.{Action}
-use Rattle.message.specs.declared.action.Action.the-variants.{Check, Payment, Status, Cancel}
+use Rattle.payments.specs.declared.Action.{Action}
+use Rattle.payments.specs.declared.Action.the-variants.{Check, Payment, Status, Cancel}
 use Rattle.answers.specs.Answer.{answerBytes}
 use Rattle.answers.specs.AnswerRead.{mayLackDate, answerRead, isAnswer, answerAgain}
 use Rattle.answers.proofs.AnswerAgain.{answer-again}

@@ -12,11 +12,11 @@ use Rattle.fields.specs.Lists.{written, cursorAfter}
 use Rattle.dates.specs.Date.{isWritten}
 use Rattle.fields.proofs.Tests.{cond-elim, no-claim}
 use Rattle.fields.proofs.OutLaws.{cursor-moves, text-back}
-use Rattle.message.specs.declared.action.Action.{Action}
-use Rattle.message.specs.declared.action.Action.the-variants.{Check, Payment, Status, Cancel}
+use Rattle.payments.specs.declared.Action.{Action}
+use Rattle.payments.specs.declared.Action.the-variants.{Check, Payment, Status, Cancel}
 use Rattle.message.specs.declared.request.Asked.{Asked}
 use Rattle.message.specs.Request.{requestRead}
-use Rattle.answers.specs.declared.answer.Answer.{Answer}
+use Rattle.payments.specs.declared.Answer.{Answer}
 use Rattle.answers.specs.Answer.{answerBytes}
 use Rattle.answers.specs.AnswerRead.{answerRead}
 use Rattle.table.specs.declared.Record.{Record}

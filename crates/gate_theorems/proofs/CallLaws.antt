@@ -29,7 +29,7 @@ use Rattle.table.specs.Accounts.{isAccount, accountsOf, findAccount, noAccount,
 use Rattle.table.specs.Valid.{near, rangesGood, accountKnown, authcodeGood, recordGood, tableGood, Ready}
 use Rattle.table.proofs.AccountLaws.{holder-within}
 use Rattle.gate.specs.declared.Reply.{Reply}
-use Rattle.message.specs.declared.action.Action.the-variants.{Payment}
+use Rattle.payments.specs.declared.Action.the-variants.{Payment}
 use Rattle.message.specs.declared.request.Asked.{Asked}
 use Rattle.message.specs.Request.{requestRead}
 use Rattle.gate.specs.Deliver.{isShort, debitedAt, respond, deliver, Delivery}

@@ -16,15 +16,15 @@ use Rattle.fields.proofs.DigitLaws.{within-low, within-high}
 use Rattle.dates.specs.Date.{isWritten, emptyDate}
 use Rattle.fields.proofs.Tests.{and-right, cond-elim, no-claim}
 use Rattle.dates.proofs.DateLaws.{written-parts}
-use Rattle.message.specs.declared.action.Action.{Action}
-use Rattle.message.specs.declared.action.Action.the-variants.{Check, Payment, Status, Cancel}
+use Rattle.payments.specs.declared.Action.{Action}
+use Rattle.payments.specs.declared.Action.the-variants.{Check, Payment, Status, Cancel}
 use Rattle.message.specs.declared.action.ActionRead.{ActionRead}
 use Rattle.message.specs.declared.action.ActionRead.the-variants.{Known, Unknown}
 use Rattle.message.specs.declared.request.RequestRead.{RequestRead}
 use Rattle.message.specs.Names.{actionOf}
 use Rattle.message.specs.Slots.{Slot, Absent, Gathered, Broken, Values, gathered}
 use Rattle.message.specs.Request.{held, receiptField, numberField, kindField, amountField, dateField, reasonField, refused, firstFault, fieldFault, fieldsRead, actionRead, valuesRead, requestRead}
-use Rattle.answers.specs.declared.answer.Answer.{Answer}
+use Rattle.payments.specs.declared.Answer.{Answer}
 use Rattle.answers.specs.Answer.{answerBytes}
 use Rattle.answers.specs.AnswerRead.{answerAgain}
 use Rattle.answers.proofs.AnswerTextLaws.{answer-length-512}

@@ -16,7 +16,7 @@ use Rattle.fields.specs.Amount.{isAmount}
 use Rattle.fields.specs.Codes.{isKind}
 use Rattle.dates.specs.Date.{isWritten}
 use Rattle.fields.specs.Number.{isNumber}
-use Rattle.message.specs.declared.action.Action.the-variants.{Payment, Cancel}
+use Rattle.payments.specs.declared.Action.the-variants.{Payment, Cancel}
 use Rattle.message.specs.declared.request.Asked.{Asked}
 use Rattle.message.specs.Request.{requestRead}
 use Rattle.lists.specs.declared.Found.{Found}

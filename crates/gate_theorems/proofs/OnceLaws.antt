@@ -9,7 +9,7 @@ use lib.IntN.{ℤ, pos, negsuc, subℕ, _-ℤ_}
 use lib.Signed.{_≤ℤ_, ≤ℤ-refl, leZ-yes}
 use lib.ListN.{getD, set}
 use borrow.Author.Tests.{lt-ltb}
-use Rattle.message.specs.declared.action.Action.the-variants.{Payment, Cancel}
+use Rattle.payments.specs.declared.Action.the-variants.{Payment, Cancel}
 use Rattle.message.specs.declared.request.Asked.{Asked}
 use Rattle.message.specs.Request.{requestRead}
 use Rattle.table.specs.declared.Account.{Account}

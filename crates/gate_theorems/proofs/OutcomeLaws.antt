@@ -8,7 +8,7 @@ use lib.Dec.{eqb}
 use lib.ListN.{length, set}
 use borrow.Author.Tests.{leb-false, eqb-true}
 use Rattle.fields.proofs.Tests.{cond-elim}
-use Rattle.message.specs.declared.action.Action.the-variants.{Payment, Cancel}
+use Rattle.payments.specs.declared.Action.the-variants.{Payment, Cancel}
 use Rattle.message.specs.declared.request.Asked.{Asked}
 use Rattle.table.specs.declared.Record.{Record}
 use Rattle.table.specs.declared.Gate.{Gate}

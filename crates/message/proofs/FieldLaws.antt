@@ -22,8 +22,8 @@ use Rattle.fields.proofs.NumberLaws.{number-empty, number-long}
 use Rattle.dates.proofs.DateLaws.{date-size}
 use Rattle.fields.proofs.ScanLaws.{find-le, lengths-differ}
 use Rattle.coding.specs.Url.{hexValue, decoded}
-use Rattle.message.specs.declared.action.Action.{Action}
-use Rattle.message.specs.declared.action.Action.the-variants.{Check, Payment, Status, Cancel}
+use Rattle.payments.specs.declared.Action.{Action}
+use Rattle.payments.specs.declared.Action.the-variants.{Check, Payment, Status, Cancel}
 use Rattle.message.specs.declared.action.ActionRead.the-variants.{Known, Unknown}
 use Rattle.message.specs.declared.slots.Text.{Text}
 use Rattle.message.specs.Names.{actionWord, actionOf}

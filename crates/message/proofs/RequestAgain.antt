@@ -26,8 +26,8 @@ use Rattle.dates.proofs.DateLaws.{date-again, date-bytes}
 use Rattle.coding.specs.Url.{isPlain}
 use Rattle.coding.specs.Units.{isByte}
 use Rattle.coding.proofs.CodedLaws.{plain-marks, digit-plain, coded-plain, coded-length}
-use Rattle.message.specs.declared.action.Action.{Action}
-use Rattle.message.specs.declared.action.Action.the-variants.{Check, Payment, Status, Cancel}
+use Rattle.payments.specs.declared.Action.{Action}
+use Rattle.payments.specs.declared.Action.the-variants.{Check, Payment, Status, Cancel}
 use Rattle.message.specs.declared.action.ActionRead.the-variants.{Known, Unknown}
 use Rattle.message.specs.declared.request.Asked.{Asked}
 use Rattle.message.specs.Names.{actionName, numberName, kindName, amountName, receiptName, dateName, reasonName, laterIndex, nameIndex, actionWord, actionOf, hasAccount, hasReceipt, hasDate, hasReason}

@@ -11,8 +11,8 @@ use Rattle.fields.specs.declared.digits.Digits.the-variants.{Value, Malformed}
 use Rattle.fields.specs.declared.number.Number.{Number}
 use Rattle.fields.specs.declared.number.NumberRead.{NumberRead}
 use Rattle.dates.specs.declared.date.DateRead.{DateRead}
-use Rattle.message.specs.declared.action.Action.{Action}
-use Rattle.message.specs.declared.action.Action.the-variants.{Check, Payment, Status, Cancel}
+use Rattle.payments.specs.declared.Action.{Action}
+use Rattle.payments.specs.declared.Action.the-variants.{Check, Payment, Status, Cancel}
 use Rattle.message.specs.declared.action.ActionRead.{ActionRead}
 use Rattle.message.specs.declared.action.ActionRead.the-variants.{Known, Unknown}
 use Rattle.message.specs.declared.request.RequestRead.{RequestRead}

@@ -22,8 +22,8 @@ use Rattle.fields.proofs.AmountLaws.{amount-within}
 use Rattle.fields.proofs.NumberLaws.{text-number}
 use Rattle.dates.proofs.DateLaws.{written-parts}
 use Rattle.coding.specs.Url.{decoded}
-use Rattle.message.specs.declared.action.Action.{Action}
-use Rattle.message.specs.declared.action.Action.the-variants.{Check}
+use Rattle.payments.specs.declared.Action.{Action}
+use Rattle.payments.specs.declared.Action.the-variants.{Check}
 use Rattle.message.specs.declared.action.ActionRead.{ActionRead}
 use Rattle.message.specs.declared.action.ActionRead.the-variants.{Known, Unknown}
 use Rattle.message.specs.declared.request.Asked.{Asked}

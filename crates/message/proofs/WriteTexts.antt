@@ -16,7 +16,7 @@ use Rattle.fields.specs.Digits.{decimal}
 use Rattle.fields.specs.Amount.{amountBytes}
 use Rattle.fields.specs.Number.{numberText}
 use Rattle.fields.proofs.DecimalLaws.{fixed-length}
-use Rattle.message.specs.declared.action.Action.{Action}
+use Rattle.payments.specs.declared.Action.{Action}
 use Rattle.message.specs.declared.request.Asked.{Asked}
 use Rattle.message.specs.Names.{actionName, numberName, kindName, amountName, receiptName, dateName, reasonName, actionWord, hasAccount, hasReceipt, hasDate, hasReason}
 use Rattle.message.specs.RequestText.{pair, pairIf, requestBytes}

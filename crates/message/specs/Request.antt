@@ -14,8 +14,8 @@ use Rattle.fields.specs.Codes.{receiptRead, receiptFault, kindRead, kindFault, 
 use Rattle.fields.specs.Number.{noNumber, numberRead, numberFault}
 use Rattle.dates.specs.Date.{emptyDate, noDate, dateRead, dateFault}
 use Rattle.coding.specs.Url.{decoded}
-use Rattle.message.specs.declared.action.Action.{Action}
-use Rattle.message.specs.declared.action.Action.the-variants.{Check, Payment, Status, Cancel}
+use Rattle.payments.specs.declared.Action.{Action}
+use Rattle.payments.specs.declared.Action.the-variants.{Check, Payment, Status, Cancel}
 use Rattle.message.specs.declared.action.ActionRead.{ActionRead}
 use Rattle.message.specs.declared.action.ActionRead.the-variants.{Known, Unknown}
 use Rattle.message.specs.declared.request.Asked.{Asked}

@@ -8,7 +8,7 @@ use Rattle.fields.specs.Codes.{isReceipt, isKind, isReason}
 use Rattle.fields.specs.Number.{numberText, numberOf, isNumber}
 use Rattle.dates.specs.Date.{isWritten, emptyDate}
 use Rattle.coding.specs.Url.{coded}
-use Rattle.message.specs.declared.action.Action.{Action}
+use Rattle.payments.specs.declared.Action.{Action}
 use Rattle.message.specs.declared.request.Asked.{Asked}
 use Rattle.message.specs.Names.{actionName, numberName, kindName, amountName, receiptName, dateName, reasonName, actionWord, hasAccount, hasReceipt, hasDate, hasReason}
 use Rattle.message.specs.Request.{unusedNumber}

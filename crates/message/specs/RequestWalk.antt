@@ -4,7 +4,7 @@ use mathlib.Core.List.{List, [], _∷_}
 use mathlib.Core.Bool.{Bool, true, false, cond}
 use lib.Dec.{eqb}
 use Rattle.fields.specs.declared.number.Number.{Number}
-use Rattle.message.specs.declared.action.Action.{Action}
+use Rattle.payments.specs.declared.Action.{Action}
 use Rattle.message.specs.declared.request.RequestRead.{RequestRead}
 use Rattle.message.specs.declared.request.Reader.{Reader}
 use Rattle.message.specs.declared.request.Reader.the-variants.{Receipt, Kind, Amount, Reason}

@@ -1,14 +1,8 @@
 // The actions of a request, and the fields that each has.
 use fields::scan;
+use payments::Action;
 ghost use mathlib.Core.Path.{_≡_};
 ghost use Rattle.message.specs.Names.{laterIndex, nameIndex, actionOf, hasAccount, hasReceipt, hasDate, hasReason};
-
-pub enum Action {
-    Check,
-    Payment,
-    Status,
-    Cancel,
-}
 
 pub enum ActionRead {
     Known(Action),

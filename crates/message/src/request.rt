@@ -1,6 +1,6 @@
 // Requests: what they ask, or their first fault.
 use crate::action;
-use crate::action::Action;
+use payments::Action;
 use crate::action::ActionRead;
 use crate::slots;
 use crate::slots::Slots;

@@ -1,6 +1,6 @@
 // The text of a request, written into a lent buffer.
 use crate::action;
-use crate::action::Action;
+use payments::Action;
 use crate::request::Asked;
 use coding::url;
 use dates::date;

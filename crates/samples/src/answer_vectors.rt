@@ -2,7 +2,7 @@
 use crate::given;
 use crate::show;
 use crate::split;
-use answers::answer::Answer;
+use payments::Answer;
 use answers::answer::AnswerRead;
 use answers::read;
 use answers::write;
@@ -11,7 +11,7 @@ use fields::digits::Digits;
 use fields::out;
 use fields::scan;
 use message::action;
-use message::action::Action;
+use payments::Action;
 use message::action::ActionRead;
 
 // The answer to an action.

@@ -6,7 +6,7 @@ use fields::digits;
 use fields::digits::Digits;
 use fields::scan;
 use message::action;
-use message::action::Action;
+use payments::Action;
 use message::action::ActionRead;
 use message::request::Asked;
 use message::write;

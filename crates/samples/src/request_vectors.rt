@@ -7,7 +7,7 @@ use fields::number::Number;
 use fields::out;
 use fields::scan;
 use message::action;
-use message::action::Action;
+use payments::Action;
 use message::request::Asked;
 use message::request::RequestRead;
 use message::request::read_request;

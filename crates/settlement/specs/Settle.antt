@@ -9,7 +9,7 @@ use Rattle.fields.specs.Lists.{eqList, written}
 use Rattle.dates.specs.Calendar.{isDay, dayBefore, nextDay, onDay}
 use Rattle.dates.specs.Date.{dateDay, isWritten, emptyDate}
 use Rattle.fields.specs.Number.{sameNumber}
-use Rattle.message.specs.declared.action.Action.the-variants.{Payment}
+use Rattle.payments.specs.declared.Action.the-variants.{Payment}
 use Rattle.message.specs.declared.request.Asked.{Asked}
 use Rattle.registry.specs.declared.line.Line.{Line}
 use Rattle.registry.specs.Registry.{registryLines, registryFault}

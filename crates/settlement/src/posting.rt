@@ -2,7 +2,7 @@
 use crate::verdict;
 use crate::verdict::Verdict;
 use gate::change;
-use message::action::Action;
+use payments::Action;
 use message::request::Asked;
 use registry::line::Line;
 use table::Gate;

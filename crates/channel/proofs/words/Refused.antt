@@ -13,8 +13,8 @@ use Rattle.dates.specs.declared.calendar.Day.{Day}
 use Rattle.fields.specs.declared.number.Number.{Number}
 use Rattle.dates.specs.Calendar.{isDay}
 use Rattle.fields.proofs.Tests.{and-left}
-use Rattle.message.specs.declared.action.Action.{Action}
-use Rattle.message.specs.declared.action.Action.the-variants.{Check, Payment, Status, Cancel}
+use Rattle.payments.specs.declared.Action.{Action}
+use Rattle.payments.specs.declared.Action.the-variants.{Check, Payment, Status, Cancel}
 use Rattle.lists.specs.Lists.{tab}
 use Rattle.lists.specs.Lent.{lentWell}
 use Rattle.table.specs.declared.Gate.{Gate}

@@ -18,12 +18,12 @@ use Rattle.fields.specs.Number.{isNumber}
 use Rattle.fields.proofs.Tests.{cond-elim}
 use Rattle.fields.proofs.OutLaws.{text-first, text-back}
 use Rattle.dates.proofs.DateLaws.{written-parts}
-use Rattle.message.specs.declared.action.Action.{Action}
-use Rattle.message.specs.declared.action.Action.the-variants.{Check}
+use Rattle.payments.specs.declared.Action.{Action}
+use Rattle.payments.specs.declared.Action.the-variants.{Check}
 use Rattle.message.specs.declared.request.Asked.{Asked}
 use Rattle.message.specs.RequestText.{isAsked, requestText}
 use Rattle.message.proofs.RequestAgain.{request-fits}
-use Rattle.answers.specs.declared.answer.Answer.{Answer}
+use Rattle.payments.specs.declared.Answer.{Answer}
 use Rattle.answers.specs.Answer.{answerBytes}
 use Rattle.registry.specs.Registry.{registryLines}
 use Rattle.registry.proofs.LinesGood.{lines-good}
