@@ -7,9 +7,8 @@ use dates::calendar::Day;
 use daybook::listing;
 use fields::number::Number;
 use fields::scan;
-use gate::Reply;
+use ledger::Reply;
 use gate::deliver;
-use gate::opening;
 use message::action;
 use payments::Action;
 use message::action::ActionRead;
@@ -81,7 +80,7 @@ pub fn open(
     dates: &[[[u8; 19]; 3]],
     d: Desk,
 ) -> Desk {
-    let r = opening::open_call(
+    let r = opening::open_account(
         nums,
         numbers,
         dates,
@@ -100,7 +99,7 @@ pub fn draw(
     dates: &[[[u8; 19]; 3]],
     d: Desk,
 ) -> Desk {
-    let r = opening::draw_call(
+    let r = opening::draw_funds(
         nums,
         numbers,
         dates,

@@ -1,8 +1,8 @@
 -- Laws of a request delivered to the gate.
 use Prim.Native.Nat.{ℕ, _≤_, _<_}
 use native.Mathlib.Omega.{arith}
-use mathlib.Core.Path.{_≡_, refl, sym, ap, _∙_}
-use mathlib.Core.Bool.{Bool, true, false, cond, not}
+use mathlib.Core.Path.{_≡_, refl, sym, _∙_}
+use mathlib.Core.Bool.{Bool, true, false, not}
 use mathlib.Core.List.{List}
 use lib.Dec.{eqb, leb}
 use lib.ListN.{length, getD}
@@ -10,6 +10,7 @@ use borrow.Author.Tests.{not-true, not-false, le-leb, lt-leb}
 use Rattle.fields.specs.Lists.{written, cursorAfter}
 use Rattle.dates.specs.Date.{isWritten}
 use Rattle.payments.specs.declared.Action.{Action}
+use Rattle.payments.specs.declared.Instruction.{Instruction}
 use Rattle.message.specs.declared.request.Asked.{Asked}
 use Rattle.message.specs.declared.request.RequestRead.{RequestRead}
 use Rattle.fields.specs.declared.digits.Digits.{Digits}
@@ -29,18 +30,24 @@ use Rattle.payments.specs.declared.Answer.{Answer}
 use Rattle.answers.specs.Answer.{answerBytes}
 use Rattle.table.specs.declared.Record.{Record}
 use Rattle.table.specs.declared.Gate.{Gate}
-use Rattle.table.specs.Table.{Rows, recordsOf, rowsFrom}
-use Rattle.table.specs.Valid.{tableGood}
-use Rattle.gate.specs.declared.plan.Plan.{Plan}
-use Rattle.gate.specs.Deliver.{planOf, changed, Made, answerOf, Delivery, answered, respond, deliver}
+use Rattle.table.specs.Table.{Rows, recordsOf}
+use Rattle.validity.specs.Valid.{tableGood}
+use Rattle.ledger.specs.Plan.{planOf}
+use Rattle.ledger.specs.Change.{executed, Made}
+use Rattle.rules.specs.Answering.{answerOf}
+use Rattle.gate.specs.Deliver.{instructionOf, Delivery, respond, deliver}
 
-pub asked-answered : (g : Gate) (t : Rows) (clock : List ℕ) (fault : ℕ) (q : Asked) (out : List ℕ) (p : Plan) (gate : Gate) (subject : Record) (rows : Rows) (x : Answer) (left : List ℕ) (size : ℕ)
-    → p ≡ planOf g (recordsOf t (g .used)) (length (t .nums)) fault q
-    → Made t (changed (p .decided .change) g (recordsOf t (g .used)) clock q p) gate subject rows
-    → x ≡ answerOf (q .action) (p .decided .code) subject clock → size ≡ cursorAfter out 0 (answerBytes x) → left ≡ written out 0 (answerBytes x)
-    → _≡_ {A = Delivery} (record { code = p .decided .code; gate = gate; rows = rows; out = left; size = size }) (respond g t clock fault q out)
+pub executed-answered : (g : Gate) (t : Rows) (clock : List ℕ) (fault : ℕ) (q : Asked) (out : List ℕ) (i : Instruction) (code : ℕ) (gate : Gate) (subject : Record) (rows : Rows) (x : Answer) (left : List ℕ) (size : ℕ)
+    → i ≡ instructionOf q → code ≡ (planOf g (recordsOf t (g .used)) (length (t .nums)) fault i) .decided .code
+    → Made t (executed g (recordsOf t (g .used)) clock i (planOf g (recordsOf t (g .used)) (length (t .nums)) fault i)) gate subject rows
+    → x ≡ answerOf (q .action) code subject clock → size ≡ cursorAfter out 0 (answerBytes x) → left ≡ written out 0 (answerBytes x)
+    → _≡_ {A = Delivery} (record { code = code; gate = gate; rows = rows; out = left; size = size }) (respond g t clock fault (instructionOf q) out)
 unfolding respond
-asked-answered g t clock fault q out p gate subject rows x left size ep made ex es el = rw (← ep, el, es, ex, made .subjects, made .gates, made .left)
+executed-answered g t clock fault q out i code gate subject rows x left size ei ec made ex es el = rw (← ei, el, es, ex, ec, made .subjects, made .gates, made .left, ei)
+
+-- what a request asks is in its range whatever the wire
+pub instruction-amount : (q : Asked) (i : Instruction) → i ≡ instructionOf q → q .amount < 1000000000 → i .details .amount < 1000000000
+instruction-amount q i e h = rw e h
 
 -- ---- the ways out of a delivery
 module _ (g : Gate) (t : Rows) (clock params out : List ℕ) where
@@ -60,7 +67,7 @@ module _ (g : Gate) (t : Rows) (clock params out : List ℕ) where
 
   -- a request that was read
   pub read-done : (b : Bool) → b ≡ tableGood g t → not b ≡ false → 512 ≤ length out → (w : Bool) → w ≡ isWritten clock → not w ≡ false → (q : RequestRead) → q ≡ requestRead params
-      → (d : Delivery) → d ≡ respond g t clock (q .fault) (q .asked) out → d ≡ deliver g t clock params out
+      → (d : Delivery) → d ≡ respond g t clock (q .fault) (instructionOf (q .asked)) out → d ≡ deliver g t clock params out
   unfolding deliver
   read-done b eb h l w ew n q eq d e = e ∙ rw (← eb, not-false b h, le-leb _ _ l, ← ew, not-false w n, ← eq)
 

@@ -1,22 +1,41 @@
 // A request delivered to the gate.
-use crate::Reply;
-use crate::answering;
-use crate::change;
-use crate::plan;
 use answers::write;
 use dates::date;
+use ledger::Reply;
+use ledger::change;
 use message::request;
+use message::request::Asked;
 use message::request::RequestRead;
+use payments::Details;
+use payments::Instruction;
+use rules::answering;
 use table::Gate;
-use table::valid;
+use validity::valid;
 ghost use mathlib.Core.Path.{_≡_};
 ghost use mathlib.Core.Bool.{true};
 ghost use Prim.Native.Nat.{_<_};
 ghost use Rattle.table.specs.Lent.{lent, before, after};
-ghost use Rattle.table.specs.Valid.{Ready, tableGood};
-ghost use Rattle.gate.specs.Deliver.{deliveryOf, respond, deliver};
+ghost use Rattle.validity.specs.Valid.{Ready, tableGood};
+ghost use Rattle.gate.specs.Deliver.{instructionOf, deliveryOf, respond, deliver};
 
-// Decides on a request as it was read, makes the change and writes the answer.
+// What a request of this wire asks, whatever the wire.
+fn instruction_of(q: Asked) -> Instruction
+    ensures { λ r. ⌜ r ≡ instructionOf q ⌝ }
+{
+    let action = q.action;
+    let number = q.number;
+    let date = q.date;
+    let details = Details {
+        receipt: q.receipt,
+        number,
+        kind: q.kind,
+        amount: q.amount,
+        date,
+    };
+    Instruction { action, details }
+}
+
+// Executes a request as it was read, and writes the answer.
 fn answer_read(
     nums: &mut [[u64; 6]],
     numbers: &mut [[u8; 30]],
@@ -27,19 +46,17 @@ fn answer_read(
     out: &mut [u8],
 ) -> Reply
     requires { ⌜ Ready g (lent nums numbers dates) ⌝ }
-    requires { ⌜ tableGood g (lent nums numbers dates) ≡ true ⌝ }
-    requires { ⌜ q .asked .amount < 1000000000 ⌝ }
-    ensures { λ r. ⌜ deliveryOf r (after nums numbers dates) (now (out .exit)) ≡ respond g (before nums numbers dates) clock (q .fault) (q .asked) (now (out .entry)) ⌝ }
+    requires { ⌜ (tableGood g (lent nums numbers dates) ≡ true) × (q .asked .amount < 1000000000) ⌝ }
+    ensures { λ r. ⌜ deliveryOf r (after nums numbers dates) (now (out .exit)) ≡ respond g (before nums numbers dates) clock (q .fault) (instructionOf (q .asked)) (now (out .entry)) ⌝ }
 {
     let asked = q.asked;
-    let p = plan::make_plan(nums, numbers, dates, g, q);
-    let o = change::make_change(nums, numbers, dates, g, clock, q, p);
-    let d = p.decided;
-    let code = d.code;
+    let instruction = instruction_of(asked);
+    let x = change::execute(nums, numbers, dates, g, clock, q.fault, instruction);
     let a = asked.action;
-    let subject = o.subject;
+    let code = x.code;
+    let subject = x.subject;
     let size = write::write_answer(answering::answer_of(a, code, subject, clock), out, 0);
-    let gate = o.gate;
+    let gate = x.gate;
     Reply { code, gate, size }
 }
 

@@ -12,7 +12,7 @@ use Rattle.answers.specs.Answer.{answerBytes}
 use Rattle.answers.specs.AnswerRead.{mayLackDate, answerRead, isAnswer, answerAgain}
 use Rattle.answers.proofs.AnswerAgain.{answer-again}
 use Rattle.table.specs.declared.Record.{Record}
-use Rattle.gate.specs.Deliver.{settles, answersAuthcode, answersDate, answerDate, answerOf}
+use Rattle.rules.specs.Answering.{settles, answersAuthcode, answersDate, answerDate, answerOf}
 
 -- an authcode that may be carried is in range, or is not carried
 carried-good : (t : Bool) (n : ℕ) → n ≤ 999999999999999 → not t || leb (cond t n 0) 999999999999999 ≡ true

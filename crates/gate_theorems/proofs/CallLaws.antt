@@ -26,17 +26,19 @@ use Rattle.lists.specs.declared.Found.the-variants.{At, Nothing}
 use Rattle.lists.specs.Lists.{firstFrom, isFound}
 use Rattle.table.specs.Table.{Rows, recordAt, recordsOf, findRecord}
 use Rattle.table.specs.Accounts.{isAccount, accountsOf, findAccount, noAccount, withBalance, balanceAt, credited, debited, withUsed, opened}
-use Rattle.table.specs.Valid.{near, rangesGood, accountKnown, authcodeGood, recordGood, tableGood, Ready}
+use Rattle.validity.specs.Valid.{near, rangesGood, accountKnown, authcodeGood, recordGood, tableGood, Ready}
 use Rattle.table.proofs.AccountLaws.{holder-within}
-use Rattle.gate.specs.declared.Reply.{Reply}
+use Rattle.ledger.specs.declared.Reply.{Reply}
 use Rattle.payments.specs.declared.Action.the-variants.{Payment}
 use Rattle.message.specs.declared.request.Asked.{Asked}
 use Rattle.message.specs.Request.{requestRead}
-use Rattle.gate.specs.Deliver.{isShort, debitedAt, respond, deliver, Delivery}
-use Rattle.gate.specs.Opening.{replies, openTo, openCall, drawOn, drawFrom, drawCall}
+use Rattle.ledger.specs.Plan.{isShort}
+use Rattle.ledger.specs.Change.{debitedAt}
+use Rattle.gate.specs.Deliver.{respond, deliver, Delivery}
+use Rattle.opening.specs.Opening.{replies, openTo, openAccount, drawOn, drawFrom, drawFunds}
 use Rattle.gate_theorems.proofs.OutcomeLaws.{Outcome, stays, appends, revokes, outcome}
 use Rattle.gate_theorems.proofs.KeepsLaws.{delivered-by}
-use Rattle.gate.proofs.GoodLaws.{Good, Near, good-table, near-table, table-again, ready-again}
+use Rattle.validity.proofs.GoodLaws.{Good, Near, good-table, near-table, table-again, ready-again}
 use Rattle.gate_theorems.proofs.RowsLaws.{SameNames, names-same, names-debited, good-there, delivered-good, delivered-ready}
 
 -- ---- a balance that is drawn on stays in its bound
@@ -167,8 +169,8 @@ module _ (g : Gate) (n : Number) (k : ℕ) where
 -- ---- the calls
 -- a property of what a call gives, which a fault has and a success has
 module _ (g : Gate) (t : Rows) (n : Number) (k : ℕ) (P : Reply → Type 0) (fault : (c : ℕ) → (c ≡ 0 → ⊥) → P (replies c g)) where
-  pub open-elim : (isNumber n && isKind k ≡ true → isFound (findAccount n k (accountsOf g)) ≡ false → g .count < 256 → P (replies 0 (opened g n k))) → P (openCall g t n k)
-  unfolding openCall openTo
+  pub open-elim : (isNumber n && isKind k ≡ true → isFound (findAccount n k (accountsOf g)) ≡ false → g .count < 256 → P (replies 0 (opened g n k))) → P (openAccount g t n k)
+  unfolding openAccount openTo
   open-elim s =
       cond-elim P (tableGood g t) _ _
       (λ _. cond-elim P (isNumber n && isKind k) _ _
@@ -177,8 +179,8 @@ module _ (g : Gate) (t : Rows) (n : Number) (k : ℕ) (P : Reply → Type 0) (fa
       (λ _. fault 59 (λ z. omega arith)))
       (λ _. fault 68 (λ z. omega arith))
 
-  pub draw-elim : (m : ℕ) → ((a : ℕ) → isNumber n && isKind k ≡ true → findAccount n k (accountsOf g) ≡ At a → ltZ (balanceAt g a) (pos m) ≡ false → P (replies 0 (debited g a m))) → P (drawCall g t n k m)
-  unfolding drawCall drawFrom drawOn
+  pub draw-elim : (m : ℕ) → ((a : ℕ) → isNumber n && isKind k ≡ true → findAccount n k (accountsOf g) ≡ At a → ltZ (balanceAt g a) (pos m) ≡ false → P (replies 0 (debited g a m))) → P (drawFunds g t n k m)
+  unfolding drawFunds drawFrom drawOn
   draw-elim m s =
       cond-elim P (tableGood g t) _ _
       (λ _. cond-elim P (isNumber n && isKind k) _ _ (λ v. on v (findAccount n k (accountsOf g)) refl) (λ _. fault 59 (λ z. omega arith)))
@@ -222,7 +224,7 @@ module _ (g : Gate) (t : Rows) (ready : Ready g t) (good : tableGood g t ≡ tru
       (opened-near g n k room bound) refl refl
 
   -- ---- 5: an opening keeps row 68
-  pub open-good : (n : Number) (k : ℕ) → Stands g t ((openCall g t n k) .gate)
+  pub open-good : (n : Number) (k : ℕ) → Stands g t ((openAccount g t n k) .gate)
   open-good n k = open-elim g t n k StandsReply (λ c _. same c) (λ named _ few. opened-stands n k named few)
 
   debited-stands : (a m : ℕ) → a < g .count → ltZ (balanceAt g a) (pos m) ≡ false → Stands g t (debited g a m)
@@ -232,13 +234,13 @@ module _ (g : Gate) (t : Rows) (ready : Ready g t) (good : tableGood g t ≡ tru
       stands (debited g a m) (names .places ∙ ready .sound .places) (good-names g (debited g a m) t names refl facts) (near-debited g a m bound h funds) refl (names .closed)
 
   -- a draw keeps row 68
-  pub draw-good : (n : Number) (k m : ℕ) → Stands g t ((drawCall g t n k m) .gate)
+  pub draw-good : (n : Number) (k m : ℕ) → Stands g t ((drawFunds g t n k m) .gate)
   draw-good n k m =
       draw-elim g t n k StandsReply (λ c _. same c) m
       (λ a _ found funds. debited-stands a m (holder-within g n k a (findAccount n k (accountsOf g)) refl found) funds)
 
   -- and the accounts' names
-  pub draw-names : (n : Number) (k m : ℕ) → SameNames g ((drawCall g t n k m) .gate)
+  pub draw-names : (n : Number) (k m : ℕ) → SameNames g ((drawFunds g t n k m) .gate)
   draw-names n k m = draw-elim g t n k (λ (r : Reply). SameNames g (r .gate)) (λ _ _. names-same g g refl) m (λ a _ _ _. names-debited g (At a) m)
 
   -- ---- only a payment that is credited may take a balance past its bound

@@ -33,18 +33,21 @@ use Rattle.table.specs.declared.Gate.{Gate}
 use Rattle.lists.specs.declared.Found.{Found}
 use Rattle.lists.specs.declared.Found.the-variants.{At, Nothing}
 use Rattle.table.specs.Table.{Rows, recordAt, recordsOf, findRecord}
-use Rattle.table.specs.Valid.{stateGood, tableGood}
+use Rattle.validity.specs.Valid.{stateGood, tableGood}
 use Rattle.table.proofs.TableLaws.{getD-records, receipt-within}
-use Rattle.gate.specs.declared.decision.Standing.{Standing}
-use Rattle.gate.specs.declared.decision.Standing.the-variants.{Unrecorded, Done, Cancelled}
-use Rattle.gate.specs.declared.decision.View.{View}
-use Rattle.gate.specs.declared.decision.Change.{Change}
-use Rattle.gate.specs.declared.decision.Change.the-variants.{Keep, Append, Revoke}
-use Rattle.gate.specs.declared.decision.Decided.{Decided}
-use Rattle.gate.specs.Decision.{checkCode, paymentNew, cancelDone, decisionOn, isFault, faultCode, decision}
-use Rattle.gate.specs.Deliver.{noRecord, recordFound, standingOf, isCancel, revoked, answersAuthcode, answersDate, answerDate, answerOf}
-use Rattle.gate.proofs.DecisionLaws.{decision-cases}
-use Rattle.gate.proofs.GoodLaws.{record-good, used-few}
+use Rattle.rules.specs.declared.decision.Standing.{Standing}
+use Rattle.rules.specs.declared.decision.Standing.the-variants.{Unrecorded, Done, Cancelled}
+use Rattle.rules.specs.declared.decision.View.{View}
+use Rattle.rules.specs.declared.decision.Change.{Change}
+use Rattle.rules.specs.declared.decision.Change.the-variants.{Keep, Append, Revoke}
+use Rattle.rules.specs.declared.decision.Decided.{Decided}
+use Rattle.rules.specs.Decision.{checkCode, paymentNew, cancelDone, decisionOn, isFault, faultCode, decision}
+use Rattle.table.specs.Table.{noRecord}
+use Rattle.ledger.specs.Plan.{recordFound, standingOf}
+use Rattle.rules.specs.Answering.{isCancel, answersAuthcode, answersDate, answerDate, answerOf}
+use Rattle.ledger.specs.Change.{revoked}
+use Rattle.rules.proofs.DecisionLaws.{decision-cases}
+use Rattle.validity.proofs.GoodLaws.{record-good, used-few}
 use Rattle.gate_theorems.proofs.KeptLaws.{RecordParts, parts-of}
 
 -- whether a code is one of a list

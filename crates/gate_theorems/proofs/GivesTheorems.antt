@@ -27,18 +27,22 @@ use Rattle.table.specs.declared.Gate.{Gate}
 use Rattle.table.specs.declared.Record.{Record}
 use Rattle.table.specs.Table.{Rows, recordAt, recordsOf, rowsFrom, findRecord}
 use Rattle.table.specs.Accounts.{isAccount, accountsOf, findAccount, noAccount, balanceAt, withBalance, gateBalance, credited, debited, opened, withUsed}
-use Rattle.table.specs.Valid.{tableGood}
+use Rattle.validity.specs.Valid.{tableGood}
 use Rattle.table.proofs.TableLaws.{length-records, getD-records, receipt-within, from-at, rows-as}
-use Rattle.gate.specs.declared.decision.Change.the-variants.{Append, Revoke}
-use Rattle.gate.specs.declared.plan.Plan.{Plan}
-use Rattle.gate.specs.Decision.{paymentNew, cancelDone, decisionOn, decision}
-use Rattle.gate.specs.Deliver.{noRecord, dateClosed, isCancel, accountOf, dateOf, isFull, viewOf, planWith, planOf, makeRecord, revoked, debitedAt, changed, respondBy, respond, deliver, Delivery}
-use Rattle.gate.specs.Opening.{replies, openTo, openCall, drawOn, drawFrom, drawCall}
+use Rattle.rules.specs.declared.decision.Change.the-variants.{Append, Revoke}
+use Rattle.ledger.specs.declared.plan.Plan.{Plan}
+use Rattle.rules.specs.Decision.{paymentNew, cancelDone, decisionOn, decision}
+use Rattle.table.specs.Table.{noRecord}
+use Rattle.ledger.specs.Plan.{dateClosed, accountOf, dateOf, isFull, viewOf, planWith, planOf}
+use Rattle.rules.specs.Answering.{isCancel}
+use Rattle.ledger.specs.Change.{makeRecord, revoked, debitedAt, changed}
+use Rattle.gate.specs.Deliver.{respondBy, respond, deliver, Delivery}
+use Rattle.opening.specs.Opening.{replies, openTo, openAccount, drawOn, drawFrom, drawFunds}
 use Rattle.gate_theorems.proofs.CallLaws.{newAccount, opened-other, opened-new}
 use Rattle.gate_theorems.proofs.OutcomeLaws.{Outcome, stays, appends, revokes, outcome}
 use Rattle.gate_theorems.proofs.KeepsLaws.{delivered-by}
-use Rattle.gate.proofs.ChangeLaws.{debit-used}
-use Rattle.gate.proofs.GoodLaws.{record-good}
+use Rattle.ledger.proofs.ChangeLaws.{debit-used}
+use Rattle.validity.proofs.GoodLaws.{record-good}
 use Rattle.gate_theorems.proofs.KeptLaws.{known-of}
 
 -- ---- one balance moves
@@ -72,17 +76,17 @@ debit-moves g a n h = moved g a (balanceAt g a -ℤ pos n) h
 module _ (g : Gate) (t : Rows) (n : Number) (k : ℕ) (good : tableGood g t ≡ true) (number : isNumber n ≡ true) (kind : isKind k ≡ true) where
   -- an account that is not known is opened with nothing on it, where there is a place, and every other account stays
   pub open-gives : length (g .accounts) ≡ 256 → findAccount n k (accountsOf g) ≡ Nothing → g .count < 256
-      → (openCall g t n k ≡ replies 0 (opened g n k)) × (getD ((opened g n k) .accounts) (g .count) noAccount ≡ newAccount g n k)
+      → (openAccount g t n k ≡ replies 0 (opened g n k)) × (getD ((opened g n k) .accounts) (g .count) noAccount ≡ newAccount g n k)
       × ((i : ℕ) → i < g .count → getD ((opened g n k) .accounts) i noAccount ≡ getD (g .accounts) i noAccount)
-  unfolding openCall openTo
+  unfolding openAccount openTo
   open-gives places new few =
       let room : g .count < length (g .accounts) = omega arith in
       (rw (good, number, kind, new, lt-leb 256 (g .count) few) refl, opened-new g n k room, opened-other g n k room)
 
   -- an amount that the balance covers is drawn from the account, and nothing else moves
   pub draw-gives : (a kopecks : ℕ) → findAccount n k (accountsOf g) ≡ At a → isAmount kopecks ≡ true → ltZ (balanceAt g a) (pos kopecks) ≡ false
-      → (drawCall g t n k kopecks ≡ replies 0 (debited g a kopecks)) × Moved g (debited g a kopecks) a (balanceAt g a -ℤ pos kopecks)
-  unfolding drawCall drawFrom drawOn
+      → (drawFunds g t n k kopecks ≡ replies 0 (debited g a kopecks)) × Moved g (debited g a kopecks) a (balanceAt g a -ℤ pos kopecks)
+  unfolding drawFunds drawFrom drawOn
   draw-gives a kopecks found amount funds = (rw (good, number, kind, found, amount, funds) refl, debit-moves g a kopecks (found-there g n k a found))
 
 -- ---- a request without a fault

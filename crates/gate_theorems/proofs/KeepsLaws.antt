@@ -23,11 +23,11 @@ use Rattle.lists.specs.declared.Found.the-variants.{At, Nothing}
 use Rattle.lists.specs.Lists.{isFound}
 use Rattle.table.specs.Table.{Rows}
 use Rattle.table.specs.Accounts.{accountsOf, findAccount, balanceAt, debited, opened}
-use Rattle.table.specs.Valid.{tableGood, Ready}
+use Rattle.validity.specs.Valid.{tableGood, Ready}
 use Rattle.table.proofs.TableLaws.{rows-kept}
-use Rattle.gate.specs.declared.Reply.{Reply}
+use Rattle.ledger.specs.declared.Reply.{Reply}
 use Rattle.gate.specs.Deliver.{Delivery, undelivered, respond, deliver}
-use Rattle.gate.specs.Opening.{replies, openTo, openCall, drawOn, drawFrom, drawCall}
+use Rattle.opening.specs.Opening.{replies, openTo, openAccount, drawOn, drawFrom, drawFunds}
 use Rattle.gate_theorems.proofs.OutcomeLaws.{Outcome, stays, appends, revokes, outcome}
 
 -- ---- a delivery by its tests
@@ -126,13 +126,13 @@ module _ (g : Gate) where
       cond-elim (ReplyKeeps g) (isAmount m && not (ltZ (balanceAt g a) (pos m))) _ _ (λ _. done (debited g a m)) (λ _. refuses 58)
 
   -- an opening with a code other than 0 keeps the gate
-  pub open-keeps : (t : Rows) (n : Number) (k : ℕ) → ((openCall g t n k) .code ≡ 0 → ⊥) → (openCall g t n k) .gate ≡ g
-  unfolding openCall
+  pub open-keeps : (t : Rows) (n : Number) (k : ℕ) → ((openAccount g t n k) .code ≡ 0 → ⊥) → (openAccount g t n k) .gate ≡ g
+  unfolding openAccount
   open-keeps t n k = cond-elim (ReplyKeeps g) (tableGood g t) _ _ (λ _. open-to-keeps n k) (λ _. refuses 68)
 
   -- a draw with a code other than 0 keeps the gate
-  pub draw-keeps : (t : Rows) (n : Number) (k m : ℕ) → ((drawCall g t n k m) .code ≡ 0 → ⊥) → (drawCall g t n k m) .gate ≡ g
-  unfolding drawCall drawFrom
+  pub draw-keeps : (t : Rows) (n : Number) (k m : ℕ) → ((drawFunds g t n k m) .code ≡ 0 → ⊥) → (drawFunds g t n k m) .gate ≡ g
+  unfolding drawFunds drawFrom
   draw-keeps t n k m =
       cond-elim (ReplyKeeps g) (tableGood g t) _ _
       (λ _. cond-elim (ReplyKeeps g) (isNumber n && isKind k) _ _ (λ _. draw-on-keeps (findAccount n k (accountsOf g)) m) (λ _. refuses 59))

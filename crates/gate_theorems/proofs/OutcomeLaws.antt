@@ -17,15 +17,18 @@ use Rattle.lists.specs.declared.Found.the-variants.{At, Nothing}
 use Rattle.lists.specs.Lists.{isFound}
 use Rattle.table.specs.Table.{Rows, recordsOf, findRecord, rowsFrom}
 use Rattle.table.specs.Accounts.{accountsOf, findAccount, credited, withUsed}
-use Rattle.gate.specs.declared.decision.Standing.the-variants.{Unrecorded, Done, Cancelled}
-use Rattle.gate.specs.declared.decision.View.{View}
-use Rattle.gate.specs.declared.decision.Change.{Change}
-use Rattle.gate.specs.declared.decision.Change.the-variants.{Keep, Append, Revoke}
-use Rattle.gate.specs.declared.plan.Plan.{Plan}
-use Rattle.gate.specs.declared.decision.Decided.{Decided}
-use Rattle.gate.specs.Decision.{isFault, faultCode}
-use Rattle.gate.specs.Deliver.{recordFound, standingOf, dateClosed, isCancel, accountOf, dateOf, isShort, isFull, viewOf, planWith, planOf, makeRecord, revoked, creditedAt, debitedAt, changed, answered, respond, Delivery}
-use Rattle.gate.proofs.DecisionLaws.{Appends, Revokes, decision-cases, append-of, revoke-of}
+use Rattle.rules.specs.declared.decision.Standing.the-variants.{Unrecorded, Done, Cancelled}
+use Rattle.rules.specs.declared.decision.View.{View}
+use Rattle.rules.specs.declared.decision.Change.{Change}
+use Rattle.rules.specs.declared.decision.Change.the-variants.{Keep, Append, Revoke}
+use Rattle.ledger.specs.declared.plan.Plan.{Plan}
+use Rattle.rules.specs.declared.decision.Decided.{Decided}
+use Rattle.rules.specs.Decision.{isFault, faultCode}
+use Rattle.ledger.specs.Plan.{recordFound, standingOf, dateClosed, accountOf, dateOf, isShort, isFull, viewOf, planWith, planOf}
+use Rattle.rules.specs.Answering.{isCancel}
+use Rattle.ledger.specs.Change.{makeRecord, revoked, creditedAt, debitedAt, changed}
+use Rattle.gate.specs.Deliver.{answered, respond, Delivery}
+use Rattle.rules.proofs.DecisionLaws.{Appends, Revokes, decision-cases, append-of, revoke-of}
 
 -- ---- the outcomes of a request: all stays, a payment is recorded, or a payment is revoked
 pub data Outcome (g : Gate) (t : Rows) (clock : List ℕ) (q : Asked) (d : Delivery) : Type 0 where

@@ -20,8 +20,11 @@ use borrow.Author.Tests.{eqb-false}
 use Rattle.table.specs.Table.{findRecord, hasReceipt}
 use Rattle.lists.proofs.ListLaws.{found-none}
 use Rattle.table.proofs.TableLaws.{length-records, getD-records, from-at}
-use Rattle.gate.specs.Deliver.{noRecord, dateClosed, makeRecord, revoked, debitedAt, respond, deliver, Delivery}
-use Rattle.gate.proofs.ChangeLaws.{debit-used}
+use Rattle.table.specs.Table.{noRecord}
+use Rattle.ledger.specs.Plan.{dateClosed}
+use Rattle.ledger.specs.Change.{makeRecord, revoked, debitedAt}
+use Rattle.gate.specs.Deliver.{respond, deliver, Delivery}
+use Rattle.ledger.proofs.ChangeLaws.{debit-used}
 use Rattle.gate_theorems.proofs.OutcomeLaws.{Outcome, stays, appends, revokes, outcome}
 use Rattle.gate_theorems.proofs.KeepsLaws.{delivered-by}
 

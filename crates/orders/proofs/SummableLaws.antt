@@ -31,17 +31,19 @@ use Rattle.table.specs.declared.Account.{Account}
 use Rattle.table.specs.declared.Gate.{Gate}
 use Rattle.table.specs.Table.{Rows}
 use Rattle.table.specs.Accounts.{accountsOf, findAccount, noAccount, balanceAt, withBalance, credited, debited, withUsed, opened}
-use Rattle.table.specs.Valid.{tableGood}
+use Rattle.validity.specs.Valid.{tableGood}
 use Rattle.table.proofs.AccountLaws.{holder-within}
-use Rattle.table.proofs.RangeLaws.{near-mag}
+use Rattle.validity.proofs.RangeLaws.{near-mag}
 use Rattle.table.proofs.SignedLaws.{mag-up}
-use Rattle.gate.specs.declared.Reply.{Reply}
-use Rattle.gate.specs.Opening.{openTo, openCall, drawOn, drawFrom, drawCall}
-use Rattle.gate.specs.Deliver.{isShort, debitedAt, deliver, respond, Delivery}
+use Rattle.ledger.specs.declared.Reply.{Reply}
+use Rattle.opening.specs.Opening.{openTo, openAccount, drawOn, drawFrom, drawFunds}
+use Rattle.ledger.specs.Plan.{isShort}
+use Rattle.ledger.specs.Change.{debitedAt}
+use Rattle.gate.specs.Deliver.{deliver, respond, Delivery}
 use Rattle.gate.proofs.DeliverLaws.{asked-amount}
 use Rattle.gate_theorems.proofs.OutcomeLaws.{Outcome, stays, appends, revokes, outcome}
 use Rattle.gate_theorems.proofs.KeepsLaws.{delivered-by}
-use Rattle.gate.proofs.GoodLaws.{Near, near-table}
+use Rattle.validity.proofs.GoodLaws.{Near, near-table}
 use Rattle.gate_theorems.proofs.RowsLaws.{SameNames, names-moved, names-debited}
 use Rattle.gate_theorems.proofs.CallLaws.{near-debited, opened-other, opened-new}
 use Rattle.orders.specs.declared.Console.{Console}
@@ -84,8 +86,8 @@ module _ (g : Gate) (s : Summable g) where
         balances = λ i h. opened-small n k room i h (ℕ-discrete i (g .count));
       }
 
-  open-summable : (t : Rows) (n : Number) (k : ℕ) → Sums (openCall g t n k)
-  unfolding openCall openTo
+  open-summable : (t : Rows) (n : Number) (k : ℕ) → Sums (openAccount g t n k)
+  unfolding openAccount openTo
   open-summable t n k =
       cond-elim Sums (tableGood g t) _ _
       (λ _. cond-elim Sums (isNumber n && isKind k) _ _
@@ -139,8 +141,8 @@ module _ (g : Gate) (s : Summable g) where
         rw eg (credited-summable a (q .amount) (g .used + 1) (holder-within g (q .number) (q .kind) a (findAccount (q .number) (q .kind) (accountsOf g)) refl ef) few)
     outcome-summable clock q d few (revokes i r f ea ei er ef es day fu ec eg el) = rw eg (debited-summable f (r .number) (r .kind) (r .amount) ef fu)
 
-  draw-summable : (t : Rows) (n : Number) (k m : ℕ) → Sums (drawCall g t n k m)
-  unfolding drawCall drawFrom
+  draw-summable : (t : Rows) (n : Number) (k m : ℕ) → Sums (drawFunds g t n k m)
+  unfolding drawFunds drawFrom
   draw-summable t n k m =
       cond-elim Sums (tableGood g t) _ _
       (λ good. cond-elim Sums (isNumber n && isKind k) _ _ (λ _. draw-on-summable t good (findAccount n k (accountsOf g)) n k m refl) (λ _. s))

@@ -21,8 +21,8 @@ use Rattle.dates.specs.Date.{dateRead}
 use Rattle.table.specs.declared.Gate.{Gate}
 use Rattle.table.specs.Table.{Rows}
 use Rattle.table.specs.Accounts.{withClosed}
-use Rattle.gate.specs.declared.Reply.{Reply}
-use Rattle.gate.specs.Opening.{openCall, drawCall}
+use Rattle.ledger.specs.declared.Reply.{Reply}
+use Rattle.opening.specs.Opening.{openAccount, drawFunds}
 use Rattle.gate.specs.Deliver.{deliver, Delivery}
 use Rattle.orders.specs.declared.Console.{Console}
 use Rattle.orders.specs.declared.turn.Turn.{Turn as Given}
@@ -54,12 +54,12 @@ module _ (x : Console) (t : Rows) (l : List ℕ) where
 
   -- ---- O and D
   module _ (a : Reply) (r : Given) (er : r ≡ calledOn a) (n : NumberRead) (kind : ℕ) where
-    pub open-done : a ≡ openCall (x .gate) t (n .number) kind → (k : Digits) → kind ≡ kindIn k → (f₂ : List ℕ) → k ≡ kindRead f₂ → f₂ ≡ fieldAt 2 l
+    pub open-done : a ≡ openAccount (x .gate) t (n .number) kind → (k : Digits) → kind ≡ kindIn k → (f₂ : List ℕ) → k ≡ kindRead f₂ → f₂ ≡ fieldAt 2 l
         → (f₁ : List ℕ) → n ≡ numberRead f₁ → f₁ ≡ fieldAt 1 l → turnOf r t ≡ openTurn x t l
     unfolding openTurn
     open-done ea k ei f₂ ek ef₂ f₁ en ef₁ = rw (er, ea, ei, ek, ef₂, en, ef₁)
 
-    pub draw-of : (m : ℕ) → a ≡ drawCall (x .gate) t (n .number) kind m → (k : Digits) → kind ≡ kindIn k → (f₂ : List ℕ) → k ≡ kindRead f₂ → f₂ ≡ fieldAt 2 l
+    pub draw-of : (m : ℕ) → a ≡ drawFunds (x .gate) t (n .number) kind m → (k : Digits) → kind ≡ kindIn k → (f₂ : List ℕ) → k ≡ kindRead f₂ → f₂ ≡ fieldAt 2 l
         → (f₁ : List ℕ) → n ≡ numberRead f₁ → f₁ ≡ fieldAt 1 l → turnOf r t ≡ drawOf x t l (Value m)
     draw-of m ea k ei f₂ ek ef₂ f₁ en ef₁ = rw (er, ea, ei, ek, ef₂, en, ef₁)
 

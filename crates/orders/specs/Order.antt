@@ -20,8 +20,8 @@ use Rattle.table.specs.declared.Account.{Account}
 use Rattle.table.specs.declared.Gate.{Gate}
 use Rattle.table.specs.Table.{Rows}
 use Rattle.table.specs.Accounts.{accountsOf, withClosed}
-use Rattle.gate.specs.declared.Reply.{Reply}
-use Rattle.gate.specs.Opening.{openCall, drawCall}
+use Rattle.ledger.specs.declared.Reply.{Reply}
+use Rattle.opening.specs.Opening.{openAccount, drawFunds}
 use Rattle.gate.specs.Deliver.{deliver, Delivery}
 use Rattle.orders.specs.declared.Console.{Console}
 use Rattle.orders.specs.declared.turn.Turn.{Turn as Given}
@@ -81,12 +81,12 @@ kindIn (Value k) = k
 
 -- O number type
 unfoldable pub openTurn : Console → Rows → List ℕ → Turn
-openTurn x t l = replied t (openCall (x .gate) t ((numberRead (fieldAt 1 l)) .number) (kindIn (kindRead (fieldAt 2 l))))
+openTurn x t l = replied t (openAccount (x .gate) t ((numberRead (fieldAt 1 l)) .number) (kindIn (kindRead (fieldAt 2 l))))
 
 -- D number type kopecks: kopecks are 1 to 15 digits
 abbrev pub drawOf : Console → Rows → List ℕ → Digits → Turn
 drawOf x t l Malformed = unread x t
-drawOf x t l (Value n) = replied t (drawCall (x .gate) t ((numberRead (fieldAt 1 l)) .number) (kindIn (kindRead (fieldAt 2 l))) n)
+drawOf x t l (Value n) = replied t (drawFunds (x .gate) t ((numberRead (fieldAt 1 l)) .number) (kindIn (kindRead (fieldAt 2 l))) n)
 
 unfoldable pub drawTurn : Console → Rows → List ℕ → Turn
 drawTurn x t l = drawOf x t l (digitsRead 15 (fieldAt 3 l))

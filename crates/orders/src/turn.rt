@@ -8,9 +8,8 @@ use fields::codes;
 use fields::digits;
 use fields::digits::Digits;
 use fields::number;
-use gate::Reply;
+use ledger::Reply;
 use gate::deliver;
-use gate::opening;
 ghost use mathlib.Core.Path.{_≡_};
 ghost use mathlib.Core.Bool.{true};
 ghost use Rattle.fields.specs.declared.digits.Digits.the-variants.{Value};
@@ -92,7 +91,7 @@ fn open_turn(
     let kind = kind_in(codes::read_kind(line::field_at(line, 2)));
     let gate = x.gate;
     let number = n.number;
-    answered(opening::open_call(nums, numbers, dates, gate, number, kind))
+    answered(opening::open_account(nums, numbers, dates, gate, number, kind))
 }
 
 // A draw of kopecks that were read.
@@ -110,7 +109,7 @@ fn draw_of(
     let kind = kind_in(codes::read_kind(line::field_at(line, 2)));
     let gate = x.gate;
     let number = n.number;
-    answered(opening::draw_call(nums, numbers, dates, gate, number, kind, kopecks))
+    answered(opening::draw_funds(nums, numbers, dates, gate, number, kind, kopecks))
 }
 
 // D: a draw, of kopecks in 1 to 15 digits.

@@ -1,4 +1,4 @@
-// What the two ends tell each other, whatever the wire: an action, the details of a payment, an answer.
+// What the two ends tell each other, whatever the wire: an action with the details of its payment, and an answer.
 use fields::number::Number;
 
 pub enum Action {
@@ -15,6 +15,12 @@ pub struct Details {
     pub kind: u64,
     pub amount: u64,
     pub date: [u8; 19],
+}
+
+// What is asked of the gate.
+pub struct Instruction {
+    pub action: Action,
+    pub details: Details,
 }
 
 // A code, and where the answer has one an authcode and a date.

@@ -7,9 +7,8 @@ use crate::world::World;
 use fields::digits;
 use fields::number::Number;
 use fields::scan;
-use gate::Reply;
+use ledger::Reply;
 use gate::deliver;
-use gate::opening;
 use table::Record;
 use table::rows;
 
@@ -32,7 +31,7 @@ fn open_one(
     let m = world::least(w.lent, numbers.len());
     let d = world::least(w.lent_dates, dates.len());
     let g = w.gate;
-    opening::open_call(&nums[..n], &numbers[..m], &dates[..d], g, number, kind)
+    opening::open_account(&nums[..n], &numbers[..m], &dates[..d], g, number, kind)
 }
 
 // An opening, from number and type.
@@ -93,7 +92,7 @@ fn draw_one(
     let rest = split::tail(s);
     let kind = given::kind(rest);
     let kopecks = given::value(split::tail(rest));
-    opening::draw_call(
+    opening::draw_funds(
         &nums[..n],
         &numbers[..m],
         &dates[..d],

@@ -4,7 +4,7 @@ use crate::given;
 use crate::split;
 use crate::world;
 use crate::world::World;
-use gate::Reply;
+use ledger::Reply;
 use settlement::settle;
 
 // A registry, from day, clock and text, with its report in `out`.

@@ -25,8 +25,11 @@ use Rattle.table.specs.Accounts.{accountsOf, findAccount, noAccount, withBalanc
 use Rattle.table.proofs.SignedLaws.{mag-up, mag-down}
 use Rattle.table.proofs.AccountLaws.{holder-within}
 use Rattle.table.proofs.TableLaws.{length-records, getD-records, from-at, from-whole, whole-from, records-from, rows-kept, rows-set}
-use Rattle.gate.specs.Deliver.{Funds, noRecord, makeRecord, revoked, creditedAt, debitedAt, isFull}
-use Rattle.gate.proofs.ChangeLaws.{debit-used}
+use Rattle.table.specs.Accounts.{Funds}
+use Rattle.table.specs.Table.{noRecord}
+use Rattle.ledger.specs.Plan.{isFull}
+use Rattle.ledger.specs.Change.{makeRecord, revoked, creditedAt, debitedAt}
+use Rattle.ledger.proofs.ChangeLaws.{debit-used}
 use Rattle.settlement.specs.Settle.{matches, isDone, postVerdict, matchVerdict, verdictOf, restored, postedRecord, Ledger, Verdict, Keeps, Restores, Posts, Unposted, applied, settleLine, isStray, sweptRecord, sweptGate}
 use Rattle.settlement.specs.Steps.{Held, Left, ledgerOf, sweptAt}
 

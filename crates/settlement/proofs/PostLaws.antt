@@ -19,7 +19,10 @@ use Rattle.table.specs.Table.{Rows, recordAt, recordsOf, rowsWith, findRecord}
 use Rattle.table.specs.Accounts.{accountsOf, findAccount, balanceAt, credited, withUsed}
 use Rattle.table.proofs.TableLaws.{getD-records, rows-set, rows-more, rows-kept}
 use Rattle.table.proofs.AccountLaws.{holder-within}
-use Rattle.gate.specs.Deliver.{Within, Funds, noRecord, creditedAt, isFull}
+use Rattle.ledger.specs.Plan.{Within, isFull}
+use Rattle.table.specs.Accounts.{Funds}
+use Rattle.table.specs.Table.{noRecord}
+use Rattle.ledger.specs.Change.{creditedAt}
 use Rattle.settlement.specs.Settle.{matches, isDone, postVerdict, verdictOf, restored, postedRecord, Ledger, Verdict, Keeps, Restores, Posts, Unposted, applied, settleLine}
 use Rattle.settlement.specs.Steps.{Held, Left, ledgerOf}
 use Rattle.settlement.proofs.HeldLaws.{post-room, verdict-post, verdict-restore}

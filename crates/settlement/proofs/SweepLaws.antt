@@ -21,7 +21,7 @@ use Rattle.registry.specs.declared.line.Line.{Line}
 use Rattle.table.specs.declared.Gate.{Gate}
 use Rattle.table.specs.declared.Record.{Record}
 use Rattle.table.specs.Table.{Rows, recordAt, recordsOf, rowsFrom}
-use Rattle.gate.specs.Deliver.{noRecord}
+use Rattle.table.specs.Table.{noRecord}
 use Rattle.settlement.specs.Settle.{Ledger, anyMatches, isStray, sweptRecord, sweptGate, sweepGates, swept}
 use Rattle.settlement.specs.Steps.{Held, Left, ledgerOf, sweptAt}
 

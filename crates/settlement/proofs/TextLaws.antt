@@ -20,8 +20,8 @@ use Rattle.registry.proofs.LinesGood.{lines-good}
 use Rattle.table.specs.declared.Gate.{Gate}
 use Rattle.table.specs.declared.Record.{Record}
 use Rattle.table.specs.Table.{Rows, recordAt, recordsOf}
-use Rattle.table.specs.Valid.{rangesGood, recordGood, authcodeGood, tableGood, Ready}
-use Rattle.gate.proofs.GoodLaws.{good-table}
+use Rattle.validity.specs.Valid.{rangesGood, recordGood, authcodeGood, tableGood, Ready}
+use Rattle.validity.proofs.GoodLaws.{good-table}
 use Rattle.settlement.specs.Settle.{Settlement, reportOf, settleDay, settleText, settle}
 use Rattle.settlement.specs.Steps.{Held}
 use Rattle.settlement.proofs.DayLaws.{report-written}

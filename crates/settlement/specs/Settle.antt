@@ -20,9 +20,11 @@ use Rattle.lists.specs.declared.Found.the-variants.{At, Nothing}
 use Rattle.lists.specs.Lists.{firstFrom, isFound}
 use Rattle.table.specs.Table.{Rows, recordsOf, rowsFrom, findRecord}
 use Rattle.table.specs.Accounts.{accountsOf, findAccount, withUsed, withClosed}
-use Rattle.table.specs.Valid.{tableGood}
-use Rattle.gate.specs.Deliver.{noRecord, makeRecord, revoked, creditedAt, debitedAt, isFull}
-use Rattle.gate.specs.declared.Reply.{Reply}
+use Rattle.validity.specs.Valid.{tableGood}
+use Rattle.table.specs.Table.{noRecord}
+use Rattle.ledger.specs.Plan.{isFull}
+use Rattle.ledger.specs.Change.{makeRecord, revoked, creditedAt, debitedAt}
+use Rattle.ledger.specs.declared.Reply.{Reply}
 pub use Rattle.settlement.specs.declared.verdict.Verdict.{Verdict}
 pub use Rattle.settlement.specs.declared.verdict.Verdict.the-variants.{Keeps, Restores, Posts, Unposted}
 

@@ -8,7 +8,8 @@ use Rattle.registry.specs.declared.line.Line.{Line}
 use Rattle.table.specs.declared.Gate.{Gate}
 use Rattle.table.specs.declared.Record.{Record}
 use Rattle.table.specs.Table.{Rows, recordAt, recordsOf, rowsFrom, Whole, SameLengths}
-use Rattle.gate.specs.Deliver.{noRecord, Funds}
+use Rattle.table.specs.Table.{noRecord}
+use Rattle.table.specs.Accounts.{Funds}
 use Rattle.settlement.specs.Settle.{Ledger, sweptRecord, sweptGate}
 
 -- whole rows of one length with amounts in their range, and balances within a bound

@@ -3,7 +3,7 @@ use crate::lines;
 use crate::report;
 use crate::sweeping;
 use dates::calendar::Day;
-use gate::Reply;
+use ledger::Reply;
 use table::Gate;
 ghost use mathlib.Core.Path.{_≡_};
 ghost use Prim.Native.Nat.{_≤_};

@@ -1,7 +1,7 @@
 // What one line of a registry does to the table.
 use crate::verdict;
 use crate::verdict::Verdict;
-use gate::change;
+use ledger::change;
 use payments::Action;
 use message::request::Asked;
 use registry::line::Line;

@@ -2,7 +2,7 @@
 use crate::lines;
 use dates::calendar::Day;
 use dates::date;
-use gate::change;
+use ledger::change;
 use table::Gate;
 use table::Record;
 use table::accounts;

@@ -25,7 +25,8 @@ use Rattle.lists.specs.Lists.{firstFrom}
 use Rattle.lists.proofs.ListLaws.{search-within}
 use Rattle.table.specs.Table.{Rows, findRecord}
 use Rattle.table.specs.Accounts.{isAccount, accountsOf, findAccount, noAccount, withBalance, balanceAt, gateBalance, credited, debited, withClosed}
-use Rattle.gate.specs.Deliver.{creditedAt, debitedAt, isFull}
+use Rattle.ledger.specs.Change.{creditedAt, debitedAt}
+use Rattle.ledger.specs.Plan.{isFull}
 use Rattle.gate_theorems.proofs.RowsLaws.{SameNames, names-same, names-used, names-credited, names-debited}
 use Rattle.settlement.specs.declared.verdict.Verdict.{Verdict}
 use Rattle.settlement.specs.declared.verdict.Verdict.the-variants.{Keeps, Restores, Posts, Unposted}

@@ -18,7 +18,7 @@ use Rattle.registry.proofs.LinesGood.{lines-good}
 use Rattle.table.specs.declared.Gate.{Gate}
 use Rattle.table.specs.declared.Record.{Record}
 use Rattle.table.specs.Table.{Rows, recordsOf}
-use Rattle.table.specs.Valid.{tableGood}
+use Rattle.validity.specs.Valid.{tableGood}
 use Rattle.settlement.specs.Settle.{anyDone, reportOf, Settlement, settleDay, settleText, settle}
 use Rattle.settlement.proofs.DayLaws.{report-length}
 use Rattle.settlement_theorems.proofs.SettleLaws.{settled-by, report-now}

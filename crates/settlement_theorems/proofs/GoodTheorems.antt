@@ -22,9 +22,10 @@ use Rattle.table.specs.declared.Gate.{Gate}
 use Rattle.table.specs.declared.Record.{Record}
 use Rattle.table.specs.Table.{Rows, recordAt, recordsOf, rowsFrom, findRecord}
 use Rattle.table.specs.Accounts.{accountsOf, findAccount, withClosed}
-use Rattle.table.specs.Valid.{recordGood, accountKnown}
+use Rattle.validity.specs.Valid.{recordGood, accountKnown}
 use Rattle.table.proofs.TableLaws.{length-records, getD-records, from-at, from-whole, whole-from}
-use Rattle.gate.specs.Deliver.{noRecord, isFull}
+use Rattle.table.specs.Table.{noRecord}
+use Rattle.ledger.specs.Plan.{isFull}
 use Rattle.gate_theorems.proofs.RowsLaws.{SameNames}
 use Rattle.gate_theorems.proofs.KeptLaws.{GateRep, GateBase, gate-facts, base-of, names-apart}
 use Rattle.settlement.specs.declared.verdict.Verdict.{Verdict}

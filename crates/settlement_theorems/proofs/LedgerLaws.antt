@@ -30,9 +30,11 @@ use Rattle.table.specs.declared.Gate.{Gate}
 use Rattle.table.specs.declared.Record.{Record}
 use Rattle.table.specs.Table.{Rows, recordAt, recordsOf, rowsFrom, hasReceipt, findRecord}
 use Rattle.table.specs.Accounts.{accountsOf, findAccount, withUsed}
-use Rattle.table.specs.Valid.{stateGood, accountKnown, recordGood}
+use Rattle.validity.specs.Valid.{stateGood, accountKnown, recordGood}
 use Rattle.table.proofs.TableLaws.{length-records, getD-records, from-at}
-use Rattle.gate.specs.Deliver.{noRecord, makeRecord, revoked, creditedAt, isFull}
+use Rattle.table.specs.Table.{noRecord}
+use Rattle.ledger.specs.Plan.{isFull}
+use Rattle.ledger.specs.Change.{makeRecord, revoked, creditedAt}
 use Rattle.gate_theorems.proofs.RecordsLaws.{Distinct}
 use Rattle.gate_theorems.proofs.RowsLaws.{SameNames, names-used, names-credited, good-there, made-good, state-good, revoked-good}
 use Rattle.settlement.specs.declared.verdict.Verdict.{Verdict}

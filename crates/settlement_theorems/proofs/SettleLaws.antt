@@ -29,11 +29,13 @@ use Rattle.lists.specs.Lists.{firstFrom}
 use Rattle.table.specs.Table.{Rows, recordAt, recordsOf, rowsFrom, findRecord}
 use Rattle.lists.proofs.ListLaws.{found-fits}
 use Rattle.table.specs.Accounts.{accountsOf, findAccount}
-use Rattle.table.specs.Valid.{tableGood}
+use Rattle.validity.specs.Valid.{tableGood}
 use Rattle.table.proofs.TableLaws.{length-records, getD-records, from-at, records-from}
 use borrow.Author.Tests.{leb-true, eqb-true, eqb-false, not-true}
-use Rattle.gate.specs.Deliver.{noRecord, revoked, debitedAt, isFull}
-use Rattle.gate.proofs.ChangeLaws.{debit-used}
+use Rattle.table.specs.Table.{noRecord}
+use Rattle.ledger.specs.Plan.{isFull}
+use Rattle.ledger.specs.Change.{revoked, debitedAt}
+use Rattle.ledger.proofs.ChangeLaws.{debit-used}
 use Rattle.settlement.specs.declared.verdict.Verdict.{Verdict}
 use Rattle.settlement.specs.declared.verdict.Verdict.the-variants.{Keeps, Restores, Posts, Unposted}
 use Rattle.settlement.specs.Settle.{matches, isDone, postVerdict, matchVerdict, verdictOf, restored, postedRecord, Ledger, applied, settleLine, settleLines, anyMatches, isStray, sweptRecord, sweptGate, sweepGates, swept, anyDone, reportOf, Settlement, unsettled, reported, settleDay, settleText, settle}

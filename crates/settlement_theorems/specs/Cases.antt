@@ -8,9 +8,9 @@ use Rattle.fields.specs.declared.number.Number.{Number}
 use Rattle.fields.specs.Number.{numberOf}
 use Rattle.table.specs.declared.Gate.{Gate}
 use Rattle.table.specs.Table.{Rows}
-use Rattle.gate.specs.declared.Reply.{Reply}
+use Rattle.ledger.specs.declared.Reply.{Reply}
 use Rattle.gate.specs.Deliver.{Delivery, deliver}
-use Rattle.gate.specs.Opening.{openCall, drawCall}
+use Rattle.opening.specs.Opening.{openAccount, drawFunds}
 use Rattle.settlement.specs.Settle.{Settlement, settle}
 
 -- ---- the texts
@@ -144,7 +144,7 @@ abbrev pub blank : List ℕ
 blank = replicate 512 0
 
 unfoldable pub opens : Reply
-opens = openCall emptyGate emptyRows account12 1
+opens = openAccount emptyGate emptyRows account12 1
 
 -- ---- the runs
 -- a request at the start
@@ -160,7 +160,7 @@ paysAgain = deliver (pays .gate) (pays .rows) clock2 payment1 blank
 
 -- K1, draw 1
 unfoldable pub draws : Reply
-draws = drawCall (pays .gate) (pays .rows) account12 1 1
+draws = drawFunds (pays .gate) (pays .rows) account12 1 1
 
 -- K7: K1, draw 1, cancel
 unfoldable pub cancelsDrawn : Delivery

@@ -19,7 +19,6 @@ use Rattle.lists.specs.declared.Found.{Found}
 use Rattle.lists.specs.declared.Found.the-variants.{At, Nothing}
 use Rattle.lists.specs.Lists.{firstFrom}
 use Rattle.table.specs.Accounts.{isAccount, accountsOf, findAccount, noAccount, balanceAt, gateBalance, credited, debited}
-use Rattle.table.specs.Valid.{Sound}
 use Rattle.lists.proofs.ListLaws.{search-hit, search-miss, search-end, search-within, found-fits}
 use Rattle.table.proofs.SignedLaws.{back}
 
@@ -87,9 +86,3 @@ module _ (g : Gate) (n : Number) (k i : ℕ) (f : Found) (e : f ≡ findAccount 
   holder-fits =
       ap (isAccount n k) (sym (getD-take (g .count) (g .accounts) i noAccount holder-within))
       ∙ found-fits (isAccount n k) (accountsOf g) noAccount (sym e ∙ h)
-
-  pub holder-place : Sound g → i < 256
-  holder-place s = omega (arith, holder-within, s .count)
-
-  pub holder-near : Sound g → mag (balanceAt g i) ≤ 10000000000000000
-  holder-near s = omega (arith, s .balances i holder-within)

@@ -1,5 +1,3 @@
 pub mod TableLaws
 pub mod SignedLaws
 pub mod AccountLaws
-pub mod RangeLaws
-pub mod ValidLaws

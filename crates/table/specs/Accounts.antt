@@ -1,10 +1,12 @@
 -- Document 01, "Gate": the accounts, each with a signed balance.
-use mathlib.Core.Bool.{Bool, true, false, _&&_}
+use mathlib.Core.Path.{_≡_}
+use mathlib.Core.Bool.{Bool, _&&_}
 use mathlib.Core.List.{List, []}
-use Prim.Native.Nat.{ℕ, _+_}
-use lib.Dec.{eqb, leb, ltb}
-use lib.IntN.{ℤ, pos, negsuc, _+ℤ_, _-ℤ_}
-use lib.ListN.{getD, set, take}
+use Prim.Native.Nat.{ℕ, _+_, _<_, _≤_}
+use lib.Dec.{eqb}
+use lib.IntN.{ℤ, pos, _+ℤ_, _-ℤ_}
+use lib.Signed.{mag}
+use lib.ListN.{length, getD, set, take}
 use Rattle.dates.specs.declared.calendar.Day.{Day}
 use Rattle.fields.specs.declared.number.Number.{Number}
 use Rattle.fields.specs.Number.{sameNumber}
@@ -56,3 +58,9 @@ withClosed g d = record { accounts = g .accounts; count = g .count; closed = d; 
 unfoldable pub opened : Gate → Number → ℕ → Gate
 opened g n k =
     record { accounts = set (g .accounts) (g .count) (record { number = n; kind = k; balance = pos 0 }); count = g .count + 1; closed = g .closed; used = g .used }
+
+-- balances within a bound
+pub record Funds (g : Gate) (b : ℕ) : Type 0 where
+  pub places : length (g .accounts) ≡ 256
+  pub count : g .count ≤ 256
+  pub balances : (i : ℕ) → i < g .count → mag (balanceAt g i) ≤ b

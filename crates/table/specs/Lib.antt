@@ -1,4 +1,3 @@
 pub mod Table
 pub mod Lent
 pub mod Accounts
-pub mod Valid

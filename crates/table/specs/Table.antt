@@ -5,9 +5,33 @@ use mathlib.Core.List.{List, [], _∷_, _++_, map}
 use Prim.Native.Nat.{ℕ, _<_, _≤_}
 use lib.Dec.{eqb}
 use lib.ListN.{length, drop, getD, set}
+use Rattle.fields.specs.Number.{noNumber}
+use Rattle.dates.specs.Date.{emptyDate}
 use Rattle.table.specs.declared.Record.{Record}
 use Rattle.lists.specs.declared.Found.{Found}
 use Rattle.lists.specs.Lists.{tab, firstFrom}
+
+-- the states of a record
+abbrev pub done : ℕ
+done = 1
+
+abbrev pub cancelled : ℕ
+cancelled = 2
+
+-- what stands for a record where there is none
+abbrev pub noRecord : Record
+noRecord =
+    record {
+      receipt = 0;
+      number = noNumber .number;
+      kind = 0;
+      amount = 0;
+      date = emptyDate;
+      state = 0;
+      authcode = 0;
+      credit = emptyDate;
+      cancel = emptyDate;
+    }
 
 -- the lists that the three rows hold
 pub record Rows : Type 0 where

@@ -38,7 +38,7 @@ pub fn find_account(g: Gate, n: Number, kind: u64) -> Found
 }
 
 // One account more, with a balance of 0.
-pub fn open_account(g: Gate, n: Number, kind: u64) -> Gate
+pub fn add_account(g: Gate, n: Number, kind: u64) -> Gate
     requires { ⌜ g .count < 256 ⌝ }
     ensures { λ r. ⌜ r ≡ opened g n kind ⌝ }
 {

@@ -1,13 +1,15 @@
 // The gate's state: accounts, and the payment table in three lent rows.
 pub mod accounts;
-pub mod ranges;
 pub mod rows;
-pub mod valid;
 
 use dates::calendar::Day;
 use fields::number::Number;
 
-// A payment. State 1 is done, 2 is cancelled; while it is done, zeros stand for its cancel date.
+// The states of a record.
+pub const DONE: u64 = 1;
+pub const CANCELLED: u64 = 2;
+
+// A payment. While it is done, zeros stand for its cancel date.
 pub struct Record {
     pub receipt: u64,
     pub number: Number,

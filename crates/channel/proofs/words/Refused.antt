@@ -20,11 +20,11 @@ use Rattle.lists.specs.Lent.{lentWell}
 use Rattle.table.specs.declared.Gate.{Gate}
 use Rattle.table.specs.declared.Record.{Record}
 use Rattle.table.specs.Table.{Rows, recordsOf}
-use Rattle.table.specs.Valid.{lentGood, tableGood}
-use Rattle.gate.specs.declared.Reply.{Reply}
+use Rattle.validity.specs.Valid.{lentGood, tableGood}
+use Rattle.ledger.specs.declared.Reply.{Reply}
 use Rattle.gate.specs.Deliver.{Delivery}
-use Rattle.gate.specs.Opening.{replies, openCall, drawCall}
-use Rattle.gate.proofs.GoodLaws.{good-table}
+use Rattle.opening.specs.Opening.{replies, openAccount, drawFunds}
+use Rattle.validity.proofs.GoodLaws.{good-table}
 use Rattle.gate_theorems.proofs.KeepsLaws.{refused-table}
 use Rattle.settlement.specs.Settle.{Settlement, unsettled, settle}
 use Rattle.book.specs.declared.Book.{Book}
@@ -50,15 +50,15 @@ no-place i e l = absurd (omega (arith, e))
 -- the gate's: a table that is not good
 module _ (u : World) (bad : tableGood (u .gate) (u .table) ≡ false) where
   open-stays : (n : Number) (k : ℕ) → (opening u n k) .world ≡ u
-  unfolding opening openCall
+  unfolding opening openAccount
   open-stays n k =
-      let e : openCall (u .gate) (u .table) n k ≡ replies 68 (u .gate) = rw bad in
+      let e : openAccount (u .gate) (u .table) n k ≡ replies 68 (u .gate) = rw bad in
       ap (λ (d : Reply). atGate u (d .gate) (u .table) (u .sent)) e
 
   draw-stays : (n : Number) (k kopecks : ℕ) → (drawing u n k kopecks) .world ≡ u
-  unfolding drawing drawCall
+  unfolding drawing drawFunds
   draw-stays n k kopecks =
-      let e : drawCall (u .gate) (u .table) n k kopecks ≡ replies 68 (u .gate) = rw bad in
+      let e : drawFunds (u .gate) (u .table) n k kopecks ≡ replies 68 (u .gate) = rw bad in
       ap (λ (d : Reply). record { gate = d .gate; table = u .table; book = u .book; bookRows = u .bookRows; sent = u .sent; drawn = cond (eqb (d .code) 0) (record { number = n; kind = k; kopecks = kopecks } ∷ u .drawn) (u .drawn) }) e
 
   request-stays : (a : Action) (receipt : ℕ) (text clock out : List ℕ) → (requestArrives u a receipt text clock out) .world ≡ u

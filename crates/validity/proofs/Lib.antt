@@ -1,0 +1,3 @@
+pub mod RangeLaws
+pub mod ValidLaws
+pub mod GoodLaws
