@@ -28,6 +28,9 @@ instructionOf q =
       details = record { receipt = q .receipt; number = q .number; kind = q .kind; amount = q .amount; date = q .date };
     }
 
+abbrev pub instructionIn : List ℕ → Instruction
+instructionIn params = instructionOf ((requestRead params) .asked)
+
 -- what a call answers and leaves: its code, the gate, the rows and the answer's buffer, whose first `size` bytes are the answer (none where nothing is written)
 pub record Delivery : Type 0 where
   pub code : ℕ
@@ -66,6 +69,6 @@ unfoldable pub deliver : Gate → Rows → List ℕ → List ℕ → List ℕ �
 deliver g t clock params out =
     cond (tableGood g t)
     (cond (leb 512 (length out))
-    (cond (isWritten clock) (respond g t clock ((requestRead params) .fault) (instructionOf ((requestRead params) .asked)) out) (undelivered 51 g t out))
+    (cond (isWritten clock) (respond g t clock ((requestRead params) .fault) (instructionIn params) out) (undelivered 51 g t out))
     (undelivered 50 g t out))
     (undelivered 68 g t out)

@@ -14,7 +14,7 @@ use Rattle.fields.proofs.Tests.{cond-elim, no-claim}
 use Rattle.fields.proofs.OutLaws.{cursor-moves, text-back}
 use Rattle.payments.specs.declared.Action.{Action}
 use Rattle.payments.specs.declared.Action.the-variants.{Check, Payment, Status, Cancel}
-use Rattle.message.specs.declared.request.Asked.{Asked}
+use Rattle.payments.specs.declared.Instruction.{Instruction}
 use Rattle.message.specs.Request.{requestRead}
 use Rattle.payments.specs.declared.Answer.{Answer}
 use Rattle.answers.specs.Answer.{answerBytes}
@@ -35,7 +35,7 @@ use Rattle.table.specs.Table.{noRecord}
 use Rattle.ledger.specs.Plan.{recordFound, standingOf, accountOf, viewOf, planWith, planOf}
 use Rattle.ledger.specs.Change.{nextAuthcode, makeRecord, revoked, Changed, changed}
 use Rattle.rules.specs.Answering.{settles, answersAuthcode, answersDate, answerDate, answerOf}
-use Rattle.gate.specs.Deliver.{Delivery, undelivered, respond, deliver}
+use Rattle.gate.specs.Deliver.{instructionIn, Delivery, undelivered, respond, deliver}
 use Rattle.gate_theorems.proofs.AnswerGood.{gate-answers}
 use Rattle.validity.proofs.GoodLaws.{used-few}
 use Rattle.gate_theorems.proofs.CodeLaws.{oneOf, answerCodes, isSilent, not-in, decision-by, fault-by, Told, subject, decided-told, known-found, told-fits, again-same}
@@ -66,10 +66,10 @@ asks params = (requestRead params) .asked .action
 
 module _ (g : Gate) (t : Rows) (clock params : List ℕ) where
   abbrev plan : Plan
-  plan = planOf g (recordsOf t (g .used)) (length (t .nums)) ((requestRead params) .fault) ((requestRead params) .asked)
+  plan = planOf g (recordsOf t (g .used)) (length (t .nums)) ((requestRead params) .fault) (instructionIn params)
 
   abbrev after : Changed
-  after = changed (plan .decided .change) g (recordsOf t (g .used)) clock ((requestRead params) .asked) plan
+  after = changed (plan .decided .change) g (recordsOf t (g .used)) clock (instructionIn params) plan
 
   -- the answer to a request: of its own action, with what is decided and the record that this concerns
   abbrev pub answerTo : Answer
@@ -79,17 +79,17 @@ module _ (g : Gate) (t : Rows) (clock params : List ℕ) where
   unfolding planOf planWith
   plan-told good dated =
       go ((decision fault (asks params) s v) .change)
-      (decided-told clock dated r (makeRecord g clock q) (revoked clock r) (unfold makeRecord nextAuthcode in omega (arith, used-few g t good)) (unfold makeRecord in refl) (unfold revoked in refl) (unfold revoked in refl)
-      fault (asks params) s v (known-found g t good (q .receipt) f refl))
+      (decided-told clock dated r (makeRecord g clock (q .details)) (revoked clock r) (unfold makeRecord nextAuthcode in omega (arith, used-few g t good)) (unfold makeRecord in refl) (unfold revoked in refl) (unfold revoked in refl)
+      fault (asks params) s v (known-found g t good (q .details .receipt) f refl))
     where
       fault : ℕ
       fault = (requestRead params) .fault
 
-      q : Asked
-      q = (requestRead params) .asked
+      q : Instruction
+      q = instructionIn params
 
       f : Found
-      f = findRecord (q .receipt) (recordsOf t (g .used))
+      f = findRecord (q .details .receipt) (recordsOf t (g .used))
 
       r : Record
       r = recordFound (recordsOf t (g .used)) f
@@ -100,7 +100,7 @@ module _ (g : Gate) (t : Rows) (clock params : List ℕ) where
       v : View
       v = viewOf g (length (t .nums)) q r (accountOf g q r)
 
-      go : (c : Change) → Told clock (asks params) ((decision fault (asks params) s v) .code) (subject r (makeRecord g clock q) (revoked clock r) c)
+      go : (c : Change) → Told clock (asks params) ((decision fault (asks params) s v) .code) (subject r (makeRecord g clock (q .details)) (revoked clock r) c)
           → Told clock (asks params) ((decision fault (asks params) s v) .code) ((changed c g (recordsOf t (g .used)) clock q (planWith g (length (t .nums)) fault q f r)) .subject)
       go Keep k = unfold changed planWith in k
       go Append k = unfold changed in k
@@ -189,7 +189,7 @@ module _ (g : Gate) (t : Rows) (clock params out : List ℕ) where
   never-eight e = no-claim (ap (λ (c : ℕ). oneOf answerCodes c || isSilent c) (sym e) ∙ codes-of)
 
   -- ---- the call's own codes, each exactly where its test fails first
-  answered-code : (n : ℕ) → oneOf answerCodes n ≡ false → tableGood g t ≡ true → isWritten clock ≡ true → eqb ((respond g t clock ((requestRead params) .fault) ((requestRead params) .asked) out) .code) n ≡ false
+  answered-code : (n : ℕ) → oneOf answerCodes n ≡ false → tableGood g t ≡ true → isWritten clock ≡ true → eqb ((respond g t clock ((requestRead params) .fault) (instructionIn params) out) .code) n ≡ false
   unfolding respond
   answered-code n h good dated =
       not-in (plan g t clock params .decided .code) n (plan-told g t clock params good dated .listed) h
@@ -200,7 +200,7 @@ module _ (g : Gate) (t : Rows) (clock params out : List ℕ) where
   own-code n h = go (tableGood g t) (leb 512 (length out)) (isWritten clock) refl refl
     where
       go : (a b c : Bool) → tableGood g t ≡ a → isWritten clock ≡ c
-          → eqb ((cond a (cond b (cond c (respond g t clock ((requestRead params) .fault) ((requestRead params) .asked) out) (undelivered 51 g t out)) (undelivered 50 g t out)) (undelivered 68 g t out)) .code) n
+          → eqb ((cond a (cond b (cond c (respond g t clock ((requestRead params) .fault) (instructionIn params) out) (undelivered 51 g t out)) (undelivered 50 g t out)) (undelivered 68 g t out)) .code) n
           ≡ cond a (cond b (cond c false (eqb 51 n)) (eqb 50 n)) (eqb 68 n)
       go false b c ea ec = refl
       go true false c ea ec = refl

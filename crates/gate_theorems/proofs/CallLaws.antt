@@ -30,11 +30,11 @@ use Rattle.validity.specs.Valid.{near, rangesGood, accountKnown, authcodeGood, 
 use Rattle.table.proofs.AccountLaws.{holder-within}
 use Rattle.ledger.specs.declared.Reply.{Reply}
 use Rattle.payments.specs.declared.Action.the-variants.{Payment}
-use Rattle.message.specs.declared.request.Asked.{Asked}
+use Rattle.payments.specs.declared.Instruction.{Instruction}
 use Rattle.message.specs.Request.{requestRead}
 use Rattle.ledger.specs.Plan.{isShort}
 use Rattle.ledger.specs.Change.{debitedAt}
-use Rattle.gate.specs.Deliver.{respond, deliver, Delivery}
+use Rattle.gate.specs.Deliver.{instructionIn, respond, deliver, Delivery}
 use Rattle.opening.specs.Opening.{replies, openTo, openAccount, drawOn, drawFrom, drawFunds}
 use Rattle.gate_theorems.proofs.OutcomeLaws.{Outcome, stays, appends, revokes, outcome}
 use Rattle.gate_theorems.proofs.KeepsLaws.{delivered-by}
@@ -78,10 +78,10 @@ near-used : (g : Gate) (n : ℕ) → Near g → Near (withUsed g n)
 near-used g n bound = record { balances = bound .balances }
 
 -- a payment that is not recorded leaves its account within the balance bound
-abbrev pub Roomy : Gate → Rows → Asked → Type 0
+abbrev pub Roomy : Gate → Rows → Instruction → Type 0
 Roomy g t q =
-    (a : ℕ) → q .action ≡ Payment → findRecord (q .receipt) (recordsOf t (g .used)) ≡ Nothing → findAccount (q .number) (q .kind) (accountsOf g) ≡ At a
-    → near (balanceAt g a +ℤ pos (q .amount)) ≡ true
+    (a : ℕ) → q .action ≡ Payment → findRecord (q .details .receipt) (recordsOf t (g .used)) ≡ Nothing → findAccount (q .details .number) (q .details .kind) (accountsOf g) ≡ At a
+    → near (balanceAt g a +ℤ pos (q .details .amount)) ≡ true
 
 -- ---- a gate with the same names keeps the clauses
 good-names : (g g′ : Gate) (t : Rows) → SameNames g g′ → g′ .used ≡ g .used → Good g t → Good g′ t
@@ -248,16 +248,16 @@ module _ (g : Gate) (t : Rows) (ready : Ready g t) (good : tableGood g t ≡ tru
   short-near Nothing n k m is funds = bound
   short-near (At a) n k m is funds = near-debited g a m bound (holder-within g n k a (At a) is refl) funds
 
-  outcome-near : (clock : List ℕ) (q : Asked) (d : Delivery) → Outcome g t clock q d → Roomy g t q → Near (d .gate)
+  outcome-near : (clock : List ℕ) (q : Instruction) (d : Delivery) → Outcome g t clock q d → Roomy g t q → Near (d .gate)
   outcome-near clock q d (stays eg er) room = rw eg bound
-  outcome-near clock q d (appends a ea en ef _ day ec eg er) room = rw eg (near-used (credited g a (q .amount)) (g .used + 1) (near-credited g a (q .amount) bound (room a ea en ef)))
+  outcome-near clock q d (appends a ea en ef _ day ec eg er) room = rw eg (near-used (credited g a (q .details .amount)) (g .used + 1) (near-credited g a (q .details .amount) bound (room a ea en ef)))
   outcome-near clock q d (revokes i r f ea ei er ef es day fu ec eg el) room = rw eg (short-near f (r .number) (r .kind) (r .amount) ef fu)
 
-  module _ (clock params out : List ℕ) (room : Roomy g t ((requestRead params) .asked)) where
+  module _ (clock params out : List ℕ) (room : Roomy g t (instructionIn params)) where
     delivered-near : Near ((deliver g t clock params out) .gate)
     delivered-near =
         delivered-by g t clock params out (λ (d : Delivery). Near (d .gate)) (λ code left size. bound)
-        (λ _ _. outcome-near clock ((requestRead params) .asked) (respond g t clock ((requestRead params) .fault) ((requestRead params) .asked) out) (outcome g t clock ((requestRead params) .fault) ((requestRead params) .asked) out) room)
+        (λ _ _. outcome-near clock (instructionIn params) (respond g t clock ((requestRead params) .fault) (instructionIn params) out) (outcome g t clock ((requestRead params) .fault) (instructionIn params) out) room)
 
     -- 5: a delivery keeps row 68 where its account has room for a payment
     pub call-good : tableGood ((deliver g t clock params out) .gate) ((deliver g t clock params out) .rows) ≡ true

@@ -3,14 +3,13 @@ use Prim.Native.Nat.{ℕ, _≤_, _<_}
 use native.Mathlib.Omega.{arith}
 use native.Mathlib.Decide.{ℕ-discrete}
 use mathlib.Core.Path.{_≡_, refl, sym, ap, subst, _∙_}
-use mathlib.Core.Bool.{Bool, true, false, cond, not, _||_}
+use mathlib.Core.Bool.{Bool, true, false, cond, _||_}
 use mathlib.Core.List.{List, [], _∷_}
 use lib.Dec.{eqb, leb}
 use lib.ListN.{length, getD}
 use borrow.Author.Tests.{eqb-true}
 use Rattle.fields.specs.declared.digits.Digits.{Digits}
 use Rattle.fields.specs.declared.digits.Digits.the-variants.{Value, Malformed}
-use Rattle.fields.specs.Lists.{written}
 use Rattle.fields.specs.Digits.{within, faultOf}
 use Rattle.fields.proofs.DigitLaws.{within-low, within-high}
 use Rattle.dates.specs.Date.{isWritten, emptyDate}
@@ -45,7 +44,6 @@ use Rattle.rules.specs.Decision.{checkCode, paymentNew, cancelDone, decisionOn,
 use Rattle.table.specs.Table.{noRecord}
 use Rattle.ledger.specs.Plan.{recordFound, standingOf}
 use Rattle.rules.specs.Answering.{isCancel, answersAuthcode, answersDate, answerDate, answerOf}
-use Rattle.ledger.specs.Change.{revoked}
 use Rattle.rules.proofs.DecisionLaws.{decision-cases}
 use Rattle.validity.proofs.GoodLaws.{record-good, used-few}
 use Rattle.gate_theorems.proofs.KeptLaws.{RecordParts, parts-of}

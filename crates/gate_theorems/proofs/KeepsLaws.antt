@@ -3,19 +3,18 @@ use Prim.Native.Nat.{ℕ, _≤_, _<_}
 use mathlib.Core.Path.{_≡_, refl, sym, _∙_}
 use mathlib.Core.Bool.{Bool, true, false, cond, not, _&&_}
 use mathlib.Core.List.{List}
-use lib.Dec.{eqb, leb}
+use lib.Dec.{leb}
 use lib.IntN.{pos}
 use lib.Signed.{ltZ}
 use lib.ListN.{length}
-use borrow.Author.Tests.{lt-leb, le-leb, eqb-true}
+use borrow.Author.Tests.{lt-leb, le-leb}
 use Rattle.fields.specs.declared.number.Number.{Number}
 use Rattle.fields.specs.Amount.{isAmount}
 use Rattle.fields.specs.Codes.{isKind}
 use Rattle.fields.specs.Number.{isNumber}
 use Rattle.dates.specs.Date.{isWritten}
 use Rattle.fields.proofs.Tests.{cond-elim, no-claim}
-use Rattle.message.specs.declared.request.Asked.{Asked}
-use Rattle.message.specs.declared.request.RequestRead.{RequestRead}
+use Rattle.payments.specs.declared.Instruction.{Instruction}
 use Rattle.message.specs.Request.{requestRead}
 use Rattle.table.specs.declared.Gate.{Gate}
 use Rattle.lists.specs.declared.Found.{Found}
@@ -26,7 +25,7 @@ use Rattle.table.specs.Accounts.{accountsOf, findAccount, balanceAt, debited, o
 use Rattle.validity.specs.Valid.{tableGood, Ready}
 use Rattle.table.proofs.TableLaws.{rows-kept}
 use Rattle.ledger.specs.declared.Reply.{Reply}
-use Rattle.gate.specs.Deliver.{Delivery, undelivered, respond, deliver}
+use Rattle.gate.specs.Deliver.{instructionIn, Delivery, undelivered, respond, deliver}
 use Rattle.opening.specs.Opening.{replies, openTo, openAccount, drawOn, drawFrom, drawFunds}
 use Rattle.gate_theorems.proofs.OutcomeLaws.{Outcome, stays, appends, revokes, outcome}
 
@@ -51,7 +50,7 @@ module _ (g : Gate) (t : Rows) (clock params out : List ℕ) where
   pub refused-keeps : tableGood g t && (leb 512 (length out) && isWritten clock) ≡ false
       → ((deliver g t clock params out) .gate ≡ g) × ((deliver g t clock params out) .rows ≡ t) × ((deliver g t clock params out) .out ≡ out)
   unfolding deliver
-  refused-keeps = go (tableGood g t) (leb 512 (length out)) (isWritten clock) (respond g t clock ((requestRead params) .fault) ((requestRead params) .asked) out)
+  refused-keeps = go (tableGood g t) (leb 512 (length out)) (isWritten clock) (respond g t clock ((requestRead params) .fault) (instructionIn params) out)
     where
       go : (a b c : Bool) (x : Delivery) → a && (b && c) ≡ false
           → ((cond a (cond b (cond c x (undelivered 51 g t out)) (undelivered 50 g t out)) (undelivered 68 g t out)) .gate ≡ g)
@@ -64,7 +63,7 @@ module _ (g : Gate) (t : Rows) (clock params out : List ℕ) where
 
   -- what holds of every refusal and of every answer holds of a delivery
   pub delivered-by : (P : Delivery → Type 0) → ((code : ℕ) (left : List ℕ) (size : ℕ) → P (record { code = code; gate = g; rows = t; out = left; size = size }))
-      → (tableGood g t ≡ true → isWritten clock ≡ true → P (respond g t clock ((requestRead params) .fault) ((requestRead params) .asked) out))
+      → (tableGood g t ≡ true → isWritten clock ≡ true → P (respond g t clock ((requestRead params) .fault) (instructionIn params) out))
       → P (deliver g t clock params out)
   unfolding deliver
   delivered-by P keep answer =
@@ -84,7 +83,7 @@ pub record Kept (g : Gate) (t : Rows) (d : Delivery) : Type 0 where
 
 module _ (g : Gate) (t : Rows) (ready : Ready g t) (clock : List ℕ) where
   -- a decision with a code other than 0 keeps the gate and the rows
-  pub respond-keeps : (fault : ℕ) (q : Asked) (out : List ℕ) → ((respond g t clock fault q out) .code ≡ 0 → ⊥) → Kept g t (respond g t clock fault q out)
+  pub respond-keeps : (fault : ℕ) (q : Instruction) (out : List ℕ) → ((respond g t clock fault q out) .code ≡ 0 → ⊥) → Kept g t (respond g t clock fault q out)
   respond-keeps fault q out = go (respond g t clock fault q out) (outcome g t clock fault q out)
     where
       go : (d : Delivery) → Outcome g t clock q d → (d .code ≡ 0 → ⊥) → Kept g t d
@@ -97,7 +96,7 @@ module _ (g : Gate) (t : Rows) (ready : Ready g t) (clock : List ℕ) where
   fault-keeps params out =
       delivered-by g t clock params out (λ (d : Delivery). (d .code ≡ 0 → ⊥) → Kept g t d)
       (λ code left size n. record { gate = refl; rows = refl })
-      (λ _ _. respond-keeps ((requestRead params) .fault) ((requestRead params) .asked) out)
+      (λ _ _. respond-keeps ((requestRead params) .fault) (instructionIn params) out)
 
 -- ---- the same for opening an account and drawing from one
 -- a code other than 0 keeps the gate

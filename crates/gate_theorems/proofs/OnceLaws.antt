@@ -10,7 +10,7 @@ use lib.Signed.{_≤ℤ_, ≤ℤ-refl, leZ-yes}
 use lib.ListN.{getD, set}
 use borrow.Author.Tests.{lt-ltb}
 use Rattle.payments.specs.declared.Action.the-variants.{Payment, Cancel}
-use Rattle.message.specs.declared.request.Asked.{Asked}
+use Rattle.payments.specs.declared.Instruction.{Instruction}
 use Rattle.message.specs.Request.{requestRead}
 use Rattle.table.specs.declared.Account.{Account}
 use Rattle.table.specs.declared.Gate.{Gate}
@@ -24,7 +24,7 @@ use Rattle.rules.specs.declared.decision.Change.the-variants.{Append}
 use Rattle.table.specs.Table.{noRecord}
 use Rattle.ledger.specs.Plan.{recordFound, standingOf, accountOf, viewOf, planWith, planOf}
 use Rattle.ledger.specs.Change.{debitedAt}
-use Rattle.gate.specs.Deliver.{respond, deliver, Delivery}
+use Rattle.gate.specs.Deliver.{instructionIn, respond, deliver, Delivery}
 use Rattle.rules.proofs.DecisionLaws.{Appends, append-of}
 use Rattle.gate_theorems.proofs.OutcomeLaws.{missing-of, Outcome, stays, appends, revokes, outcome}
 use Rattle.gate_theorems.proofs.KeepsLaws.{delivered-by}
@@ -67,18 +67,18 @@ same-records t n = rw (length-records t n) at (records-from t (recordsOf t n) no
 
 -- ---- a request whose receipt is recorded
 -- its decision never appends: it keeps or revokes
-pub once-decided : (g : Gate) (rs : List Record) (lent fault : ℕ) (q : Asked) (i : ℕ) → findRecord (q .receipt) rs ≡ At i → (planOf g rs lent fault q) .decided .change ≡ Append → ⊥
+pub once-decided : (g : Gate) (rs : List Record) (lent fault : ℕ) (q : Instruction) (i : ℕ) → findRecord (q .details .receipt) rs ≡ At i → (planOf g rs lent fault q) .decided .change ≡ Append → ⊥
 unfolding planOf planWith
 once-decided g rs lent fault q i known h =
-    let f : Found = findRecord (q .receipt) rs in
+    let f : Found = findRecord (q .details .receipt) rs in
     let r : Record = recordFound rs f in
     let b : Appends fault (q .action) (standingOf f r) (viewOf g lent q r (accountOf g q r)) = append-of fault (q .action) (standingOf f r) (viewOf g lent q r (accountOf g q r)) h in
     let y : At i ≡ Nothing = sym known ∙ missing-of f r (b .standing) in
     let z : _≡_ {A = ℕ} 0 1 = cc in
     omega arith
 
-module _ (g : Gate) (t : Rows) (clock : List ℕ) (fault : ℕ) (q : Asked) (out : List ℕ) (i : ℕ) (known : findRecord (q .receipt) (recordsOf t (g .used)) ≡ At i) where
-  absent : {A : Type 0} → findRecord (q .receipt) (recordsOf t (g .used)) ≡ Nothing → A
+module _ (g : Gate) (t : Rows) (clock : List ℕ) (fault : ℕ) (q : Instruction) (out : List ℕ) (i : ℕ) (known : findRecord (q .details .receipt) (recordsOf t (g .used)) ≡ At i) where
+  absent : {A : Type 0} → findRecord (q .details .receipt) (recordsOf t (g .used)) ≡ Nothing → A
   absent e = let y : At i ≡ Nothing = sym known ∙ e in let z : _≡_ {A = ℕ} 0 1 = cc in absurd (omega arith)
 
   -- the number of records stays
@@ -115,10 +115,10 @@ module _ (g : Gate) (t : Rows) (clock params out : List ℕ) (i : ℕ) (known : 
   pub delivered-once : (deliver g t clock params out) .gate .used ≡ g .used
   delivered-once =
       delivered-by g t clock params out (λ (d : Delivery). d .gate .used ≡ g .used) (λ code left size. refl)
-      (λ _ _. once-used g t clock ((requestRead params) .fault) ((requestRead params) .asked) out i known)
+      (λ _ _. once-used g t clock ((requestRead params) .fault) (instructionIn params) out i known)
 
   -- and raises no balance
   pub delivered-balance : (j : ℕ) → balanceAt ((deliver g t clock params out) .gate) j ≤ℤ balanceAt g j
   delivered-balance j =
       delivered-by g t clock params out (λ (d : Delivery). balanceAt (d .gate) j ≤ℤ balanceAt g j) (λ code left size. ≤ℤ-refl (balanceAt g j))
-      (λ _ _. once-balance g t clock ((requestRead params) .fault) ((requestRead params) .asked) out i known j)
+      (λ _ _. once-balance g t clock ((requestRead params) .fault) (instructionIn params) out i known j)

@@ -9,7 +9,7 @@ use lib.ListN.{length, set}
 use borrow.Author.Tests.{leb-false, eqb-true}
 use Rattle.fields.proofs.Tests.{cond-elim}
 use Rattle.payments.specs.declared.Action.the-variants.{Payment, Cancel}
-use Rattle.message.specs.declared.request.Asked.{Asked}
+use Rattle.payments.specs.declared.Instruction.{Instruction}
 use Rattle.table.specs.declared.Record.{Record}
 use Rattle.table.specs.declared.Gate.{Gate}
 use Rattle.lists.specs.declared.Found.{Found}
@@ -31,13 +31,13 @@ use Rattle.gate.specs.Deliver.{answered, respond, Delivery}
 use Rattle.rules.proofs.DecisionLaws.{Appends, Revokes, decision-cases, append-of, revoke-of}
 
 -- ---- the outcomes of a request: all stays, a payment is recorded, or a payment is revoked
-pub data Outcome (g : Gate) (t : Rows) (clock : List ℕ) (q : Asked) (d : Delivery) : Type 0 where
+pub data Outcome (g : Gate) (t : Rows) (clock : List ℕ) (q : Instruction) (d : Delivery) : Type 0 where
   stays : d .gate ≡ g → d .rows ≡ rowsFrom t (recordsOf t (g .used)) → Outcome g t clock q d
-  appends : (a : ℕ) → q .action ≡ Payment → findRecord (q .receipt) (recordsOf t (g .used)) ≡ Nothing
-      → findAccount (q .number) (q .kind) (accountsOf g) ≡ At a → g .used < length (t .nums) → dateClosed g (q .date) ≡ false → d .code ≡ 0
-      → d .gate ≡ withUsed (credited g a (q .amount)) (g .used + 1) → d .rows ≡ rowsFrom t (recordsOf t (g .used) ++ (makeRecord g clock q ∷ []))
+  appends : (a : ℕ) → q .action ≡ Payment → findRecord (q .details .receipt) (recordsOf t (g .used)) ≡ Nothing
+      → findAccount (q .details .number) (q .details .kind) (accountsOf g) ≡ At a → g .used < length (t .nums) → dateClosed g (q .details .date) ≡ false → d .code ≡ 0
+      → d .gate ≡ withUsed (credited g a (q .details .amount)) (g .used + 1) → d .rows ≡ rowsFrom t (recordsOf t (g .used) ++ (makeRecord g clock (q .details) ∷ []))
       → Outcome g t clock q d
-  revokes : (i : ℕ) (r : Record) (f : Found) → q .action ≡ Cancel → findRecord (q .receipt) (recordsOf t (g .used)) ≡ At i
+  revokes : (i : ℕ) (r : Record) (f : Found) → q .action ≡ Cancel → findRecord (q .details .receipt) (recordsOf t (g .used)) ≡ At i
       → r ≡ recordFound (recordsOf t (g .used)) (At i) → f ≡ findAccount (r .number) (r .kind) (accountsOf g) → r .state ≡ 1
       → dateClosed g (r .date) ≡ false → isShort g f (r .amount) ≡ false → d .code ≡ 0
       → d .gate ≡ debitedAt g f (r .amount) → d .rows ≡ rowsFrom t (set (recordsOf t (g .used)) i (revoked clock r))
@@ -64,12 +64,12 @@ place-of : {A : Type 0} (f : Found) → ((i : ℕ) → f ≡ At i → A) → isF
 place-of (At i) k h = k i refl
 place-of Nothing k h = let z : _≡_ {A = ℕ} 0 1 = cc in absurd (omega arith)
 
-module _ (g : Gate) (q : Asked) (r : Record) where
-  own-account : q .action ≡ Payment → accountOf g q r ≡ findAccount (q .number) (q .kind) (accountsOf g)
+module _ (g : Gate) (q : Instruction) (r : Record) where
+  own-account : q .action ≡ Payment → accountOf g q r ≡ findAccount (q .details .number) (q .details .kind) (accountsOf g)
   unfolding accountOf isCancel
   own-account e = rw e
 
-  own-date : q .action ≡ Payment → dateOf q r ≡ q .date
+  own-date : q .action ≡ Payment → dateOf q r ≡ q .details .date
   unfolding dateOf isCancel
   own-date e = rw e
 
@@ -81,8 +81,8 @@ module _ (g : Gate) (q : Asked) (r : Record) where
   unfolding dateOf isCancel
   its-date e = rw e
 
-module _ (g : Gate) (t : Rows) (clock : List ℕ) (fault : ℕ) (q : Asked) (out : List ℕ) (f : Found) (r : Record) where
-  outcome-at : (rs : List Record) → rs ≡ recordsOf t (g .used) → f ≡ findRecord (q .receipt) rs → r ≡ recordFound rs f → (c : Change) (p : Plan)
+module _ (g : Gate) (t : Rows) (clock : List ℕ) (fault : ℕ) (q : Instruction) (out : List ℕ) (f : Found) (r : Record) where
+  outcome-at : (rs : List Record) → rs ≡ recordsOf t (g .used) → f ≡ findRecord (q .details .receipt) rs → r ≡ recordFound rs f → (c : Change) (p : Plan)
       → p ≡ planWith g (length (t .nums)) fault q f r → p .decided .change ≡ c
       → Outcome g t clock q (answered t out (q .action) (p .decided .code) clock (changed c g rs clock q p))
   unfolding changed planWith viewOf isFull
@@ -91,19 +91,19 @@ module _ (g : Gate) (t : Rows) (clock : List ℕ) (fault : ℕ) (q : Asked) (out
       let v : View = viewOf g (length (t .nums)) q r (accountOf g q r) in
       let b : Appends fault (q .action) (standingOf f r) v = append-of fault (q .action) (standingOf f r) v (sym (ap (λ (x : Plan). x .decided .change) ep) ∙ ec) in
       place-of (accountOf g q r)
-      (λ a ea. appends a (b .action) (ap (findRecord (q .receipt)) (sym ers) ∙ sym ef ∙ missing-of f r (b .standing))
+      (λ a ea. appends a (b .action) (ap (findRecord (q .details .receipt)) (sym ers) ∙ sym ef ∙ missing-of f r (b .standing))
       (sym (own-account g q r (b .action)) ∙ ea)
       (leb-false (length (t .nums)) (g .used) (b .room))
       (ap (dateClosed g) (sym (own-date g q r (b .action))) ∙ b .unclosed)
       (ap (λ (x : Plan). x .decided .code) ep ∙ b .code)
-      (ap (λ (x : Found). withUsed (creditedAt g x (q .amount)) (g .used + 1)) (ap (λ (x : Plan). x .account) ep ∙ ea))
+      (ap (λ (x : Found). withUsed (creditedAt g x (q .details .amount)) (g .used + 1)) (ap (λ (x : Plan). x .account) ep ∙ ea))
       (rw ers))
       (b .known)
   outcome-at rs ers ef er Revoke p ep ec =
       let v : View = viewOf g (length (t .nums)) q r (accountOf g q r) in
       let b : Revokes fault (q .action) (standingOf f r) v = revoke-of fault (q .action) (standingOf f r) v (sym (ap (λ (x : Plan). x .decided .change) ep) ∙ ec) in
       found-of f r
-      (λ i ei done. revokes i r (accountOf g q r) (b .action) (ap (findRecord (q .receipt)) (sym ers) ∙ sym ef ∙ ei)
+      (λ i ei done. revokes i r (accountOf g q r) (b .action) (ap (findRecord (q .details .receipt)) (sym ers) ∙ sym ef ∙ ei)
       (er ∙ rw (ei, ers))
       (its-account g q r (b .action))
       done
@@ -115,11 +115,11 @@ module _ (g : Gate) (t : Rows) (clock : List ℕ) (fault : ℕ) (q : Asked) (out
       (b .standing)
 
 -- a request keeps all, credits and adds a record, or debits and cancels one
-pub outcome : (g : Gate) (t : Rows) (clock : List ℕ) (fault : ℕ) (q : Asked) (out : List ℕ) → Outcome g t clock q (respond g t clock fault q out)
+pub outcome : (g : Gate) (t : Rows) (clock : List ℕ) (fault : ℕ) (q : Instruction) (out : List ℕ) → Outcome g t clock q (respond g t clock fault q out)
 unfolding respond planOf
 outcome g t clock fault q out =
     let rs : List Record = recordsOf t (g .used) in
-    let f : Found = findRecord (q .receipt) rs in
+    let f : Found = findRecord (q .details .receipt) rs in
     let r : Record = recordFound rs f in
     let p : Plan = planWith g (length (t .nums)) fault q f r in
     outcome-at g t clock fault q out f r rs refl refl refl (p .decided .change) p refl refl
@@ -129,6 +129,6 @@ fault-code : (f : ℕ) → (f ≡ 0 → ⊥) → faultCode f ≡ 0 → ⊥
 unfolding faultCode
 fault-code f n = cond-elim (λ (c : ℕ). c ≡ 0 → ⊥) (isFault f) f 31 (λ _. n) (λ _ h. omega arith)
 
-pub respond-zero : (g : Gate) (t : Rows) (clock : List ℕ) (fault : ℕ) (q : Asked) (out : List ℕ) → (respond g t clock fault q out) .code ≡ 0 → fault ≡ 0
+pub respond-zero : (g : Gate) (t : Rows) (clock : List ℕ) (fault : ℕ) (q : Instruction) (out : List ℕ) → (respond g t clock fault q out) .code ≡ 0 → fault ≡ 0
 unfolding respond planOf planWith
 respond-zero g t clock fault q out = decision-cases (λ (d : Decided). d .code ≡ 0 → fault ≡ 0) fault (q .action) _ _ (λ e _. e) (λ n h. absurd (fault-code fault n h))

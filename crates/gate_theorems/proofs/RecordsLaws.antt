@@ -8,22 +8,19 @@ use mathlib.Core.List.{List, [], _∷_, _++_}
 use lib.ListN.{length, getD, set, length-append, length-set, List·getD-append}
 use lib.Seq.{getD-at, getD-set-same, getD-set-other}
 use Rattle.fields.proofs.Tests.{no-claim}
-use Rattle.message.specs.declared.request.Asked.{Asked}
+use Rattle.payments.specs.declared.Instruction.{Instruction}
 use Rattle.message.specs.Request.{requestRead}
 use Rattle.table.specs.declared.Record.{Record}
 use Rattle.table.specs.declared.Gate.{Gate}
-use Rattle.lists.specs.declared.Found.{Found}
-use Rattle.lists.specs.declared.Found.the-variants.{At, Nothing}
 use Rattle.table.specs.Table.{Rows, recordAt, recordsOf, rowsFrom}
-use Rattle.table.specs.Accounts.{debited}
 use borrow.Author.Tests.{eqb-false}
 use Rattle.table.specs.Table.{findRecord, hasReceipt}
 use Rattle.lists.proofs.ListLaws.{found-none}
 use Rattle.table.proofs.TableLaws.{length-records, getD-records, from-at}
 use Rattle.table.specs.Table.{noRecord}
 use Rattle.ledger.specs.Plan.{dateClosed}
-use Rattle.ledger.specs.Change.{makeRecord, revoked, debitedAt}
-use Rattle.gate.specs.Deliver.{respond, deliver, Delivery}
+use Rattle.ledger.specs.Change.{makeRecord, revoked}
+use Rattle.gate.specs.Deliver.{instructionIn, respond, deliver, Delivery}
 use Rattle.ledger.proofs.ChangeLaws.{debit-used}
 use Rattle.gate_theorems.proofs.OutcomeLaws.{Outcome, stays, appends, revokes, outcome}
 use Rattle.gate_theorems.proofs.KeepsLaws.{delivered-by}
@@ -75,7 +72,7 @@ module _ (g : Gate) (t : Rows) (d : Delivery) where
           rw (getD-records t (g .used) i z h, getD-records (d .rows) (d .gate .used) i z (omega arith), er, from-at t rs i noRecord (omega arith))
           (same i h)
 
-  lasting-outcome : (clock : List ℕ) (q : Asked) → Outcome g t clock q d → Lasting g t d
+  lasting-outcome : (clock : List ℕ) (q : Instruction) → Outcome g t clock q d → Lasting g t d
   lasting-outcome clock q (stays eg er) =
       let size = length-records t (g .used) in
       let used : d .gate .used ≡ g .used = ap (λ (x : Gate). x .used) eg in
@@ -85,15 +82,15 @@ module _ (g : Gate) (t : Rows) (d : Delivery) where
   lasting-outcome clock q (appends a ea en ef room day ec eg er) =
       let size = length-records t (g .used) in
       let used : d .gate .used ≡ g .used + 1 = ap (λ (x : Gate). x .used) eg in
-      let longer : length (recordsOf t (g .used) ++ (makeRecord g clock q ∷ [])) ≡ length (recordsOf t (g .used)) + 1 = length-append (recordsOf t (g .used)) (makeRecord g clock q ∷ []) in
-      lasting-from (recordsOf t (g .used) ++ (makeRecord g clock q ∷ [])) er (omega arith) (omega arith)
+      let longer : length (recordsOf t (g .used) ++ (makeRecord g clock (q .details) ∷ [])) ≡ length (recordsOf t (g .used)) + 1 = length-append (recordsOf t (g .used)) (makeRecord g clock (q .details) ∷ []) in
+      lasting-from (recordsOf t (g .used) ++ (makeRecord g clock (q .details) ∷ [])) er (omega arith) (omega arith)
       (λ i h. same-identity _ _ (kept i h))
       (λ i h e. kept i h)
     where
-      kept : (i : ℕ) → i < g .used → getD (recordsOf t (g .used) ++ (makeRecord g clock q ∷ [])) i noRecord ≡ recordAt t i
+      kept : (i : ℕ) → i < g .used → getD (recordsOf t (g .used) ++ (makeRecord g clock (q .details) ∷ [])) i noRecord ≡ recordAt t i
       kept i h =
           let l : i < length (recordsOf t (g .used)) = omega (arith, length-records t (g .used)) in
-          List·getD-append (recordsOf t (g .used)) (makeRecord g clock q ∷ []) noRecord i l ∙ getD-records t (g .used) i noRecord h
+          List·getD-append (recordsOf t (g .used)) (makeRecord g clock (q .details) ∷ []) noRecord i l ∙ getD-records t (g .used) i noRecord h
   lasting-outcome clock q (revokes k r f ea ek ir ef es day fu ec eg er) =
       let size = length-records t (g .used) in
       let used : d .gate .used ≡ g .used = ap (λ (x : Gate). x .used) eg ∙ debit-used g f (r .amount) in
@@ -123,7 +120,7 @@ module _ (g : Gate) (t : Rows) (d : Delivery) where
 
 -- ---- used records keep what they are known by
 -- through the answer to a request read without fault
-pub respond-lasts : (g : Gate) (t : Rows) (clock : List ℕ) (fault : ℕ) (q : Asked) (out : List ℕ) → Lasting g t (respond g t clock fault q out)
+pub respond-lasts : (g : Gate) (t : Rows) (clock : List ℕ) (fault : ℕ) (q : Instruction) (out : List ℕ) → Lasting g t (respond g t clock fault q out)
 respond-lasts g t clock fault q out = lasting-outcome g t (respond g t clock fault q out) clock q (outcome g t clock fault q out)
 
 -- and through any delivery
@@ -131,7 +128,7 @@ pub records-last : (g : Gate) (t : Rows) (clock params out : List ℕ) → Lasti
 records-last g t clock params out =
     delivered-by g t clock params out (Lasting g t)
     (λ code left size. record { used = omega arith; identity = λ i z h. same-identity _ _ refl; settled = λ i h e. refl })
-    (λ _ _. respond-lasts g t clock ((requestRead params) .fault) ((requestRead params) .asked) out)
+    (λ _ _. respond-lasts g t clock ((requestRead params) .fault) (instructionIn params) out)
 
 -- ---- no receipt twice
 -- no two records in use have one receipt
@@ -150,7 +147,7 @@ module _ (g : Gate) (t : Rows) (once : Distinct g t) (d : Delivery) (last : Last
   distinct-same used =
       record { apart = λ i j l h e. once .apart i j l (omega arith) (sym (receipt-kept i (omega arith)) ∙ e ∙ receipt-kept j (omega arith)) }
 
-  distinct-outcome : (clock : List ℕ) (q : Asked) → Outcome g t clock q d → Distinct (d .gate) (d .rows)
+  distinct-outcome : (clock : List ℕ) (q : Instruction) → Outcome g t clock q d → Distinct (d .gate) (d .rows)
   unfolding findRecord makeRecord
   distinct-outcome clock q (stays eg er) = distinct-same (ap (λ (x : Gate). x .used) eg)
   distinct-outcome clock q (appends a ea en ef room day ec eg er) = record { apart = λ i j l h e. pick i j l (rw eg at h) e (ℕ-discrete j (g .used)) }
@@ -158,16 +155,16 @@ module _ (g : Gate) (t : Rows) (once : Distinct g t) (d : Delivery) (last : Last
       rs : List Record
       rs = recordsOf t (g .used)
 
-      new : (recordAt (d .rows) (g .used)) .receipt ≡ q .receipt
+      new : (recordAt (d .rows) (g .used)) .receipt ≡ q .details .receipt
       new =
-          let l : g .used < length (rs ++ (makeRecord g clock q ∷ [])) = omega (arith, length-append rs (makeRecord g clock q ∷ []), length-records t (g .used)) in
-          let it : recordAt (d .rows) (g .used) ≡ getD (rs ++ (makeRecord g clock q ∷ [])) (g .used) noRecord = rw er (from-at t (rs ++ (makeRecord g clock q ∷ [])) (g .used) noRecord l) in
-          ap (λ (x : Record). x .receipt) (it ∙ getD-at rs (makeRecord g clock q) [] noRecord (g .used) (length-records t (g .used)))
+          let l : g .used < length (rs ++ (makeRecord g clock (q .details) ∷ [])) = omega (arith, length-append rs (makeRecord g clock (q .details) ∷ []), length-records t (g .used)) in
+          let it : recordAt (d .rows) (g .used) ≡ getD (rs ++ (makeRecord g clock (q .details) ∷ [])) (g .used) noRecord = rw er (from-at t (rs ++ (makeRecord g clock (q .details) ∷ [])) (g .used) noRecord l) in
+          ap (λ (x : Record). x .receipt) (it ∙ getD-at rs (makeRecord g clock (q .details)) [] noRecord (g .used) (length-records t (g .used)))
 
-      fresh : (i : ℕ) → i < g .used → (recordAt t i) .receipt ≡ q .receipt → ⊥
+      fresh : (i : ℕ) → i < g .used → (recordAt t i) .receipt ≡ q .details .receipt → ⊥
       fresh i h =
           let l : i < length rs = omega (arith, length-records t (g .used)) in
-          eqb-false _ _ (ap (hasReceipt (q .receipt)) (sym (getD-records t (g .used) i noRecord h)) ∙ found-none (hasReceipt (q .receipt)) rs noRecord en i l)
+          eqb-false _ _ (ap (hasReceipt (q .details .receipt)) (sym (getD-records t (g .used) i noRecord h)) ∙ found-none (hasReceipt (q .details .receipt)) rs noRecord en i l)
 
       pick : (i j : ℕ) → i < j → j < g .used + 1 → (recordAt (d .rows) i) .receipt ≡ (recordAt (d .rows) j) .receipt → Dec (j ≡ g .used) → ⊥
       pick i j l h e (yes s) = fresh i (omega arith) (sym (receipt-kept i (omega arith)) ∙ e ∙ ap (λ (k : ℕ). (recordAt (d .rows) k) .receipt) s ∙ new)
@@ -179,5 +176,5 @@ pub receipts-distinct : (g : Gate) (t : Rows) → Distinct g t → (clock params
 receipts-distinct g t once clock params out =
     delivered-by g t clock params out (λ (d : Delivery). Distinct (d .gate) (d .rows))
     (λ code left size. once)
-    (λ _ _. distinct-outcome g t once (respond g t clock ((requestRead params) .fault) ((requestRead params) .asked) out) (respond-lasts g t clock ((requestRead params) .fault) ((requestRead params) .asked) out)
-    clock ((requestRead params) .asked) (outcome g t clock ((requestRead params) .fault) ((requestRead params) .asked) out))
+    (λ _ _. distinct-outcome g t once (respond g t clock ((requestRead params) .fault) (instructionIn params) out) (respond-lasts g t clock ((requestRead params) .fault) (instructionIn params) out)
+    clock (instructionIn params) (outcome g t clock ((requestRead params) .fault) (instructionIn params) out))

@@ -15,10 +15,12 @@ use Rattle.fields.specs.Amount.{isAmount}
 use Rattle.fields.specs.Codes.{isReceipt}
 use Rattle.dates.specs.Date.{isWritten}
 use Rattle.fields.proofs.Tests.{and-left, and-right, and-both}
-use Rattle.message.specs.declared.request.Asked.{Asked}
+use Rattle.payments.specs.declared.Details.{Details}
+use Rattle.payments.specs.declared.Instruction.{Instruction}
+use Rattle.payments.specs.declared.Action.the-variants.{Payment}
 use Rattle.message.specs.Names.{hasAccount, hasReceipt, hasDate}
 use Rattle.message.specs.Request.{requestRead}
-use Rattle.message.proofs.RequestRange.{AskedGood, read-good}
+use Rattle.message.proofs.RequestRange.{read-good}
 use Rattle.table.specs.declared.Account.{Account}
 use Rattle.table.specs.declared.Gate.{Gate}
 use Rattle.table.specs.declared.Record.{Record}
@@ -31,7 +33,7 @@ use Rattle.validity.specs.Valid.{stateGood, rangesGood, accountKnown, authcodeG
 use Rattle.table.proofs.TableLaws.{length-records, getD-records, from-at, from-whole, whole-from}
 use Rattle.table.specs.Table.{noRecord}
 use Rattle.ledger.specs.Change.{nextAuthcode, makeRecord, revoked, debitedAt}
-use Rattle.gate.specs.Deliver.{respond, deliver, Delivery}
+use Rattle.gate.specs.Deliver.{instructionIn, respond, deliver, Delivery}
 use Rattle.gate_theorems.proofs.OutcomeLaws.{Outcome, stays, appends, revokes, outcome, respond-zero}
 use Rattle.gate_theorems.proofs.KeepsLaws.{delivered-by}
 use Rattle.ledger.proofs.ChangeLaws.{debit-used}
@@ -103,8 +105,8 @@ names-debited g Nothing n = names-same g g refl
 names-debited g (At a) n = names-moved _ g a
 
 -- ---- a record that is made or revoked is good
-pub made-good : (g : Gate) (clock : List ℕ) (q : Asked) (a : ℕ) → isReceipt (q .receipt) ≡ true → isAmount (q .amount) ≡ true → isWritten (q .date) ≡ true → isWritten clock ≡ true
-    → findAccount (q .number) (q .kind) (accountsOf g) ≡ At a → recordGood g (g .used) (makeRecord g clock q) ≡ true
+pub made-good : (g : Gate) (clock : List ℕ) (q : Instruction) (a : ℕ) → isReceipt (q .details .receipt) ≡ true → isAmount (q .details .amount) ≡ true → isWritten (q .details .date) ≡ true → isWritten clock ≡ true
+    → findAccount (q .details .number) (q .details .kind) (accountsOf g) ≡ At a → recordGood g (g .used) (makeRecord g clock (q .details)) ≡ true
 unfolding recordGood authcodeGood rangesGood stateGood accountKnown makeRecord nextAuthcode eqList
 made-good g clock q a receipt amount date dated known = rw (eq-eqb (g .used + 1) (g .used + 1) refl, receipt, amount, date, dated, known) refl
 
@@ -172,7 +174,14 @@ module _ (g : Gate) (t : Rows) (good : Good g t) (g′ : Gate) (t′ : Rows) (sa
       one : (i : ℕ) → i < length rs → recordGood g′ i (recordAt t′ i) ≡ true
       one i h = good-there g g′ same i (recordAt t′ i) (ap (recordGood g i) (rw er (from-at t rs i noRecord h)) ∙ each i h)
 
-module _ (g : Gate) (t : Rows) (good : Good g t) (clock : List ℕ) (dated : isWritten clock ≡ true) (q : Asked) (d : Delivery) (asked : d .code ≡ 0 → AskedGood q) where
+-- a payment's details in the ranges of a record
+record Formed (p : Details) : Type 0 where
+  receipt : isReceipt (p .receipt) ≡ true
+  amount : isAmount (p .amount) ≡ true
+  date : isWritten (p .date) ≡ true
+
+module _ (g : Gate) (t : Rows) (good : Good g t) (clock : List ℕ) (dated : isWritten clock ≡ true) (q : Instruction) (d : Delivery)
+    (formed : d .code ≡ 0 → q .action ≡ Payment → Formed (q .details)) where
   each-used : (i : ℕ) → i < g .used → recordGood g i (getD (recordsOf t (g .used)) i noRecord) ≡ true
   each-used i h = ap (recordGood g i) (getD-records t (g .used) i noRecord h) ∙ good .records i h
 
@@ -186,22 +195,22 @@ module _ (g : Gate) (t : Rows) (good : Good g t) (clock : List ℕ) (dated : isW
   again-outcome (appends a ea en ef room day ec eg er) =
       let rs : List Record = recordsOf t (g .used) in
       let size : length rs ≡ g .used = length-records t (g .used) in
-      let longer : length (rs ++ (makeRecord g clock q ∷ [])) ≡ length rs + 1 = length-append rs (makeRecord g clock q ∷ []) in
+      let longer : length (rs ++ (makeRecord g clock (q .details) ∷ [])) ≡ length rs + 1 = length-append rs (makeRecord g clock (q .details) ∷ []) in
       let used : d .gate .used ≡ g .used + 1 = ap (λ (x : Gate). x .used) eg in
-      again-from g t good (d .gate) (d .rows) (rw eg (names-used g (credited g a (q .amount)) (g .used + 1) (names-credited g a (q .amount))))
-      (rs ++ (makeRecord g clock q ∷ [])) er (omega arith) (omega arith)
+      again-from g t good (d .gate) (d .rows) (rw eg (names-used g (credited g a (q .details .amount)) (g .used + 1) (names-credited g a (q .details .amount))))
+      (rs ++ (makeRecord g clock (q .details) ∷ [])) er (omega arith) (omega arith)
       (λ i h. one i (omega arith))
     where
-      one : (i : ℕ) → i < g .used + 1 → recordGood g i (getD (recordsOf t (g .used) ++ (makeRecord g clock q ∷ [])) i noRecord) ≡ true
+      one : (i : ℕ) → i < g .used + 1 → recordGood g i (getD (recordsOf t (g .used) ++ (makeRecord g clock (q .details) ∷ [])) i noRecord) ≡ true
       one i h = pick (ℕ-discrete i (g .used))
         where
-          pick : Dec (i ≡ g .used) → recordGood g i (getD (recordsOf t (g .used) ++ (makeRecord g clock q ∷ [])) i noRecord) ≡ true
+          pick : Dec (i ≡ g .used) → recordGood g i (getD (recordsOf t (g .used) ++ (makeRecord g clock (q .details) ∷ [])) i noRecord) ≡ true
           pick (yes e) =
-              rw (e, getD-at (recordsOf t (g .used)) (makeRecord g clock q) [] noRecord (g .used) (length-records t (g .used)))
-              (made-good g clock q a (asked ec .receipt (ap hasReceipt ea)) (asked ec .amount (ap hasAccount ea)) (asked ec .date (ap hasDate ea)) dated ef)
+              rw (e, getD-at (recordsOf t (g .used)) (makeRecord g clock (q .details)) [] noRecord (g .used) (length-records t (g .used)))
+              (made-good g clock q a (formed ec ea .receipt) (formed ec ea .amount) (formed ec ea .date) dated ef)
           pick (no n) =
               let l : i < length (recordsOf t (g .used)) = omega (arith, length-records t (g .used)) in
-              ap (recordGood g i) (List·getD-append (recordsOf t (g .used)) (makeRecord g clock q ∷ []) noRecord i l) ∙ each-used i (omega arith)
+              ap (recordGood g i) (List·getD-append (recordsOf t (g .used)) (makeRecord g clock (q .details) ∷ []) noRecord i l) ∙ each-used i (omega arith)
   again-outcome (revokes k r f ea ek ir ef es day fu ec eg er) =
       let rs : List Record = recordsOf t (g .used) in
       let size : length rs ≡ g .used = length-records t (g .used) in
@@ -222,6 +231,12 @@ module _ (g : Gate) (t : Rows) (good : Good g t) (clock : List ℕ) (dated : isW
               (revoked-good g clock k r dated (rw ir (each-used k l)))
           pick (no n) = ap (recordGood g i) (getD-set-other (recordsOf t (g .used)) k i (revoked clock r) noRecord n) ∙ each-used i h
 
+-- a payment that was read without a fault is well formed
+read-formed : (params : List ℕ) → (requestRead params) .fault ≡ 0 → (instructionIn params) .action ≡ Payment → Formed ((instructionIn params) .details)
+read-formed params z e =
+    let good = read-good params z in
+    record { receipt = good .receipt (ap hasReceipt e); amount = good .amount (ap hasAccount e); date = good .date (ap hasDate e) }
+
 -- ---- a delivery keeps every clause of row 68 but the balance bound, and the accounts' names
 module _ (g : Gate) (t : Rows) (ready : Ready g t) (good : tableGood g t ≡ true) (clock params out : List ℕ) where
   -- row 68 but the balance bound holds again, and the accounts' numbers and types and the closed day are as they were
@@ -230,8 +245,8 @@ module _ (g : Gate) (t : Rows) (ready : Ready g t) (good : tableGood g t ≡ tru
       let facts : Good g t = good-table g t (ready .sound .places) good in
       delivered-by g t clock params out (λ (d : Delivery). Again g (d .gate) (d .rows))
       (λ code left size. record { good = facts; names = names-same g g refl; whole = ready .whole })
-      (λ _ dated. again-outcome g t facts clock dated ((requestRead params) .asked) (respond g t clock ((requestRead params) .fault) ((requestRead params) .asked) out)
-      (λ z. read-good params (respond-zero g t clock ((requestRead params) .fault) ((requestRead params) .asked) out z)) (outcome g t clock ((requestRead params) .fault) ((requestRead params) .asked) out))
+      (λ _ dated. again-outcome g t facts clock dated (instructionIn params) (respond g t clock ((requestRead params) .fault) (instructionIn params) out)
+      (λ z e. read-formed params (respond-zero g t clock ((requestRead params) .fault) (instructionIn params) out z) e) (outcome g t clock ((requestRead params) .fault) (instructionIn params) out))
 
   -- with balances in their bound the table is good and ready for the next call
   pub delivered-good : Near ((deliver g t clock params out) .gate) → tableGood ((deliver g t clock params out) .gate) ((deliver g t clock params out) .rows) ≡ true
