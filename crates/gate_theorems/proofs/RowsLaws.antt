@@ -105,8 +105,8 @@ names-debited g Nothing n = names-same g g refl
 names-debited g (At a) n = names-moved _ g a
 
 -- ---- a record that is made or revoked is good
-pub made-good : (g : Gate) (clock : List ℕ) (q : Instruction) (a : ℕ) → isReceipt (q .details .receipt) ≡ true → isAmount (q .details .amount) ≡ true → isWritten (q .details .date) ≡ true → isWritten clock ≡ true
-    → findAccount (q .details .number) (q .details .kind) (accountsOf g) ≡ At a → recordGood g (g .used) (makeRecord g clock (q .details)) ≡ true
+pub made-good : (g : Gate) (clock : List ℕ) (q : Details) (a : ℕ) → isReceipt (q .receipt) ≡ true → isAmount (q .amount) ≡ true → isWritten (q .date) ≡ true → isWritten clock ≡ true
+    → findAccount (q .number) (q .kind) (accountsOf g) ≡ At a → recordGood g (g .used) (makeRecord g clock q) ≡ true
 unfolding recordGood authcodeGood rangesGood stateGood accountKnown makeRecord nextAuthcode eqList
 made-good g clock q a receipt amount date dated known = rw (eq-eqb (g .used + 1) (g .used + 1) refl, receipt, amount, date, dated, known) refl
 
@@ -207,7 +207,7 @@ module _ (g : Gate) (t : Rows) (good : Good g t) (clock : List ℕ) (dated : isW
           pick : Dec (i ≡ g .used) → recordGood g i (getD (recordsOf t (g .used) ++ (makeRecord g clock (q .details) ∷ [])) i noRecord) ≡ true
           pick (yes e) =
               rw (e, getD-at (recordsOf t (g .used)) (makeRecord g clock (q .details)) [] noRecord (g .used) (length-records t (g .used)))
-              (made-good g clock q a (formed ec ea .receipt) (formed ec ea .amount) (formed ec ea .date) dated ef)
+              (made-good g clock (q .details) a (formed ec ea .receipt) (formed ec ea .amount) (formed ec ea .date) dated ef)
           pick (no n) =
               let l : i < length (recordsOf t (g .used)) = omega (arith, length-records t (g .used)) in
               ap (recordGood g i) (List·getD-append (recordsOf t (g .used)) (makeRecord g clock (q .details) ∷ []) noRecord i l) ∙ each-used i (omega arith)

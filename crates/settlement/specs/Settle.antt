@@ -9,8 +9,7 @@ use Rattle.fields.specs.Lists.{eqList, written}
 use Rattle.dates.specs.Calendar.{isDay, dayBefore, nextDay, onDay}
 use Rattle.dates.specs.Date.{dateDay, isWritten, emptyDate}
 use Rattle.fields.specs.Number.{sameNumber}
-use Rattle.payments.specs.declared.Action.the-variants.{Payment}
-use Rattle.message.specs.declared.request.Asked.{Asked}
+use Rattle.payments.specs.declared.Details.{Details}
 use Rattle.registry.specs.declared.line.Line.{Line}
 use Rattle.registry.specs.Registry.{registryLines, registryFault}
 use Rattle.table.specs.declared.Record.{Record}
@@ -71,12 +70,11 @@ restored r =
     }
 
 -- a posted line is recorded as the payment that it tells of
-abbrev pub paymentOf : Line → Asked
-paymentOf x =
-    record { action = Payment; number = x .number; kind = x .kind; amount = x .amount; receipt = x .receipt; date = x .date; reason = 0 }
+abbrev pub detailsOf : Line → Details
+detailsOf x = record { receipt = x .receipt; number = x .number; kind = x .kind; amount = x .amount; date = x .date }
 
 unfoldable pub postedRecord : Gate → List ℕ → Line → Record
-postedRecord g clock x = makeRecord g clock (paymentOf x)
+postedRecord g clock x = makeRecord g clock (detailsOf x)
 
 -- the gate and the records of its table
 pub record Ledger : Type 0 where

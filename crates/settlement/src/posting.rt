@@ -2,8 +2,7 @@
 use crate::verdict;
 use crate::verdict::Verdict;
 use ledger::change;
-use payments::Action;
-use message::request::Asked;
+use payments::Details;
 use registry::line::Line;
 use table::Gate;
 use table::Record;
@@ -35,14 +34,12 @@ pub(crate) fn posted_record(g: Gate, clock: [u8; 19], x: Line) -> Record
 {
     let number = x.number;
     let date = x.date;
-    let q = Asked {
-        action: Action::Payment,
+    let q = Details {
+        receipt: x.receipt,
         number,
         kind: x.kind,
         amount: x.amount,
-        receipt: x.receipt,
         date,
-        reason: 0,
     };
     change::make_record(g, clock, q)
 }

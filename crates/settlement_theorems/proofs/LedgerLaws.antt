@@ -39,7 +39,7 @@ use Rattle.gate_theorems.proofs.RecordsLaws.{Distinct}
 use Rattle.gate_theorems.proofs.RowsLaws.{SameNames, names-used, names-credited, good-there, made-good, state-good, revoked-good}
 use Rattle.settlement.specs.declared.verdict.Verdict.{Verdict}
 use Rattle.settlement.specs.declared.verdict.Verdict.the-variants.{Keeps, Restores, Posts, Unposted}
-use Rattle.settlement.specs.Settle.{matches, paymentOf, postVerdict, verdictOf, restored, postedRecord, Ledger, applied, settleLine, settleLines, isStray, sweptRecord, swept, Settlement, settleDay, settle}
+use Rattle.settlement.specs.Settle.{matches, detailsOf, postVerdict, verdictOf, restored, postedRecord, Ledger, applied, settleLine, settleLines, isStray, sweptRecord, swept, Settlement, settleDay, settle}
 use Rattle.settlement.proofs.HeldLaws.{post-room, post-new, verdict-post}
 use Rattle.settlement_theorems.proofs.SettleLaws.{Onward, applied-onward, line-onward, swept-onward, map-at, restores-at, settled-by, before, after, after-used}
 use Rattle.settlement_theorems.proofs.BalanceLaws.{names-credited-at}
@@ -83,7 +83,7 @@ restored-good g i r h = state-good g i r (restored r) refl refl refl refl refl r
 
 posted-good : (g : Gate) (clock : List ℕ) → isWritten clock ≡ true → (x : Line) → LineOk x → (a : ℕ) → findAccount (x .number) (x .kind) (accountsOf g) ≡ At a → recordGood g (g .used) (postedRecord g clock x) ≡ true
 unfolding postedRecord
-posted-good g clock dated x lx a at = made-good g clock (paymentOf x) a (lx .receipt) (lx .amount) (lx .date) dated at
+posted-good g clock dated x lx a at = made-good g clock (detailsOf x) a (lx .receipt) (lx .amount) (lx .date) dated at
 
 -- ---- a ledger whose records are good
 abbrev pub LedgerGood : Ledger → Type 0
