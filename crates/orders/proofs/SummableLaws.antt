@@ -22,7 +22,7 @@ use Rattle.fields.specs.Number.{isNumber, numberRead}
 use Rattle.dates.specs.Calendar.{dayRead}
 use Rattle.dates.specs.Date.{dateRead}
 use Rattle.fields.proofs.Tests.{and-right, cond-elim}
-use Rattle.message.specs.declared.request.Asked.{Asked}
+use Rattle.payments.specs.declared.Instruction.{Instruction}
 use Rattle.message.specs.Request.{requestRead}
 use Rattle.lists.specs.declared.Found.{Found}
 use Rattle.lists.specs.declared.Found.the-variants.{At, Nothing}
@@ -39,7 +39,7 @@ use Rattle.ledger.specs.declared.Reply.{Reply}
 use Rattle.opening.specs.Opening.{openTo, openAccount, drawOn, drawFrom, drawFunds}
 use Rattle.ledger.specs.Plan.{isShort}
 use Rattle.ledger.specs.Change.{debitedAt}
-use Rattle.gate.specs.Deliver.{deliver, respond, Delivery}
+use Rattle.gate.specs.Deliver.{instructionIn, deliver, respond, Delivery}
 use Rattle.gate.proofs.DeliverLaws.{asked-amount}
 use Rattle.gate_theorems.proofs.OutcomeLaws.{Outcome, stays, appends, revokes, outcome}
 use Rattle.gate_theorems.proofs.KeepsLaws.{delivered-by}
@@ -135,10 +135,10 @@ module _ (g : Gate) (s : Summable g) where
         (λ covered. debited-summable (At a) n k m is (not-true _ (and-right (isAmount m) _ covered)))
         (λ _. s)
 
-    outcome-summable : (clock : List ℕ) (q : Asked) (d : Delivery) → q .amount < 1000000000 → Outcome g t clock q d → Summable (d .gate)
+    outcome-summable : (clock : List ℕ) (q : Instruction) (d : Delivery) → q .details .amount < 1000000000 → Outcome g t clock q d → Summable (d .gate)
     outcome-summable clock q d few (stays eg er) = rw eg s
     outcome-summable clock q d few (appends a ea en ef fu day ec eg er) =
-        rw eg (credited-summable a (q .amount) (g .used + 1) (holder-within g (q .number) (q .kind) a (findAccount (q .number) (q .kind) (accountsOf g)) refl ef) few)
+        rw eg (credited-summable a (q .details .amount) (g .used + 1) (holder-within g (q .details .number) (q .details .kind) a (findAccount (q .details .number) (q .details .kind) (accountsOf g)) refl ef) few)
     outcome-summable clock q d few (revokes i r f ea ei er ef es day fu ec eg el) = rw eg (debited-summable f (r .number) (r .kind) (r .amount) ef fu)
 
   draw-summable : (t : Rows) (n : Number) (k m : ℕ) → Sums (drawFunds g t n k m)
@@ -151,7 +151,7 @@ module _ (g : Gate) (s : Summable g) where
   deliver-summable : (t : Rows) (clock params out : List ℕ) → Summable ((deliver g t clock params out) .gate)
   deliver-summable t clock params out =
       let f : ℕ = (requestRead params) .fault in
-      let q : Asked = (requestRead params) .asked in
+      let q : Instruction = instructionIn params in
       delivered-by g t clock params out (λ (d : Delivery). Summable (d .gate)) (λ code left size. s)
       (λ good _. outcome-summable t good clock q (respond g t clock f q out) (asked-amount params (requestRead params) refl) (outcome g t clock f q out))
 
