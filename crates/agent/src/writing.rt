@@ -12,7 +12,7 @@ use fields::number::Number;
 use lists::Found;
 use payments::Action;
 use message::request::Asked;
-use message::write;
+use request_writer::write;
 ghost use mathlib.Core.Path.{_≡_};
 ghost use Prim.Native.Nat.{_<_};
 ghost use Rattle.payments.specs.declared.Action.the-variants.{Payment, Status, Cancel};

@@ -7,8 +7,8 @@ use mir.Syntax.{w64}
 use mir.Val.{Fits}
 use lib.ListN.{length, take, drop, length-drop}
 use lib.Seq.{length-take-le}
-use Rattle.fields.specs.Lists.{find}
-use Rattle.fields.proofs.ScanLaws.{find-le}
+use Rattle.texts.specs.Lists.{find}
+use Rattle.texts.proofs.ScanLaws.{find-le}
 
 pub rows-size : {A : Type 0} (d : List A) (n : ℕ) → n ≤ length d → n ≡ length (take n d)
 rows-size d n h = sym (length-take-le n d h)

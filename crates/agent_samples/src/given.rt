@@ -3,11 +3,11 @@ use dates::calendar;
 use dates::calendar::Day;
 use dates::calendar::DayRead;
 use dates::date;
-use fields::digits;
-use fields::digits::Digits;
+use texts::digits;
+use texts::digits::Digits;
 use fields::number;
 use fields::number::Number;
-use fields::scan;
+use texts::scan;
 
 // A number of at most 20 digits, or 0.
 pub fn value(s: &[u8]) -> u64 {

@@ -5,11 +5,11 @@ mod given;
 mod words;
 
 use desk::Desk;
-use fields::scan;
+use texts::scan;
 ghost use mathlib.Core.Path.{_≡_};
 ghost use Prim.Native.Nat.{_≤_, _<_, _+_};
 ghost use lib.ListN.{length, take, drop};
-ghost use Rattle.fields.specs.Lists.{find};
+ghost use Rattle.texts.specs.Lists.{find};
 
 // The rows that are lent at most: 600 entries.
 fn empty_nums() -> [[u64; 6]; 600]

@@ -3,7 +3,7 @@ use crate::desk;
 use crate::desk::Desk;
 use crate::ends;
 use crate::given;
-use fields::scan;
+use texts::scan;
 use payments::Action;
 
 // So many acceptances of what follows.

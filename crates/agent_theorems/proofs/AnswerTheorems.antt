@@ -7,9 +7,9 @@ use mathlib.Core.List.{List}
 use lib.ListN.{set}
 use borrow.Author.Tests.{le-leb}
 use Rattle.fields.specs.Codes.{isReceipt}
-use Rattle.fields.specs.Digits.{within}
-use Rattle.fields.proofs.Tests.{cond-elim, cond-le, no-claim}
-use Rattle.fields.proofs.DigitLaws.{within-high}
+use Rattle.texts.specs.Digits.{within}
+use Rattle.texts.proofs.Tests.{cond-elim, cond-le, no-claim}
+use Rattle.texts.proofs.DigitLaws.{within-high}
 use Rattle.payments.specs.declared.Action.{Action}
 use Rattle.payments.specs.declared.Action.the-variants.{Check, Payment, Status, Cancel}
 use Rattle.payments.specs.declared.Answer.{Answer}

@@ -11,8 +11,8 @@ use Rattle.fields.specs.declared.number.Number.{Number}
 use Rattle.fields.specs.Amount.{isAmount}
 use Rattle.fields.specs.Codes.{isKind, isReason}
 use Rattle.fields.specs.Number.{isNumber}
-use Rattle.fields.proofs.Tests.{cond-elim}
-use Rattle.fields.proofs.OutLaws.{text-back}
+use Rattle.texts.proofs.Tests.{cond-elim}
+use Rattle.texts.proofs.OutLaws.{text-back}
 use Rattle.dates.proofs.DateLaws.{written-parts}
 use Rattle.payments.specs.declared.Action.{Action}
 use Rattle.payments.specs.declared.Action.the-variants.{Check, Payment, Status, Cancel}

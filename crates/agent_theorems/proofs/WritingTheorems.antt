@@ -9,17 +9,17 @@ use lib.ListN.{length, take, getD, set, length-set}
 use lib.Seq.{getD-set-same}
 use borrow.Author.Tests.{leb-true, leb-false, not-true}
 use Rattle.fields.specs.declared.number.Number.{Number}
-use Rattle.fields.specs.Lists.{written, cursorAfter}
+use Rattle.texts.specs.Lists.{written, cursorAfter}
 use Rattle.fields.specs.Amount.{isAmount}
 use Rattle.fields.specs.Codes.{isReceipt, isKind, isReason}
 use Rattle.fields.specs.Number.{isNumber}
-use Rattle.fields.proofs.Tests.{and-right, cond-elim, no-claim}
-use Rattle.fields.proofs.OutLaws.{buffer-stays, cursor-moves, bytes-past, text-back}
+use Rattle.texts.proofs.Tests.{and-right, cond-elim, no-claim}
+use Rattle.texts.proofs.OutLaws.{buffer-stays, cursor-moves, bytes-past, text-back}
 use Rattle.dates.proofs.DateLaws.{written-parts}
 use Rattle.payments.specs.declared.Action.{Action}
 use Rattle.payments.specs.declared.Action.the-variants.{Check, Payment, Status, Cancel}
 use Rattle.message.specs.declared.request.Asked.{Asked as Request}
-use Rattle.message.specs.Names.{hasReason}
+use Rattle.parameters.specs.Names.{hasReason}
 use Rattle.message.specs.Request.{requestRead}
 use Rattle.message.specs.RequestText.{isAsked, requestBytes, requestText, askedAgain}
 use Rattle.message.proofs.RequestAgain.{request-fits, request-again}

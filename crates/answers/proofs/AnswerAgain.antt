@@ -8,13 +8,13 @@ use lib.ListN.{length, drop}
 use lib.Seq.{take-append-seam, drop-append-seam, drop-append-add}
 use lib.Dec.{eqb, leb}
 use borrow.Author.Tests.{le-leb, leb-true, ne-eqb}
-use Rattle.fields.specs.Lists.{every, find, eqList}
-use Rattle.fields.specs.Digits.{isDigit, decimal}
+use Rattle.texts.specs.Lists.{every, find, eqList}
+use Rattle.texts.specs.Digits.{isDigit, decimal}
 use Rattle.dates.specs.Date.{isWritten, emptyDate}
-use Rattle.fields.proofs.Tests.{and-left, and-right, both, cond-elim}
-use Rattle.fields.proofs.ListLaws.{every-weaker}
-use Rattle.fields.proofs.ScanLaws.{eqList-refl}
-use Rattle.fields.proofs.DecimalLaws.{digits-again, decimal-digits}
+use Rattle.texts.proofs.Tests.{and-left, and-right, both, cond-elim}
+use Rattle.texts.proofs.ListLaws.{every-weaker}
+use Rattle.texts.proofs.ScanLaws.{eqList-refl}
+use Rattle.texts.proofs.DecimalLaws.{digits-again, decimal-digits}
 use Rattle.dates.proofs.DateLaws.{date-bytes, date-again}
 use Rattle.payments.specs.declared.Action.{Action}
 use Rattle.payments.specs.declared.Answer.{Answer}

@@ -6,12 +6,12 @@ use mathlib.Core.Bool.{Bool, true, false, cond}
 use lib.ListN.{length, take, drop, drop-of-length-le}
 use lib.Seq.{drop-drop}
 use borrow.Author.Tests.{le-leb, lt-leb}
-use Rattle.fields.specs.declared.digits.Digits.{Digits}
-use Rattle.fields.specs.declared.digits.Digits.the-variants.{Value, Malformed}
+use Rattle.texts.specs.declared.digits.Digits.{Digits}
+use Rattle.texts.specs.declared.digits.Digits.the-variants.{Value, Malformed}
 use Rattle.dates.specs.declared.date.DateRead.{DateRead}
-use Rattle.fields.specs.Digits.{digitsRead}
+use Rattle.texts.specs.Digits.{digitsRead}
 use Rattle.dates.specs.Date.{dateRead}
-use Rattle.fields.proofs.ListLaws.{drop-next}
+use Rattle.texts.proofs.ListLaws.{drop-next}
 use Rattle.payments.specs.declared.Action.{Action}
 use Rattle.payments.specs.declared.Answer.{Answer}
 use Rattle.answers.specs.declared.answer.AnswerRead.{AnswerRead}

@@ -6,12 +6,12 @@ use mathlib.Core.List.{List}
 use mathlib.Core.Bool.{true, false}
 use lib.ListN.{length}
 use lib.Dec.{leb}
-use Rattle.fields.specs.declared.digits.Digits.{Digits}
-use Rattle.fields.specs.declared.digits.Digits.the-variants.{Value, Malformed}
-use Rattle.fields.specs.Digits.{digitsRead}
+use Rattle.texts.specs.declared.digits.Digits.{Digits}
+use Rattle.texts.specs.declared.digits.Digits.the-variants.{Value, Malformed}
+use Rattle.texts.specs.Digits.{digitsRead}
 use Rattle.dates.specs.Date.{dateRead}
-use Rattle.fields.proofs.Tests.{cond-elim}
-use Rattle.fields.proofs.DigitLaws.{digits-below}
+use Rattle.texts.proofs.Tests.{cond-elim}
+use Rattle.texts.proofs.DigitLaws.{digits-below}
 use Rattle.payments.specs.declared.Action.{Action}
 use Rattle.payments.specs.declared.Answer.{Answer}
 use Rattle.answers.specs.declared.answer.AnswerRead.{AnswerRead}

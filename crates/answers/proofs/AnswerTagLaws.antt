@@ -9,9 +9,9 @@ use mir.Syntax.{w64}
 use mir.Val.{Fits}
 use lib.ListN.{length, getD, take, drop, length-take, length-drop, drop-of-length-le}
 use lib.Seq.{take-all, drop-drop}
-use Rattle.fields.specs.Lists.{find, eqList}
-use Rattle.fields.proofs.ListLaws.{drop-next}
-use Rattle.fields.proofs.ScanLaws.{find-le, eqList-true}
+use Rattle.texts.specs.Lists.{find, eqList}
+use Rattle.texts.proofs.ListLaws.{drop-next}
+use Rattle.texts.proofs.ScanLaws.{find-le, eqList-true}
 use Rattle.answers.specs.AnswerRead.{starts, isBlank, skipBlanks, NoTag, Unclosed, Content}
 use Rattle.answers.specs.AnswerParts.{closedBy, between}
 

@@ -9,11 +9,11 @@ use lib.Dec.{eqb}
 use lib.ListN.{length, take, drop, length-append, length-take, length-drop}
 use lib.Seq.{take-all, take-at, length-take-le, take-append-seam, take-append-add}
 use borrow.Author.Tests.{ne-eqb, le-leb, lt-leb}
-use Rattle.fields.specs.Lists.{over, written, cursorAfter}
-use Rattle.fields.specs.Digits.{decimal}
-use Rattle.fields.proofs.OutLaws.{cursor-moves, written-over}
-use Rattle.fields.proofs.DecimalLaws.{fixed-length}
-use Rattle.fields.proofs.Tests.{cond-elim}
+use Rattle.texts.specs.Lists.{over, written, cursorAfter}
+use Rattle.texts.specs.Digits.{decimal}
+use Rattle.texts.proofs.OutLaws.{cursor-moves, written-over}
+use Rattle.texts.proofs.DecimalLaws.{fixed-length}
+use Rattle.texts.proofs.Tests.{cond-elim}
 use Rattle.payments.specs.declared.Answer.{Answer}
 use Rattle.answers.specs.Answer.{xmlLine, responseTag, codeTag, authcodeTag, dateTag, messageTag, opening, closing, element, elementIf, hasMessage, messageOf, answerBytes}
 use Rattle.answers.specs.AnswerText.{Grown, enclosed, codeText, startText, dateText, messageText, endText}

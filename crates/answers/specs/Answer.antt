@@ -3,7 +3,7 @@ use Prim.Native.Nat.{ℕ}
 use mathlib.Core.List.{List, [], _∷_, _++_}
 use mathlib.Core.Bool.{Bool, cond}
 use lib.Dec.{eqb}
-use Rattle.fields.specs.Digits.{within, decimal}
+use Rattle.texts.specs.Digits.{within, decimal}
 use Rattle.payments.specs.declared.Answer.{Answer}
 
 -- the first line, which gives the encoding

@@ -4,11 +4,11 @@ use mathlib.Core.List.{List}
 use mathlib.Core.Bool.{Bool, true, false, cond}
 use lib.ListN.{length, take, drop}
 use lib.Dec.{leb}
-use Rattle.fields.specs.declared.digits.Digits.{Digits}
-use Rattle.fields.specs.declared.digits.Digits.the-variants.{Value, Malformed}
+use Rattle.texts.specs.declared.digits.Digits.{Digits}
+use Rattle.texts.specs.declared.digits.Digits.the-variants.{Value, Malformed}
 use Rattle.dates.specs.declared.date.DateRead.{DateRead}
-use Rattle.fields.specs.Lists.{find}
-use Rattle.fields.specs.Digits.{digitsRead}
+use Rattle.texts.specs.Lists.{find}
+use Rattle.texts.specs.Digits.{digitsRead}
 use Rattle.dates.specs.Date.{dateRead}
 use Rattle.payments.specs.declared.Action.{Action}
 use Rattle.payments.specs.declared.Answer.{Answer}

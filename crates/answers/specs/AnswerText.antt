@@ -4,7 +4,7 @@ use mathlib.Core.Path.{_≡_}
 use mathlib.Core.List.{List, [], _++_}
 use mathlib.Core.Bool.{Bool, cond}
 use lib.ListN.{length, take}
-use Rattle.fields.specs.Digits.{decimal}
+use Rattle.texts.specs.Digits.{decimal}
 use Rattle.answers.specs.Answer.{xmlLine, responseTag, codeTag, authcodeTag, dateTag, messageTag, opening, closing, element, elementIf, hasMessage, messageOf}
 
 -- the buffer d, with a text that ends at `at`, is now e, and its text has xs added as far as there is room, to r

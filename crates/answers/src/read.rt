@@ -7,7 +7,7 @@ use crate::parts;
 use crate::parts::Part;
 use crate::tags;
 use crate::tags::Element;
-use fields::scan;
+use texts::scan;
 use payments::Action;
 ghost use mathlib.Core.Path.{_≡_};
 ghost use lib.ListN.{drop};

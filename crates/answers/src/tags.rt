@@ -1,5 +1,5 @@
 // Tags, blanks and elements in the text of an answer.
-use fields::scan;
+use texts::scan;
 ghost use mathlib.Core.Path.{_≡_};
 ghost use lib.ListN.{drop};
 ghost use Rattle.answers.specs.AnswerRead.{starts, isBlank, skipBlanks};

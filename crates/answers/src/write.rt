@@ -1,11 +1,11 @@
 // Answers written: piece by piece into a local text, and that at once into the lent buffer.
 use payments::Answer;
-use fields::digits;
-use fields::out;
-use fields::scan;
+use texts::digits;
+use texts::out;
+use texts::scan;
 ghost use mathlib.Core.Path.{_≡_};
-ghost use Rattle.fields.specs.Digits.{decimal};
-ghost use Rattle.fields.specs.Lists.{written, cursorAfter};
+ghost use Rattle.texts.specs.Digits.{decimal};
+ghost use Rattle.texts.specs.Lists.{written, cursorAfter};
 ghost use Rattle.answers.specs.Answer.{hasMessage, messageOf, answerBytes};
 ghost use Rattle.answers.specs.AnswerText.{Grown, enclosed, codeText, startText, dateText, messageText, endText};
 

@@ -14,8 +14,8 @@ use Rattle.dates.specs.declared.calendar.DayRead.the-variants.{Good}
 use Rattle.dates.specs.Calendar.{isDay}
 use Rattle.fields.specs.Codes.{isReceipt}
 use Rattle.dates.specs.Date.{dateDay}
-use Rattle.fields.specs.Digits.{within}
-use Rattle.fields.proofs.Tests.{and-left, and-right, both, no-claim}
+use Rattle.texts.specs.Digits.{within}
+use Rattle.texts.proofs.Tests.{and-left, and-right, both, no-claim}
 use Rattle.lists.specs.declared.Found.{Found}
 use Rattle.lists.specs.declared.Found.the-variants.{At, Nothing}
 use Rattle.lists.specs.Lists.{allFrom}

@@ -17,7 +17,7 @@ use Rattle.dates.specs.declared.calendar.DayRead.{DayRead}
 use Rattle.dates.specs.declared.calendar.DayRead.the-variants.{Good, NoDate}
 use Rattle.dates.specs.Calendar.{isDay, sameDay, onDay}
 use Rattle.dates.specs.Date.{dateDay}
-use Rattle.fields.proofs.Tests.{and-left, and-right, no-claim}
+use Rattle.texts.proofs.Tests.{and-left, and-right, no-claim}
 use Rattle.dates.proofs.DayLaws.{IsDate, is-date, days-high, same-day, same-day-refl}
 use Rattle.dates.proofs.DateLaws.{DayOf, date-day}
 use Rattle.lists.specs.Lists.{tab, allFrom}

@@ -4,9 +4,9 @@ use mathlib.Core.Bool.{Bool, true, false}
 use Rattle.fields.specs.Amount.{isAmount}
 use Rattle.fields.specs.Codes.{isReceipt, isKind}
 use Rattle.dates.specs.Date.{isWritten}
-use Rattle.fields.specs.Digits.{within}
+use Rattle.texts.specs.Digits.{within}
 use Rattle.fields.specs.Number.{isNumber}
-use Rattle.fields.proofs.Tests.{both}
+use Rattle.texts.proofs.Tests.{both}
 use Rattle.book.specs.declared.Entry.{Entry}
 use Rattle.book.specs.declared.State.{State}
 use Rattle.book.specs.declared.State.the-variants.{Asked, Credited, CancelAsked, Cancelled, Unposted}

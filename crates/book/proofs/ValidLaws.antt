@@ -12,9 +12,9 @@ use Rattle.fields.specs.Amount.{isAmount}
 use Rattle.dates.specs.Calendar.{isDay}
 use Rattle.fields.specs.Codes.{isReceipt, isKind}
 use Rattle.dates.specs.Date.{isWritten}
-use Rattle.fields.specs.Digits.{within}
+use Rattle.texts.specs.Digits.{within}
 use Rattle.fields.specs.Number.{isNumber}
-use Rattle.fields.proofs.Tests.{and-left, and-right}
+use Rattle.texts.proofs.Tests.{and-left, and-right}
 use Rattle.lists.specs.Lent.{Lent}
 use Rattle.lists.specs.Lists.{allFrom}
 use Rattle.lists.proofs.ListLaws.{all-more, all-not, all-end}

@@ -8,7 +8,7 @@ use lib.ListN.{length}
 use Rattle.dates.specs.declared.calendar.Day.{Day}
 use Rattle.dates.specs.declared.calendar.DayRead.{DayRead}
 use Rattle.dates.specs.declared.calendar.DayRead.the-variants.{Good, NoDate}
-use Rattle.fields.specs.Digits.{within}
+use Rattle.texts.specs.Digits.{within}
 use Rattle.fields.specs.Amount.{isAmount}
 use Rattle.dates.specs.Calendar.{isDay, onDay}
 use Rattle.fields.specs.Codes.{isReceipt, isKind}

@@ -6,7 +6,7 @@ use crate::rows;
 use dates::date;
 use fields::amount;
 use fields::codes;
-use fields::digits;
+use texts::digits;
 ghost use mathlib.Core.Bool.{true};
 ghost use mathlib.Core.Path.{_≡_};
 ghost use Prim.Native.Nat.{_<_, _≤_};

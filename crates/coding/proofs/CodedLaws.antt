@@ -8,11 +8,11 @@ use mathlib.Core.Bool.{Bool, true, false, _&&_, or-true}
 use lib.Dec.{eqb, leb}
 use lib.ListN.{length, length-append}
 use borrow.Author.Tests.{ne-eqb, eqb-true, ltb-true, leb-true, leb-false}
-use Rattle.fields.specs.Digits.{isDigit, within}
-use Rattle.fields.specs.Lists.{every, find}
-use Rattle.fields.proofs.Tests.{and-left, and-right, cond-elim, cond-le}
-use Rattle.fields.proofs.ListLaws.{every-append}
-use Rattle.fields.proofs.DigitLaws.{within-low, within-high}
+use Rattle.texts.specs.Digits.{isDigit, within}
+use Rattle.texts.specs.Lists.{every, find}
+use Rattle.texts.proofs.Tests.{and-left, and-right, cond-elim, cond-le}
+use Rattle.texts.proofs.ListLaws.{every-append}
+use Rattle.texts.proofs.DigitLaws.{within-low, within-high}
 use Rattle.coding.specs.Url.{isHex, hexValue, wellCoded, decoded, isPlain, hexDigit, codedByte, coded}
 use Rattle.coding.specs.Units.{isByte, isCode, codeSize}
 use Rattle.coding.proofs.RangeLaws.{inside}

@@ -7,8 +7,8 @@ use mathlib.Core.Bool.{Bool, true, false, cond}
 use lib.Dec.{eqb}
 use lib.ListN.{length, length-append}
 use borrow.Author.Tests.{eq-eqb, ne-eqb}
-use Rattle.fields.specs.Lists.{every, find}
-use Rattle.fields.proofs.Tests.{and-left, and-right}
+use Rattle.texts.specs.Lists.{every, find}
+use Rattle.texts.proofs.Tests.{and-left, and-right}
 
 -- values that a test tells apart are two
 pub tests-differ : (t u : Bool) → t ≡ true → u ≡ false → t ≡ u → ⊥

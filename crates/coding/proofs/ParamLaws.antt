@@ -11,7 +11,7 @@ use lib.ListN.{length, take, drop, length-drop, length-append, drop-of-length-le
 use lib.Seq.{take-all, take-append-seam}
 use Rattle.coding.specs.declared.params.Method.{Method}
 use Rattle.coding.specs.declared.params.Method.the-variants.{Get, Post}
-use Rattle.fields.specs.Lists.{find}
+use Rattle.texts.specs.Lists.{find}
 use Rattle.coding.specs.Params.{paramPart, longer, splitAt}
 use Rattle.coding.proofs.FindLaws.{find-seam}
 

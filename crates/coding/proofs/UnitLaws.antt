@@ -10,12 +10,12 @@ use lib.Seq.{drop-drop, take-append-seam}
 use borrow.Author.Tests.{le-leb, lt-leb, eq-eqb, ne-eqb, leb-true, not-true, not-false}
 use mir.Syntax.{w64}
 use mir.Val.{Fits}
-use Rattle.fields.specs.Digits.{within}
-use Rattle.fields.specs.Lists.{over}
-use Rattle.fields.proofs.ListLaws.{drop-next}
-use Rattle.fields.proofs.OutLaws.{over-step, over-none}
-use Rattle.fields.proofs.Tests.{cond-elim}
-use Rattle.fields.proofs.DigitLaws.{within-high}
+use Rattle.texts.specs.Digits.{within}
+use Rattle.texts.specs.Lists.{over}
+use Rattle.texts.proofs.ListLaws.{drop-next}
+use Rattle.texts.proofs.OutLaws.{over-step, over-none}
+use Rattle.texts.proofs.Tests.{cond-elim}
+use Rattle.texts.proofs.DigitLaws.{within-high}
 use Rattle.coding.specs.declared.url.Unit.{Unit}
 use Rattle.coding.specs.Url.{isHex, hexValue, wellCoded, decoded, decodedInto, decodedCount}
 use Rattle.coding.specs.Units.{single, escape, unitOf}

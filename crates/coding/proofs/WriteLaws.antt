@@ -7,9 +7,9 @@ use mathlib.Core.Bool.{Bool, true, false, cond, not}
 use lib.Dec.{leb}
 use lib.ListN.{length, getD, drop, length-append, drop-of-length-le}
 use borrow.Author.Tests.{le-leb, lt-leb, lt-ltb, le-ltb, leb-true, leb-false, not-true, not-false}
-use Rattle.fields.specs.Lists.{written, cursorAfter}
-use Rattle.fields.proofs.ListLaws.{drop-next}
-use Rattle.fields.proofs.OutLaws.{over-none, no-room, no-room-kept, cursor-moves, written-over, written-length, cursor-then, written-then}
+use Rattle.texts.specs.Lists.{written, cursorAfter}
+use Rattle.texts.proofs.ListLaws.{drop-next}
+use Rattle.texts.proofs.OutLaws.{over-none, no-room, no-room-kept, cursor-moves, written-over, written-length, cursor-then, written-then}
 use Rattle.coding.specs.Url.{isPlain, hexDigit, codedByte, coded}
 use Rattle.coding.specs.Units.{codeSize}
 

@@ -6,7 +6,7 @@ use lib.ListN.{length, take, drop}
 use lib.Dec.{eqb, ltb}
 use Rattle.coding.specs.declared.params.Method.{Method}
 use Rattle.coding.specs.declared.params.Method.the-variants.{Get, Post}
-use Rattle.fields.specs.Lists.{find}
+use Rattle.texts.specs.Lists.{find}
 
 -- a GET gives what follows the first ? (63) of its target, a POST its body
 unfoldable pub paramPart : Method → List ℕ → List ℕ → List ℕ

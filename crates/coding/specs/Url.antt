@@ -4,8 +4,8 @@ use mathlib.Core.List.{List, [], _∷_, _++_}
 use mathlib.Core.Bool.{Bool, true, false, cond, not, _&&_, _||_}
 use lib.ListN.{length}
 use lib.Dec.{leb, ltb, eqb}
-use Rattle.fields.specs.Digits.{within}
-use Rattle.fields.specs.Lists.{over}
+use Rattle.texts.specs.Digits.{within}
+use Rattle.texts.specs.Lists.{over}
 
 -- ---- decoding
 -- 0 to 9, A to F, a to f

@@ -1,5 +1,5 @@
 // The parameters of a request.
-use fields::scan;
+use texts::scan;
 ghost use mathlib.Core.Path.{_≡_};
 ghost use Rattle.coding.specs.Params.{paramPart};
 

@@ -1,11 +1,11 @@
 // Url coding: `%` and two hexadecimal digits stand for a byte.
-use fields::out;
+use texts::out;
 ghost use mathlib.Core.Bool.{_&&_};
 ghost use mathlib.Core.Path.{_≡_};
 ghost use Prim.Native.Nat.{_<_};
 ghost use lib.Dec.{leb};
 ghost use lib.ListN.{drop, length};
-ghost use Rattle.fields.specs.Lists.{written, cursorAfter};
+ghost use Rattle.texts.specs.Lists.{written, cursorAfter};
 ghost use Rattle.coding.specs.Url.{isHex, hexValue, wellCoded, decodedInto, decodedCount, isPlain, hexDigit, codedByte, coded};
 ghost use Rattle.coding.specs.Units.{unitOf, codeSize};
 

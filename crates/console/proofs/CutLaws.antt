@@ -10,11 +10,11 @@ use lib.Dec.{leb, eqb, leb·zero, leb·suc-suc}
 use lib.ListN.{length, getD, take, replicate}
 use lib.Seq.{take-all, length-take-le, take-nil}
 use borrow.Author.Tests.{le-leb, lt-leb, eq-eqb, ne-eqb, eqb-true, eqb-false, leb-true, leb-false}
-use Rattle.fields.specs.declared.digits.Digits.{Digits}
-use Rattle.fields.specs.declared.digits.Digits.the-variants.{Value, Malformed}
+use Rattle.texts.specs.declared.digits.Digits.{Digits}
+use Rattle.texts.specs.declared.digits.Digits.the-variants.{Value, Malformed}
 use Rattle.dates.specs.declared.calendar.DayRead.the-variants.{NoDate}
-use Rattle.fields.specs.Lists.{find, eqList}
-use Rattle.fields.specs.Digits.{digitsRead, rangeRead}
+use Rattle.texts.specs.Lists.{find, eqList}
+use Rattle.texts.specs.Digits.{digitsRead, rangeRead}
 use Rattle.fields.specs.Codes.{kindRead}
 use Rattle.fields.specs.Number.{isNumberText, numberRead, noNumber}
 use Rattle.dates.specs.Calendar.{dayRead}

@@ -10,7 +10,7 @@ use lib.Dec.{eqb, ltb}
 use lib.ListN.{length, take, drop, length-set, length-drop, length-replicate}
 use lib.Seq.{take-nil, drop-drop}
 use borrow.Author.Tests.{lt-ltb, eqb-true, ltb-true, ltb-false}
-use Rattle.fields.specs.Lists.{find}
+use Rattle.texts.specs.Lists.{find}
 use Rattle.coding.specs.Params.{splitAt}
 use Rattle.coding.proofs.ParamLaws.{split-append, split-last}
 use Rattle.coding.proofs.FindLaws.{find-both}

@@ -11,10 +11,10 @@ use lib.ListN.{length, getD, set, drop, replicate, drop-of-length-le}
 use mir.Syntax.{w64}
 use mir.Val.{Fits}
 use borrow.Author.Tests.{lt-ltb, le-ltb, eq-eqb, ne-eqb, ltb-true}
-use Rattle.fields.specs.Lists.{find}
+use Rattle.texts.specs.Lists.{find}
 use Rattle.fields.specs.declared.number.NumberRead.{NumberRead}
 use Rattle.fields.specs.Number.{noNumber}
-use Rattle.fields.proofs.ListLaws.{drop-next}
+use Rattle.texts.proofs.ListLaws.{drop-next}
 use Rattle.orders.specs.declared.Console.{Console}
 use Rattle.console.specs.declared.Held.{Held}
 use Rattle.console.specs.declared.gather.Step.{Step}

@@ -9,8 +9,8 @@ use lib.Dec.{eqb, ltb}
 use lib.ListN.{length, take, drop, length-append, drop-of-length-le}
 use lib.Seq.{take-at, length-take-le}
 use borrow.Author.Tests.{lt-ltb, le-ltb, lt-leb, le-leb, not-true, not-false}
-use Rattle.fields.specs.Lists.{over, written, cursorAfter}
-use Rattle.fields.proofs.OutLaws.{over-none, over-length, over-over, cursor-moves, written-over}
+use Rattle.texts.specs.Lists.{over, written, cursorAfter}
+use Rattle.texts.proofs.OutLaws.{over-none, over-length, over-over, cursor-moves, written-over}
 use Rattle.table.specs.Table.{Rows}
 use Rattle.orders.specs.declared.Console.{Console}
 use Rattle.console.specs.declared.Held.{Held}

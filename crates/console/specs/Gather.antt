@@ -4,7 +4,7 @@ use mathlib.Core.List.{List}
 use mathlib.Core.Bool.{Bool, true, false, cond, _&&_}
 use lib.Dec.{eqb, leb, ltb}
 use lib.ListN.{length, take}
-use Rattle.fields.specs.Lists.{find}
+use Rattle.texts.specs.Lists.{find}
 use Rattle.console.specs.declared.Held.{Held}
 use Rattle.console.specs.declared.gather.Step.{Step}
 use Rattle.console.specs.declared.gather.Gathered.{Gathered}

@@ -5,7 +5,7 @@ use mathlib.Core.List.{List, [], _++_}
 use mathlib.Core.Bool.{Bool, true, false, cond}
 use lib.Dec.{leb}
 use lib.ListN.{length}
-use Rattle.fields.specs.Lists.{over}
+use Rattle.texts.specs.Lists.{over}
 use Rattle.table.specs.Table.{Rows}
 use Rattle.orders.specs.declared.Console.{Console}
 use Rattle.console.specs.declared.Held.{Held}

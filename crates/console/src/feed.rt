@@ -1,7 +1,7 @@
 // A session's input, fed in parts, or whole.
 use crate::Held;
 use crate::gather;
-use fields::scan;
+use texts::scan;
 use orders::Console;
 use orders::print;
 use orders::turn;

@@ -14,7 +14,7 @@ use Rattle.dates.specs.declared.calendar.Day.{Day}
 use Rattle.dates.specs.declared.calendar.DayRead.{DayRead}
 use Rattle.dates.specs.declared.calendar.DayRead.the-variants.{Good, NoDate}
 use Rattle.dates.specs.Calendar.{leapYear, daysIn, isDate, isDay, dayOf, nextDay, dayKey, dayBefore, sameDay, onDay, upTo, twoDigits, dayPart, dayRead}
-use Rattle.fields.proofs.Tests.{and-left, and-right}
+use Rattle.texts.proofs.Tests.{and-left, and-right}
 
 module _ (y : ℕ) where
   pub leap-not-4 : (y % 4 ≡ 0 → ⊥) → false ≡ leapYear y

@@ -12,13 +12,13 @@ use Rattle.dates.specs.declared.calendar.Day.{Day}
 use Rattle.dates.specs.declared.calendar.DayRead.{DayRead}
 use Rattle.dates.specs.declared.calendar.DayRead.the-variants.{Good, NoDate}
 use Rattle.dates.specs.declared.date.DateRead.{DateRead}
-use Rattle.fields.specs.Lists.{every, written}
-use Rattle.fields.specs.Digits.{isDigit}
+use Rattle.texts.specs.Lists.{every, written}
+use Rattle.texts.specs.Digits.{isDigit}
 use Rattle.dates.specs.Calendar.{isDate, dayOf, isDay, twoDigits, twoAt, dayPart}
 use Rattle.dates.specs.Date.{clockTime, dateDay, found, isWritten, emptyDate, noDate, dateRead}
-use Rattle.fields.proofs.Tests.{both, cond-elim}
-use Rattle.fields.proofs.ListLaws.{every-step, every-all}
-use Rattle.fields.proofs.OutLaws.{written-over}
+use Rattle.texts.proofs.Tests.{both, cond-elim}
+use Rattle.texts.proofs.ListLaws.{every-step, every-all}
+use Rattle.texts.proofs.OutLaws.{written-over}
 use Rattle.dates.proofs.DayLaws.{is-date, days-high, read-good, made}
 
 module _ (s : List ℕ) where

@@ -12,7 +12,7 @@ use Rattle.dates.specs.declared.calendar.Day.{Day}
 use Rattle.dates.specs.declared.calendar.DayRead.{DayRead}
 use Rattle.dates.specs.declared.calendar.DayRead.the-variants.{Good, NoDate}
 use Rattle.dates.specs.Calendar.{leapYear, daysIn, isDate, dayOf, isDay, nextDay, dayKey, dayBefore, sameDay, monthsDays, yearsDays, dayNumber}
-use Rattle.fields.proofs.Tests.{both, cond-elim}
+use Rattle.texts.proofs.Tests.{both, cond-elim}
 
 -- ---- dates
 -- what the test `isDate` says, as numbers: `omega` reads its fields

@@ -11,7 +11,7 @@ use Rattle.dates.specs.declared.calendar.DayRead.{DayRead}
 use Rattle.dates.specs.declared.calendar.DayRead.the-variants.{Good, NoDate}
 use Rattle.dates.specs.Calendar.{isDay, dayBefore, sameDay, nextDay, onDay, upTo, dayNumber, dayKey}
 use Rattle.dates.specs.Date.{dateDay, isWritten}
-use Rattle.fields.proofs.Tests.{no-claim, same-bool}
+use Rattle.texts.proofs.Tests.{no-claim, same-bool}
 use Rattle.dates.proofs.DayLaws.{before-number, same-day, same-day-refl, number-same, next-number, next-is-day, next-none, is-date, days-high}
 use Rattle.dates.proofs.DateLaws.{date-day}
 

@@ -8,15 +8,15 @@ use lib.Dec.{eqb, leb}
 use lib.ListN.{length}
 use borrow.Author.Tests.{eq-eqb, eqb-true, leb-true, le-leb}
 use Rattle.fields.specs.declared.number.Number.{Number}
-use Rattle.fields.specs.Lists.{every, eqList}
+use Rattle.texts.specs.Lists.{every, eqList}
 use Rattle.fields.specs.Codes.{isKind}
 use Rattle.dates.specs.Date.{isWritten}
-use Rattle.fields.specs.Digits.{isDigit}
+use Rattle.texts.specs.Digits.{isDigit}
 use Rattle.fields.specs.Number.{numberByte, numberText, numberOf, isNumber, sameNumber}
-use Rattle.fields.proofs.Tests.{and-left, and-right, same-bool}
-use Rattle.fields.proofs.ListLaws.{every-weaker}
-use Rattle.fields.proofs.ScanLaws.{eqList-true, eqList-refl}
-use Rattle.fields.proofs.DigitLaws.{within-high}
+use Rattle.texts.proofs.Tests.{and-left, and-right, same-bool}
+use Rattle.texts.proofs.ListLaws.{every-weaker}
+use Rattle.texts.proofs.ScanLaws.{eqList-true, eqList-refl}
+use Rattle.texts.proofs.DigitLaws.{within-high}
 use Rattle.fields.proofs.NumberLaws.{text-of, text-length, text-bytes, text-same, same-text, same-length}
 use Rattle.dates.proofs.DateLaws.{date-bytes}
 

@@ -3,9 +3,9 @@ use Prim.Native.Nat.{ℕ}
 use mathlib.Core.Path.{_≡_, refl}
 use mathlib.Core.Bool.{true}
 use mathlib.Core.List.{List, [], _∷_}
-use Rattle.fields.specs.declared.digits.Digits.the-variants.{Value}
-use Rattle.fields.specs.Lists.{every, find}
-use Rattle.fields.specs.Digits.{digitsRead, rangeRead}
+use Rattle.texts.specs.declared.digits.Digits.the-variants.{Value}
+use Rattle.texts.specs.Lists.{every, find}
+use Rattle.texts.specs.Digits.{digitsRead, rangeRead}
 use Rattle.fields.specs.Amount.{kopecksAfter, amountRead, amountFault}
 use Rattle.fields.specs.Codes.{receiptRead, receiptFault}
 use Rattle.dates.specs.Calendar.{leapYear, daysIn, isDate, dayOf, twoDigits, dayPart}

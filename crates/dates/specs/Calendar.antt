@@ -7,7 +7,7 @@ use lib.Dec.{ltb, leb, eqb}
 use Rattle.dates.specs.declared.calendar.Day.{Day}
 use Rattle.dates.specs.declared.calendar.DayRead.{DayRead}
 use Rattle.dates.specs.declared.calendar.DayRead.the-variants.{Good, NoDate}
-use Rattle.fields.specs.Digits.{isDigit}
+use Rattle.texts.specs.Digits.{isDigit}
 
 unfoldable pub leapYear : ℕ → Bool
 leapYear y = eqb (y % 4) 0 && (not (eqb (y % 100) 0) || eqb (y % 400) 0)

@@ -2,12 +2,12 @@
 use crate::calendar;
 use crate::calendar::Day;
 use crate::calendar::DayRead;
-use fields::out;
-use fields::scan;
+use texts::out;
+use texts::scan;
 ghost use mathlib.Core.Path.{_≡_};
 ghost use Rattle.dates.specs.Calendar.{onDay, upTo};
 ghost use Rattle.dates.specs.Date.{clockTime, dateDay, isWritten, noDate, dateRead};
-ghost use Rattle.fields.specs.Lists.{eqList, written, cursorAfter};
+ghost use Rattle.texts.specs.Lists.{eqList, written, cursorAfter};
 
 // A written date, or `ok` false and nineteen zero bytes.
 pub struct DateRead {

@@ -17,8 +17,8 @@ use Rattle.fields.specs.Amount.{isAmount}
 use Rattle.fields.specs.Codes.{isReceipt, isKind}
 use Rattle.dates.specs.Date.{dateDay, isWritten}
 use Rattle.fields.specs.Number.{isNumber}
-use Rattle.fields.proofs.Tests.{and-left}
-use Rattle.fields.proofs.DigitLaws.{within-high}
+use Rattle.texts.proofs.Tests.{and-left}
+use Rattle.texts.proofs.DigitLaws.{within-high}
 use Rattle.book.specs.declared.Book.{Book}
 use Rattle.book.specs.declared.Entry.{Entry}
 use Rattle.book.specs.Entries.{BookRows, entriesOf, bookWith}

@@ -17,7 +17,7 @@ use Rattle.dates.specs.Calendar.{isDay, dayBefore, nextDay, onDay}
 use Rattle.fields.specs.Codes.{isReceipt, isKind}
 use Rattle.dates.specs.Date.{dateDay, isWritten}
 use Rattle.fields.specs.Number.{isNumber}
-use Rattle.fields.proofs.Tests.{and-left, and-right, cond-elim, no-claim}
+use Rattle.texts.proofs.Tests.{and-left, and-right, cond-elim, no-claim}
 use Rattle.dates.proofs.DayLaws.{same-day, before-trans, next-after}
 use Rattle.dates.proofs.DateLaws.{date-day}
 use Rattle.lists.proofs.ColumnLaws.{column-at, column-size}

@@ -14,10 +14,10 @@ use Rattle.dates.specs.Calendar.{isDay, dayBefore, nextDay, onDay}
 use Rattle.fields.specs.Codes.{isReceipt, isKind}
 use Rattle.dates.specs.Date.{dateDay, isWritten}
 use Rattle.fields.specs.Number.{isNumber}
-use Rattle.fields.proofs.Tests.{cond-elim}
-use Rattle.fields.proofs.OutLaws.{text-back}
+use Rattle.texts.proofs.Tests.{cond-elim}
+use Rattle.texts.proofs.OutLaws.{text-back}
 use Rattle.lists.proofs.LentLaws.{lent-facts}
-use Rattle.registry.specs.Line.{lineAgain}
+use Rattle.lines.specs.Line.{lineAgain}
 use Rattle.registry.specs.Registry.{registryFault, registryLines}
 use Rattle.book.specs.declared.Book.{Book}
 use Rattle.book.specs.declared.Entry.{Entry}

@@ -10,17 +10,17 @@ use borrow.Author.Tests.{lt-ltb, eqb-true, leb-true, not-true}
 use Rattle.dates.specs.declared.calendar.Day.{Day}
 use Rattle.dates.specs.declared.calendar.DayRead.{DayRead}
 use Rattle.dates.specs.declared.calendar.DayRead.the-variants.{Good, NoDate}
-use Rattle.fields.specs.Lists.{written, cursorAfter}
+use Rattle.texts.specs.Lists.{written, cursorAfter}
 use Rattle.dates.specs.Calendar.{isDay, dayBefore, sameDay, onDay, upTo}
 use Rattle.dates.specs.Date.{dateDay}
-use Rattle.fields.proofs.Tests.{both, and-left, and-right, cond-elim, no-claim}
+use Rattle.texts.proofs.Tests.{both, and-left, and-right, cond-elim, no-claim}
 use Rattle.dates.proofs.DayLaws.{same-day}
-use Rattle.fields.proofs.DigitLaws.{within-low}
+use Rattle.texts.proofs.DigitLaws.{within-low}
 use Rattle.lists.specs.Lists.{allFrom}
-use Rattle.registry.specs.declared.line.Line.{Line}
-use Rattle.registry.specs.Line.{isLine, lineAgain}
+use Rattle.lines.specs.declared.line.Line.{Line}
+use Rattle.lines.specs.Line.{isLine, lineAgain}
 use Rattle.registry.specs.Registry.{registryFault, registryLines, registryBytes, rising}
-use Rattle.registry.specs.RegistryText.{everyLine}
+use Rattle.registry.specs.Registry.{everyLine}
 use Rattle.registry.proofs.TextAgain.{on-line, lines-again, registry-again}
 use Rattle.book.specs.declared.Book.{Book}
 use Rattle.book.specs.declared.Entry.{Entry}

@@ -9,19 +9,19 @@ use lib.Dec.{eqb}
 use lib.ListN.{length, drop, length-append, drop-of-length-le}
 use borrow.Author.Tests.{le-leb, lt-leb, not-true, not-false}
 use Rattle.dates.specs.declared.calendar.Day.{Day}
-use Rattle.fields.specs.Lists.{written, cursorAfter}
+use Rattle.texts.specs.Lists.{written, cursorAfter}
 use Rattle.fields.specs.Amount.{isAmount}
 use Rattle.dates.specs.Calendar.{isDay, dayBefore, onDay}
 use Rattle.fields.specs.Codes.{isReceipt, isKind}
 use Rattle.dates.specs.Date.{dateDay, isWritten}
 use Rattle.fields.specs.Number.{isNumber}
-use Rattle.fields.proofs.Tests.{both, and-left, and-right}
-use Rattle.fields.proofs.OutLaws.{over-none, cursor-moves, written-over, written-length, cursor-then, written-then}
+use Rattle.texts.proofs.Tests.{both, and-left, and-right}
+use Rattle.texts.proofs.OutLaws.{over-none, cursor-moves, written-over, written-length, cursor-then, written-then}
 use Rattle.lists.specs.Lists.{allFrom}
-use Rattle.registry.specs.declared.line.Line.{Line}
-use Rattle.registry.specs.Line.{isLine, lineBytes, lineText}
+use Rattle.lines.specs.declared.line.Line.{Line}
+use Rattle.lines.specs.Line.{isLine, lineBytes, lineText}
 use Rattle.registry.specs.Registry.{registryBytes}
-use Rattle.registry.proofs.LineParts.{line-is, text-is, line-length}
+use Rattle.lines.proofs.LineParts.{line-is, text-is, line-length}
 use Rattle.book.specs.declared.Book.{Book}
 use Rattle.book.specs.declared.Entry.{Entry}
 use Rattle.book.specs.Entries.{BookRows, entryAt, entriesOf}

@@ -1,26 +1,26 @@
 -- Laws of amounts, at each way out of their readers and writers.
-use Prim.Native.Nat.{ℕ, suc, _+_, _-_, _*_, _/_, _%_, _^_, _≤_, _<_}
+use Prim.Native.Nat.{ℕ, _+_, _-_, _*_, _/_, _%_, _^_, _≤_, _<_}
 use native.Mathlib.Omega.{arith}
 use native.Mathlib.Nat.{le-refl}
 use mathlib.Core.Path.{_≡_, refl, sym, _∙_}
 use mathlib.Core.List.{List, [], _∷_, _++_}
-use mathlib.Core.Bool.{Bool, true, false, cond, _&&_}
+use mathlib.Core.Bool.{Bool, true, false, cond}
 use mir.Syntax.{w64}
 use mir.Val.{Fits}
 use lib.Dec.{eqb}
 use lib.ListN.{length, take, drop, length-drop, length-append, drop-of-length-le}
 use lib.Seq.{take-all, length-take-le, take-append-seam, drop-append-seam}
 use borrow.Author.Tests.{eq-eqb, ne-eqb, eqb-true, eqb-false, le-leb}
-use Rattle.fields.specs.declared.digits.Digits.{Digits}
-use Rattle.fields.specs.declared.digits.Digits.the-variants.{Value, Malformed}
-use Rattle.fields.specs.Lists.{every, find, written, cursorAfter}
-use Rattle.fields.specs.Digits.{isDigit, digitsRead, fixed, leadZeros, decimal}
+use Rattle.texts.specs.declared.digits.Digits.{Digits}
+use Rattle.texts.specs.declared.digits.Digits.the-variants.{Value, Malformed}
+use Rattle.texts.specs.Lists.{every, find, written, cursorAfter}
+use Rattle.texts.specs.Digits.{isDigit, digitsRead, fixed, leadZeros, decimal}
 use Rattle.fields.specs.Amount.{isAmount, tenfold, kopecksAfter, kopecksFrom, amountOf, amountRead, amountBytes}
-use Rattle.fields.proofs.ListLaws.{drop-next, every-append, every-weaker}
-use Rattle.fields.proofs.OutLaws.{cursor-stays, buffer-stays, cursor-then, written-then}
-use Rattle.fields.proofs.ScanLaws.{find-le}
-use Rattle.fields.proofs.DigitLaws.{digits-held, digits-below, within-high}
-use Rattle.fields.proofs.DecimalLaws.{skip-le, part-decimal, decimal-size, digits-again, fixed-again, fixed-length, fixed-digits, decimal-digits, decimal-most, find-point}
+use Rattle.texts.proofs.ListLaws.{drop-next, every-append, every-weaker}
+use Rattle.texts.proofs.OutLaws.{cursor-stays, buffer-stays, cursor-then, written-then}
+use Rattle.texts.proofs.ScanLaws.{find-le}
+use Rattle.texts.proofs.DigitLaws.{digits-held, digits-below, within-high}
+use Rattle.texts.proofs.DecimalLaws.{skip-le, part-decimal, decimal-size, digits-again, fixed-again, fixed-length, fixed-digits, decimal-digits, decimal-most, find-point}
 
 module _ (f : List ℕ) (r : Digits) (read : r ≡ digitsRead 2 f) where
   pub one-digit : (v : ℕ) → r ≡ Value v → length f ≡ 1 → Value (v * 10) ≡ kopecksAfter f

@@ -2,13 +2,13 @@
 use Prim.Native.Nat.{ℕ, _≤_, _<_, _^_}
 use native.Mathlib.Omega.{arith}
 use mathlib.Core.Path.{_≡_}
-use mathlib.Core.Bool.{Bool, true}
+use mathlib.Core.Bool.{true}
 use lib.ListN.{length}
-use Rattle.fields.specs.declared.digits.Digits.the-variants.{Value, Malformed}
-use Rattle.fields.specs.Digits.{within, rangeRead, decimal}
+use Rattle.texts.specs.declared.digits.Digits.the-variants.{Value}
+use Rattle.texts.specs.Digits.{within, rangeRead, decimal}
 use Rattle.fields.specs.Codes.{isReceipt, receiptRead, isKind, kindRead, isReason, reasonRead}
-use Rattle.fields.proofs.DigitLaws.{within-high}
-use Rattle.fields.proofs.DecimalLaws.{range-again, decimal-most}
+use Rattle.texts.proofs.DigitLaws.{within-high}
+use Rattle.texts.proofs.DecimalLaws.{range-again, decimal-most}
 
 -- a field of k digits whose range ends below 10 ^ k
 module _ (k low high v : ℕ) (some : 0 < k) (fit : high < 10 ^ k) (word : high < 2 ^ 64) (w : within low high v ≡ true) where

@@ -1,9 +1,3 @@
-pub mod Tests
-pub mod ListLaws
-pub mod OutLaws
-pub mod ScanLaws
-pub mod DigitLaws
-pub mod DecimalLaws
 pub mod CodeLaws
 pub mod AmountLaws
 pub mod NumberLaws

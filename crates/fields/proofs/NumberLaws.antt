@@ -1,22 +1,22 @@
 -- Laws of numbers of accounts.
-use Prim.Native.Nat.{ℕ, suc, _+_, _-_, _≤_, _<_}
+use Prim.Native.Nat.{ℕ, _+_, _-_, _≤_, _<_}
 use native.Mathlib.Omega.{arith}
 use native.Mathlib.Nat.{zero-add}
 use mathlib.Core.Path.{_≡_, refl, sym, _∙_}
-use mathlib.Core.List.{List, [], _∷_, _++_}
-use mathlib.Core.Bool.{Bool, true, false, cond, _&&_, and-false}
+use mathlib.Core.List.{List}
+use mathlib.Core.Bool.{Bool, true, false, _&&_, and-false}
 use lib.Dec.{eqb, leb}
-use lib.ListN.{length, getD, take, drop, replicate, length-append, length-drop, length-replicate}
-use lib.Seq.{take-all, take-append-seam, length-take-le}
+use lib.ListN.{length, getD, drop, replicate, length-append, length-drop, length-replicate}
+use lib.Seq.{take-append-seam, length-take-le}
 use borrow.Author.Tests.{le-leb, lt-leb, eq-eqb, ne-eqb, eqb-true, leb-true}
 use Rattle.fields.specs.declared.number.Number.{Number}
 use Rattle.fields.specs.declared.number.NumberRead.{NumberRead}
-use Rattle.fields.specs.Lists.{every, eqList, written, cursorAfter}
+use Rattle.texts.specs.Lists.{every, eqList, written, cursorAfter}
 use Rattle.fields.specs.Number.{numberByte, numberText, isNumber, isNumberText, padded, numberOf, noNumber, numberRead, sameNumber}
-use Rattle.fields.proofs.Tests.{and-left, and-right}
-use Rattle.fields.proofs.ListLaws.{every-step, every-fails, every-all}
-use Rattle.fields.proofs.OutLaws.{written-over}
-use Rattle.fields.proofs.ScanLaws.{eqList-refl, eqList-true}
+use Rattle.texts.proofs.Tests.{and-left, and-right}
+use Rattle.texts.proofs.ListLaws.{every-step, every-fails, every-all}
+use Rattle.texts.proofs.OutLaws.{written-over}
+use Rattle.texts.proofs.ScanLaws.{eqList-refl, eqList-true}
 
 -- ---- the bytes of a number
 module _ (b : ℕ) where

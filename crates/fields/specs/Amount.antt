@@ -4,10 +4,10 @@ use mathlib.Core.List.{List, [], _∷_, _++_}
 use mathlib.Core.Bool.{Bool, true, false, cond}
 use lib.ListN.{length, take, drop}
 use lib.Dec.{eqb}
-use Rattle.fields.specs.declared.digits.Digits.{Digits}
-use Rattle.fields.specs.declared.digits.Digits.the-variants.{Value, Malformed}
-use Rattle.fields.specs.Lists.{find}
-use Rattle.fields.specs.Digits.{digitsRead, within, faultOf, fixed, decimal}
+use Rattle.texts.specs.declared.digits.Digits.{Digits}
+use Rattle.texts.specs.declared.digits.Digits.the-variants.{Value, Malformed}
+use Rattle.texts.specs.Lists.{find}
+use Rattle.texts.specs.Digits.{digitsRead, within, faultOf, fixed, decimal}
 
 -- kopecks of one payment or draw
 abbrev pub isAmount : ℕ → Bool

@@ -2,8 +2,8 @@
 use Prim.Native.Nat.{ℕ}
 use mathlib.Core.List.{List}
 use mathlib.Core.Bool.{Bool}
-use Rattle.fields.specs.declared.digits.Digits.{Digits}
-use Rattle.fields.specs.Digits.{rangeRead, within, faultOf}
+use Rattle.texts.specs.declared.digits.Digits.{Digits}
+use Rattle.texts.specs.Digits.{rangeRead, within, faultOf}
 
 abbrev pub isReceipt : ℕ → Bool
 isReceipt = within 1 999999999999999

@@ -1,5 +1,3 @@
-pub mod Lists
-pub mod Digits
 pub mod Amount
 pub mod Codes
 pub mod Number

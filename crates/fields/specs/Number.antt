@@ -6,7 +6,7 @@ use lib.ListN.{length, take, drop, replicate}
 use lib.Dec.{leb, eqb}
 use Rattle.fields.specs.declared.number.Number.{Number}
 use Rattle.fields.specs.declared.number.NumberRead.{NumberRead}
-use Rattle.fields.specs.Lists.{every, eqList}
+use Rattle.texts.specs.Lists.{every, eqList}
 
 -- the bytes that a number may have
 unfoldable pub numberByte : ℕ → Bool

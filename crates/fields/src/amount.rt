@@ -1,12 +1,12 @@
 // Amounts: roubles, with kopecks behind a point or without; held in kopecks.
-use crate::digits;
-use crate::digits::Digits;
-use crate::out;
-use crate::scan;
+use texts::digits;
+use texts::digits::Digits;
+use texts::out;
+use texts::scan;
 ghost use mathlib.Core.Path.{_≡_};
 ghost use lib.ListN.{drop};
 ghost use Rattle.fields.specs.Amount.{isAmount, amountRead, kopecksAfter, kopecksFrom, amountBytes};
-ghost use Rattle.fields.specs.Lists.{written, cursorAfter};
+ghost use Rattle.texts.specs.Lists.{written, cursorAfter};
 
 // Whether kopecks are an amount.
 pub fn is_amount(kopecks: u64) -> bool

@@ -1,6 +1,6 @@
 // Receipts, types and reasons: digit fields with a range.
-use crate::digits;
-use crate::digits::Digits;
+use texts::digits;
+use texts::digits::Digits;
 ghost use mathlib.Core.Path.{_≡_};
 ghost use Rattle.fields.specs.Codes.{isReceipt, receiptRead, isKind, kindRead, isReason, reasonRead};
 

@@ -1,7 +1,4 @@
 // The fields of document 01, read from bytes and written into lent buffers.
 pub mod amount;
 pub mod codes;
-pub mod digits;
 pub mod number;
-pub mod out;
-pub mod scan;

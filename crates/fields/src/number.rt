@@ -1,8 +1,8 @@
 // Numbers of accounts: 1 to 30 bytes, each 0x21 to 0x7E.
-use crate::out;
-use crate::scan;
+use texts::out;
+use texts::scan;
 ghost use mathlib.Core.Path.{_≡_};
-ghost use Rattle.fields.specs.Lists.{every, written, cursorAfter};
+ghost use Rattle.texts.specs.Lists.{every, written, cursorAfter};
 ghost use Rattle.fields.specs.Number.{numberByte, numberText, isNumber, noNumber, numberRead, sameNumber};
 
 // The first `len` bytes count; a number that is read is zero after them.

@@ -7,24 +7,24 @@ use mathlib.Core.List.{List}
 use lib.Dec.{eqb, leb}
 use lib.ListN.{length, getD}
 use borrow.Author.Tests.{not-true, not-false, le-leb, lt-leb}
-use Rattle.fields.specs.Lists.{written, cursorAfter}
+use Rattle.texts.specs.Lists.{written, cursorAfter}
 use Rattle.dates.specs.Date.{isWritten}
 use Rattle.payments.specs.declared.Action.{Action}
 use Rattle.payments.specs.declared.Instruction.{Instruction}
 use Rattle.message.specs.declared.request.Asked.{Asked}
 use Rattle.message.specs.declared.request.RequestRead.{RequestRead}
-use Rattle.fields.specs.declared.digits.Digits.{Digits}
-use Rattle.fields.specs.declared.digits.Digits.the-variants.{Value, Malformed}
+use Rattle.texts.specs.declared.digits.Digits.{Digits}
+use Rattle.texts.specs.declared.digits.Digits.the-variants.{Value, Malformed}
 use Rattle.fields.specs.Amount.{amountRead}
-use Rattle.fields.proofs.Tests.{cond-elim}
-use Rattle.fields.proofs.DigitLaws.{within-high}
+use Rattle.texts.proofs.Tests.{cond-elim}
+use Rattle.texts.proofs.DigitLaws.{within-high}
 use Rattle.fields.proofs.AmountLaws.{amount-within}
 use Rattle.coding.specs.Url.{decoded}
 use Rattle.payments.specs.declared.Action.the-variants.{Check}
-use Rattle.message.specs.declared.action.ActionRead.{ActionRead}
-use Rattle.message.specs.declared.action.ActionRead.the-variants.{Known, Unknown}
-use Rattle.message.specs.Names.{actionOf, hasAccount}
-use Rattle.message.specs.Slots.{Slot, Absent, Holds, Gathered, Broken, Values, gathered}
+use Rattle.parameters.specs.declared.action.ActionRead.{ActionRead}
+use Rattle.parameters.specs.declared.action.ActionRead.the-variants.{Known, Unknown}
+use Rattle.parameters.specs.Names.{actionOf, hasAccount}
+use Rattle.parameters.specs.Slots.{Slot, Absent, Holds, Gathered, Broken, Values, gathered}
 use Rattle.message.specs.Request.{held, fieldOf, valueIn, refused, fieldFault, askedOf, fieldsRead, actionRead, valuesRead, requestRead}
 use Rattle.payments.specs.declared.Answer.{Answer}
 use Rattle.answers.specs.Answer.{answerBytes}

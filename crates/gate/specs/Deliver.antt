@@ -4,7 +4,7 @@ use mathlib.Core.List.{List}
 use mathlib.Core.Bool.{cond}
 use lib.Dec.{leb}
 use lib.ListN.{length}
-use Rattle.fields.specs.Lists.{written, cursorAfter}
+use Rattle.texts.specs.Lists.{written, cursorAfter}
 use Rattle.dates.specs.Date.{isWritten}
 use Rattle.payments.specs.declared.Action.{Action}
 use Rattle.message.specs.declared.request.Asked.{Asked}

@@ -8,10 +8,10 @@ use mathlib.Core.List.{List, [], _∷_}
 use lib.Dec.{eqb, leb}
 use lib.ListN.{length, take}
 use borrow.Author.Tests.{leb-true, le-leb, ne-eqb}
-use Rattle.fields.specs.Lists.{written, cursorAfter}
+use Rattle.texts.specs.Lists.{written, cursorAfter}
 use Rattle.dates.specs.Date.{isWritten}
-use Rattle.fields.proofs.Tests.{cond-elim, no-claim}
-use Rattle.fields.proofs.OutLaws.{cursor-moves, text-back}
+use Rattle.texts.proofs.Tests.{cond-elim, no-claim}
+use Rattle.texts.proofs.OutLaws.{cursor-moves, text-back}
 use Rattle.payments.specs.declared.Action.{Action}
 use Rattle.payments.specs.declared.Action.the-variants.{Check, Payment, Status, Cancel}
 use Rattle.payments.specs.declared.Instruction.{Instruction}

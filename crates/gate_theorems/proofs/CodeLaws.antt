@@ -8,20 +8,20 @@ use mathlib.Core.List.{List, [], _∷_}
 use lib.Dec.{eqb, leb}
 use lib.ListN.{length, getD}
 use borrow.Author.Tests.{eqb-true}
-use Rattle.fields.specs.declared.digits.Digits.{Digits}
-use Rattle.fields.specs.declared.digits.Digits.the-variants.{Value, Malformed}
-use Rattle.fields.specs.Digits.{within, faultOf}
-use Rattle.fields.proofs.DigitLaws.{within-low, within-high}
+use Rattle.texts.specs.declared.digits.Digits.{Digits}
+use Rattle.texts.specs.declared.digits.Digits.the-variants.{Value, Malformed}
+use Rattle.texts.specs.Digits.{within, faultOf}
+use Rattle.texts.proofs.DigitLaws.{within-low, within-high}
 use Rattle.dates.specs.Date.{isWritten, emptyDate}
-use Rattle.fields.proofs.Tests.{and-right, cond-elim, no-claim}
+use Rattle.texts.proofs.Tests.{and-right, cond-elim, no-claim}
 use Rattle.dates.proofs.DateLaws.{written-parts}
 use Rattle.payments.specs.declared.Action.{Action}
 use Rattle.payments.specs.declared.Action.the-variants.{Check, Payment, Status, Cancel}
-use Rattle.message.specs.declared.action.ActionRead.{ActionRead}
-use Rattle.message.specs.declared.action.ActionRead.the-variants.{Known, Unknown}
+use Rattle.parameters.specs.declared.action.ActionRead.{ActionRead}
+use Rattle.parameters.specs.declared.action.ActionRead.the-variants.{Known, Unknown}
 use Rattle.message.specs.declared.request.RequestRead.{RequestRead}
-use Rattle.message.specs.Names.{actionOf}
-use Rattle.message.specs.Slots.{Slot, Absent, Gathered, Broken, Values, gathered}
+use Rattle.parameters.specs.Names.{actionOf}
+use Rattle.parameters.specs.Slots.{Slot, Absent, Gathered, Broken, Values, gathered}
 use Rattle.message.specs.Request.{held, receiptField, numberField, kindField, amountField, dateField, reasonField, refused, firstFault, fieldFault, fieldsRead, actionRead, valuesRead, requestRead}
 use Rattle.payments.specs.declared.Answer.{Answer}
 use Rattle.answers.specs.Answer.{answerBytes}

@@ -13,7 +13,7 @@ use Rattle.fields.specs.Amount.{isAmount}
 use Rattle.fields.specs.Codes.{isKind}
 use Rattle.fields.specs.Number.{isNumber}
 use Rattle.dates.specs.Date.{isWritten}
-use Rattle.fields.proofs.Tests.{cond-elim, no-claim}
+use Rattle.texts.proofs.Tests.{cond-elim, no-claim}
 use Rattle.payments.specs.declared.Instruction.{Instruction}
 use Rattle.message.specs.Request.{requestRead}
 use Rattle.table.specs.declared.Gate.{Gate}

@@ -7,7 +7,7 @@ use mathlib.Core.List.{List, [], _∷_, _++_}
 use lib.Dec.{eqb}
 use lib.ListN.{length, set}
 use borrow.Author.Tests.{leb-false, eqb-true}
-use Rattle.fields.proofs.Tests.{cond-elim}
+use Rattle.texts.proofs.Tests.{cond-elim}
 use Rattle.payments.specs.declared.Action.the-variants.{Payment, Cancel}
 use Rattle.payments.specs.declared.Instruction.{Instruction}
 use Rattle.table.specs.declared.Record.{Record}

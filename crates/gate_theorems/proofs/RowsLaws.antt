@@ -10,15 +10,15 @@ use lib.ListN.{length, take, getD, set, length-append, length-set, List·getD-ap
 use lib.Seq.{getD-at, getD-set-same, getD-set-other}
 use borrow.Author.Tests.{eq-eqb}
 use Rattle.fields.specs.declared.number.Number.{Number}
-use Rattle.fields.specs.Lists.{eqList}
+use Rattle.texts.specs.Lists.{eqList}
 use Rattle.fields.specs.Amount.{isAmount}
 use Rattle.fields.specs.Codes.{isReceipt}
 use Rattle.dates.specs.Date.{isWritten}
-use Rattle.fields.proofs.Tests.{and-left, and-right, and-both}
+use Rattle.texts.proofs.Tests.{and-left, and-right, and-both}
 use Rattle.payments.specs.declared.Details.{Details}
 use Rattle.payments.specs.declared.Instruction.{Instruction}
 use Rattle.payments.specs.declared.Action.the-variants.{Payment}
-use Rattle.message.specs.Names.{hasAccount, hasReceipt, hasDate}
+use Rattle.parameters.specs.Names.{hasAccount, hasReceipt, hasDate}
 use Rattle.message.specs.Request.{requestRead}
 use Rattle.message.proofs.RequestRange.{read-good}
 use Rattle.table.specs.declared.Account.{Account}

@@ -24,8 +24,8 @@ use Rattle.table.specs.Accounts.{isAccount, accountsOf, findAccount, balanceAt}
 use Rattle.fields.specs.declared.number.Number.{Number}
 use Rattle.fields.specs.Amount.{isAmount}
 use Rattle.fields.specs.Codes.{isReceipt}
-use Rattle.fields.proofs.Tests.{and-left, and-right}
-use Rattle.fields.proofs.DigitLaws.{within-high}
+use Rattle.texts.proofs.Tests.{and-left, and-right}
+use Rattle.texts.proofs.DigitLaws.{within-high}
 use Rattle.validity.specs.Valid.{Sound, rangesGood, authcodeGood, recordGood, gateGood, lentGood, tableGood}
 use Rattle.table.proofs.TableLaws.{length-records, getD-records}
 use Rattle.lists.proofs.ListLaws.{search-within, all-at}

@@ -4,7 +4,7 @@ use mathlib.Core.Path.{_≡_}
 use mathlib.Core.Bool.{Bool, true, false, not, _&&_, and-false}
 use lib.Dec.{eqb, leb}
 use borrow.Author.Tests.{le-leb, lt-leb, eq-eqb, ne-eqb, leb-true, eqb-true, not-false}
-use Rattle.fields.proofs.Tests.{both}
+use Rattle.texts.proofs.Tests.{both}
 use Rattle.lists.specs.Lent.{lentWell, Lent}
 
 module _ (used n m k : ℕ) where

@@ -13,7 +13,7 @@ use lib.Seq.{append-snoc, set-at, length-take-le, take-all, take-suc, drop-cons,
 use Rattle.lists.specs.declared.Found.{Found}
 use Rattle.lists.specs.declared.Found.the-variants.{At, Nothing}
 use Rattle.lists.specs.Lists.{tab, firstFrom, isFound, allFrom}
-use Rattle.fields.proofs.Tests.{and-left, and-right, no-claim}
+use Rattle.texts.proofs.Tests.{and-left, and-right, no-claim}
 
 -- ---- tables of a function's values
 

@@ -1,33 +1,31 @@
 -- Laws of the fields of a request.
 use Prim.Native.Nat.{ℕ, suc, _+_, _*_, _≤_, _<_}
 use native.Mathlib.Omega.{arith}
-use mathlib.Core.Path.{_≡_, refl, sym, ap, _∙_}
+use mathlib.Core.Path.{_≡_, refl, sym, _∙_}
 use mathlib.Core.List.{List, [], _∷_}
 use mathlib.Core.Bool.{Bool, true, false, cond, not}
 use lib.Dec.{leb, eqb}
 use lib.ListN.{length, take, drop, length-drop}
 use lib.Seq.{length-take-le}
 use borrow.Author.Tests.{not-true, not-false, leb-true, leb-false}
-use Rattle.fields.specs.declared.digits.Digits.{Digits}
-use Rattle.fields.specs.declared.digits.Digits.the-variants.{Value, Malformed}
-use Rattle.fields.specs.Digits.{digitsRead, rangeRead}
+use Rattle.texts.specs.declared.digits.Digits.{Digits}
+use Rattle.texts.specs.declared.digits.Digits.the-variants.{Value, Malformed}
+use Rattle.texts.specs.Digits.{digitsRead, rangeRead}
 use Rattle.fields.specs.Amount.{kopecksAfter, kopecksFrom, amountOf, amountRead}
 use Rattle.fields.specs.Codes.{receiptRead, kindRead, reasonRead}
-use Rattle.fields.specs.Lists.{find, eqList}
+use Rattle.texts.specs.Lists.{find, eqList}
 use Rattle.fields.specs.Number.{noNumber, numberRead}
 use Rattle.dates.specs.Date.{noDate, dateRead}
-use Rattle.fields.proofs.Tests.{cond-elim}
-use Rattle.fields.proofs.DigitLaws.{read-long}
+use Rattle.texts.proofs.Tests.{cond-elim}
+use Rattle.texts.proofs.DigitLaws.{read-long}
 use Rattle.fields.proofs.NumberLaws.{number-empty, number-long}
 use Rattle.dates.proofs.DateLaws.{date-size}
-use Rattle.fields.proofs.ScanLaws.{find-le, lengths-differ}
+use Rattle.texts.proofs.ScanLaws.{find-le, lengths-differ}
 use Rattle.coding.specs.Url.{hexValue, decoded}
-use Rattle.payments.specs.declared.Action.{Action}
 use Rattle.payments.specs.declared.Action.the-variants.{Check, Payment, Status, Cancel}
-use Rattle.message.specs.declared.action.ActionRead.the-variants.{Known, Unknown}
-use Rattle.message.specs.declared.slots.Text.{Text}
-use Rattle.message.specs.Names.{actionWord, actionOf}
-use Rattle.message.specs.Slots.{Slot, Absent, Holds, clipped, clippedSlot, textSlot}
+use Rattle.parameters.specs.declared.slots.Text.{Text}
+use Rattle.parameters.specs.Names.{actionWord, actionOf}
+use Rattle.parameters.specs.Slots.{Slot, Absent, Holds, clipped, clippedSlot, textSlot}
 use Rattle.message.specs.declared.request.Reader.{Reader}
 use Rattle.message.specs.declared.request.Reader.the-variants.{Receipt, Kind, Amount, Reason}
 use Rattle.message.specs.RequestWalk.{readBy}

@@ -1,10 +1,6 @@
 pub mod Picks
-pub mod SlotLaws
 pub mod FieldLaws
 pub mod RequestLaws
 pub mod PairLaws
 pub mod RequestAgain
-pub mod WriteTexts
-pub mod AskedLaws
-pub mod WriteLaws
 pub mod RequestRange

@@ -8,9 +8,9 @@ use lib.Dec.{eqb, ltb}
 use lib.ListN.{length, drop, replicate, length-append}
 use lib.Seq.{append-snoc, take-append-seam, drop-append-add, getD-append-seam, set-append-seam}
 use borrow.Author.Tests.{eqb-true, ltb-true, ltb-false, lt-ltb}
-use Rattle.fields.specs.Lists.{every, find}
-use Rattle.fields.proofs.Tests.{both}
-use Rattle.fields.proofs.ListLaws.{every-weaker}
+use Rattle.texts.specs.Lists.{every, find}
+use Rattle.texts.proofs.Tests.{both}
+use Rattle.texts.proofs.ListLaws.{every-weaker}
 use Rattle.coding.specs.Url.{isPlain, coded}
 use Rattle.coding.specs.Units.{isByte}
 use Rattle.coding.specs.Params.{pieces}
@@ -18,11 +18,11 @@ use Rattle.coding.proofs.RangeLaws.{above}
 use Rattle.coding.proofs.FindLaws.{tests-differ, find-absent, find-seam, find-both, find-other}
 use Rattle.coding.proofs.ParamLaws.{split-last, split-append}
 use Rattle.coding.proofs.CodedLaws.{coded-marks, decode-coded, coded-well, coded-plain, coded-find}
-use Rattle.message.specs.Names.{nameIndex}
-use Rattle.message.specs.Slots.{Slot, Absent, Holds, Values, addPiece, gatherFrom, gathered}
+use Rattle.parameters.specs.Names.{nameIndex}
+use Rattle.parameters.specs.Slots.{Slot, Absent, Holds, Values, addPiece, gatherFrom, gathered}
 use Rattle.message.specs.Request.{held, fieldOf}
 use Rattle.message.specs.RequestText.{pair, pairIf}
-use Rattle.message.proofs.SlotLaws.{add-some}
+use Rattle.parameters.proofs.SlotLaws.{add-some}
 
 -- ---- pairs
 -- a pair, where it is used: its value has bytes only, and its coded value at most `most`

@@ -7,18 +7,18 @@ use mathlib.Core.List.{List, [], _∷_, append-nil}
 use mathlib.Core.Bool.{Bool, true, false, not, _&&_, _||_}
 use lib.ListN.{length}
 use borrow.Author.Tests.{lt-ltb, le-leb}
-use Rattle.fields.specs.declared.digits.Digits.the-variants.{Value, Malformed}
+use Rattle.texts.specs.declared.digits.Digits.the-variants.{Value, Malformed}
 use Rattle.fields.specs.declared.number.Number.{Number}
-use Rattle.fields.specs.Lists.{every, eqList}
-use Rattle.fields.specs.Digits.{isDigit, within, decimal}
+use Rattle.texts.specs.Lists.{every, eqList}
+use Rattle.texts.specs.Digits.{isDigit, within, decimal}
 use Rattle.fields.specs.Amount.{isAmount, amountRead, amountBytes}
 use Rattle.fields.specs.Codes.{isReceipt, receiptRead, isKind, kindRead, isReason, reasonRead}
 use Rattle.fields.specs.Number.{numberByte, numberText, numberOf, isNumber, noNumber, numberRead}
 use Rattle.dates.specs.Date.{isWritten, emptyDate, noDate, dateRead}
-use Rattle.fields.proofs.Tests.{and-left, and-right, both}
-use Rattle.fields.proofs.ListLaws.{every-weaker}
-use Rattle.fields.proofs.DigitLaws.{within-low, within-high}
-use Rattle.fields.proofs.DecimalLaws.{decimal-digits}
+use Rattle.texts.proofs.Tests.{and-left, and-right, both}
+use Rattle.texts.proofs.ListLaws.{every-weaker}
+use Rattle.texts.proofs.DigitLaws.{within-low, within-high}
+use Rattle.texts.proofs.DecimalLaws.{decimal-digits}
 use Rattle.fields.proofs.CodeLaws.{code-length, receipt-again, kind-again, reason-again}
 use Rattle.fields.proofs.AmountLaws.{amount-again, amount-bytes, amount-length}
 use Rattle.fields.proofs.NumberLaws.{byte-below-256, text-bytes, text-short, number-again}
@@ -28,10 +28,10 @@ use Rattle.coding.specs.Units.{isByte}
 use Rattle.coding.proofs.CodedLaws.{plain-marks, digit-plain, coded-plain, coded-length}
 use Rattle.payments.specs.declared.Action.{Action}
 use Rattle.payments.specs.declared.Action.the-variants.{Check, Payment, Status, Cancel}
-use Rattle.message.specs.declared.action.ActionRead.the-variants.{Known, Unknown}
+use Rattle.parameters.specs.declared.action.ActionRead.the-variants.{Known, Unknown}
 use Rattle.message.specs.declared.request.Asked.{Asked}
-use Rattle.message.specs.Names.{actionName, numberName, kindName, amountName, receiptName, dateName, reasonName, laterIndex, nameIndex, actionWord, actionOf, hasAccount, hasReceipt, hasDate, hasReason}
-use Rattle.message.specs.Slots.{Slot, Values, gathered}
+use Rattle.parameters.specs.Names.{actionName, numberName, kindName, amountName, receiptName, dateName, reasonName, laterIndex, nameIndex, actionWord, actionOf, hasAccount, hasReceipt, hasDate, hasReason}
+use Rattle.parameters.specs.Slots.{Slot, Values, gathered}
 use Rattle.message.specs.Request.{held, fieldOf, unusedNumber, receiptField, numberField, kindField, amountField, dateField, reasonField, firstFault, fieldFault, askedOf, fieldsRead, requestRead}
 use Rattle.message.specs.RequestText.{isAsked, pair, requestBytes, askedAgain}
 use Rattle.message.proofs.PairLaws.{Entry, entry, entrySlot, textOf, slotsFor, sizeOf, named, text-size, gather-all, field-again, plainEntry}

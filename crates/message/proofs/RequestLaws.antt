@@ -1,25 +1,25 @@
 -- Laws of a request, at each way out of its reader.
 use Prim.Native.Nat.{ℕ, _≤_, _<_}
-use mathlib.Core.Path.{_≡_, refl, sym, _∙_}
+use mathlib.Core.Path.{_≡_, refl, _∙_}
 use mathlib.Core.List.{List}
-use mathlib.Core.Bool.{Bool, true, false, cond, not}
+use mathlib.Core.Bool.{Bool, true, false, not}
 use lib.Dec.{eqb}
 use lib.ListN.{length, getD}
 use borrow.Author.Tests.{not-true, not-false, le-leb, lt-leb}
-use Rattle.fields.specs.declared.digits.Digits.{Digits}
-use Rattle.fields.specs.declared.digits.Digits.the-variants.{Value, Malformed}
+use Rattle.texts.specs.declared.digits.Digits.{Digits}
+use Rattle.texts.specs.declared.digits.Digits.the-variants.{Value, Malformed}
 use Rattle.fields.specs.declared.number.Number.{Number}
 use Rattle.fields.specs.declared.number.NumberRead.{NumberRead}
 use Rattle.dates.specs.declared.date.DateRead.{DateRead}
 use Rattle.payments.specs.declared.Action.{Action}
-use Rattle.payments.specs.declared.Action.the-variants.{Check, Payment, Status, Cancel}
-use Rattle.message.specs.declared.action.ActionRead.{ActionRead}
-use Rattle.message.specs.declared.action.ActionRead.the-variants.{Known, Unknown}
+use Rattle.payments.specs.declared.Action.the-variants.{Check}
+use Rattle.parameters.specs.declared.action.ActionRead.{ActionRead}
+use Rattle.parameters.specs.declared.action.ActionRead.the-variants.{Known, Unknown}
 use Rattle.message.specs.declared.request.RequestRead.{RequestRead}
-use Rattle.message.specs.declared.slots.Scan.{Scan}
+use Rattle.parameters.specs.declared.slots.Scan.{Scan}
 use Rattle.dates.specs.Date.{emptyDate}
-use Rattle.message.specs.Names.{actionOf, hasAccount, hasReceipt, hasReason}
-use Rattle.message.specs.Slots.{Slot, Absent, Broken, Values, gathered, slotsIn, scanned}
+use Rattle.parameters.specs.Names.{actionOf, hasAccount, hasReceipt, hasReason}
+use Rattle.parameters.specs.Slots.{Slot, Absent, gathered, slotsIn, scanned}
 use Rattle.message.specs.declared.request.Reader.the-variants.{Receipt, Kind, Amount, Reason}
 use Rattle.message.specs.RequestWalk.{readBy, laterFault, laterRead}
 use Rattle.message.specs.Request.{held, fieldOf, unusedNumber, receiptField, numberField, kindField, amountField, dateField, reasonField, refused, firstFault, fieldFault, askedOf, fieldsRead, requestRead}

@@ -7,29 +7,29 @@ use mathlib.Core.List.{List, _∷_}
 use lib.Dec.{eqb, leb}
 use lib.ListN.{length, getD}
 use borrow.Author.Tests.{eqb-true, eqb-false}
-use Rattle.fields.specs.declared.digits.Digits.{Digits}
-use Rattle.fields.specs.declared.digits.Digits.the-variants.{Value, Malformed}
+use Rattle.texts.specs.declared.digits.Digits.{Digits}
+use Rattle.texts.specs.declared.digits.Digits.the-variants.{Value, Malformed}
 use Rattle.fields.specs.declared.number.NumberRead.{NumberRead}
 use Rattle.dates.specs.declared.date.DateRead.{DateRead}
-use Rattle.fields.specs.Digits.{faultOf}
+use Rattle.texts.specs.Digits.{faultOf}
 use Rattle.fields.specs.Amount.{isAmount, amountRead}
 use Rattle.fields.specs.Codes.{isReceipt, isKind, isReason, receiptRead, kindRead, reasonRead}
 use Rattle.fields.specs.Number.{isNumber, isNumberText, noNumber, numberRead}
 use Rattle.dates.specs.Date.{isWritten, emptyDate, noDate, dateRead}
-use Rattle.fields.proofs.Tests.{cond-elim, no-claim}
-use Rattle.fields.proofs.DigitLaws.{range-within}
+use Rattle.texts.proofs.Tests.{cond-elim, no-claim}
+use Rattle.texts.proofs.DigitLaws.{range-within}
 use Rattle.fields.proofs.AmountLaws.{amount-within}
 use Rattle.fields.proofs.NumberLaws.{text-number}
 use Rattle.dates.proofs.DateLaws.{written-parts}
 use Rattle.coding.specs.Url.{decoded}
 use Rattle.payments.specs.declared.Action.{Action}
 use Rattle.payments.specs.declared.Action.the-variants.{Check}
-use Rattle.message.specs.declared.action.ActionRead.{ActionRead}
-use Rattle.message.specs.declared.action.ActionRead.the-variants.{Known, Unknown}
+use Rattle.parameters.specs.declared.action.ActionRead.{ActionRead}
+use Rattle.parameters.specs.declared.action.ActionRead.the-variants.{Known, Unknown}
 use Rattle.message.specs.declared.request.Asked.{Asked}
 use Rattle.message.specs.declared.request.RequestRead.{RequestRead}
-use Rattle.message.specs.Names.{actionOf, hasAccount, hasReceipt, hasDate, hasReason}
-use Rattle.message.specs.Slots.{Slot, Absent, Holds, Gathered, Broken, Values, gathered}
+use Rattle.parameters.specs.Names.{actionOf, hasAccount, hasReceipt, hasDate, hasReason}
+use Rattle.parameters.specs.Slots.{Slot, Absent, Holds, Gathered, Broken, Values, gathered}
 use Rattle.message.specs.Request.{held, fieldOf, unusedNumber, valueIn, refused, firstFault, fieldFault, askedOf, fieldsRead, actionRead, valuesRead, requestRead}
 use Rattle.message.specs.RequestText.{isAsked}
 

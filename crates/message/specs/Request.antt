@@ -1,11 +1,11 @@
 -- Document 01, "Requests" and the checks under "Gate": what a request asks, or its first fault.
 use Prim.Native.Nat.{ℕ}
 use mathlib.Core.List.{List, [], _∷_}
-use mathlib.Core.Bool.{Bool, true, false, cond}
+use mathlib.Core.Bool.{Bool, true, cond}
 use lib.ListN.{length, getD, replicate}
 use lib.Dec.{leb, eqb}
-use Rattle.fields.specs.declared.digits.Digits.{Digits}
-use Rattle.fields.specs.declared.digits.Digits.the-variants.{Value, Malformed}
+use Rattle.texts.specs.declared.digits.Digits.{Digits}
+use Rattle.texts.specs.declared.digits.Digits.the-variants.{Value, Malformed}
 use Rattle.fields.specs.declared.number.Number.{Number}
 use Rattle.fields.specs.declared.number.NumberRead.{NumberRead}
 use Rattle.dates.specs.declared.date.DateRead.{DateRead}
@@ -15,13 +15,13 @@ use Rattle.fields.specs.Number.{noNumber, numberRead, numberFault}
 use Rattle.dates.specs.Date.{emptyDate, noDate, dateRead, dateFault}
 use Rattle.coding.specs.Url.{decoded}
 use Rattle.payments.specs.declared.Action.{Action}
-use Rattle.payments.specs.declared.Action.the-variants.{Check, Payment, Status, Cancel}
-use Rattle.message.specs.declared.action.ActionRead.{ActionRead}
-use Rattle.message.specs.declared.action.ActionRead.the-variants.{Known, Unknown}
+use Rattle.payments.specs.declared.Action.the-variants.{Check}
+use Rattle.parameters.specs.declared.action.ActionRead.{ActionRead}
+use Rattle.parameters.specs.declared.action.ActionRead.the-variants.{Known, Unknown}
 use Rattle.message.specs.declared.request.Asked.{Asked}
 use Rattle.message.specs.declared.request.RequestRead.{RequestRead}
-use Rattle.message.specs.Names.{actionOf, hasAccount, hasReceipt, hasDate, hasReason}
-use Rattle.message.specs.Slots.{Slot, Absent, Holds, Gathered, Broken, Values, gathered}
+use Rattle.parameters.specs.Names.{actionOf, hasAccount, hasReceipt, hasDate, hasReason}
+use Rattle.parameters.specs.Slots.{Slot, Absent, Holds, Gathered, Broken, Values, gathered}
 
 -- ---- a field of an action
 -- what a reader makes of a value once it is decoded

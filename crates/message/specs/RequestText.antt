@@ -1,16 +1,15 @@
 -- Document 01, "Requests": the text of a request, as the agent writes it.
 use Prim.Native.Nat.{ℕ}
 use mathlib.Core.List.{List, [], _∷_, _++_}
-use mathlib.Core.Bool.{Bool, true, false, cond, not, _&&_, _||_}
-use Rattle.fields.specs.Digits.{decimal}
+use mathlib.Core.Bool.{Bool, cond, not, _&&_, _||_}
+use Rattle.texts.specs.Digits.{decimal}
 use Rattle.fields.specs.Amount.{isAmount, amountBytes}
 use Rattle.fields.specs.Codes.{isReceipt, isKind, isReason}
 use Rattle.fields.specs.Number.{numberText, numberOf, isNumber}
 use Rattle.dates.specs.Date.{isWritten, emptyDate}
 use Rattle.coding.specs.Url.{coded}
-use Rattle.payments.specs.declared.Action.{Action}
 use Rattle.message.specs.declared.request.Asked.{Asked}
-use Rattle.message.specs.Names.{actionName, numberName, kindName, amountName, receiptName, dateName, reasonName, actionWord, hasAccount, hasReceipt, hasDate, hasReason}
+use Rattle.parameters.specs.Names.{actionName, numberName, kindName, amountName, receiptName, dateName, reasonName, actionWord, hasAccount, hasReceipt, hasDate, hasReason}
 use Rattle.message.specs.Request.{unusedNumber}
 
 -- whether the fields that the action has are well formed

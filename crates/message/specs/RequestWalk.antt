@@ -1,18 +1,18 @@
 -- How the code reads the fields of a request, in two halves: no contract above the walk cites it.
 use Prim.Native.Nat.{ℕ}
 use mathlib.Core.List.{List, [], _∷_}
-use mathlib.Core.Bool.{Bool, true, false, cond}
+use mathlib.Core.Bool.{cond}
 use lib.Dec.{eqb}
 use Rattle.fields.specs.declared.number.Number.{Number}
 use Rattle.payments.specs.declared.Action.{Action}
 use Rattle.message.specs.declared.request.RequestRead.{RequestRead}
 use Rattle.message.specs.declared.request.Reader.{Reader}
 use Rattle.message.specs.declared.request.Reader.the-variants.{Receipt, Kind, Amount, Reason}
-use Rattle.fields.specs.declared.digits.Digits.{Digits}
+use Rattle.texts.specs.declared.digits.Digits.{Digits}
 use Rattle.fields.specs.Amount.{amountRead, amountFault}
 use Rattle.dates.specs.Date.{dateFault}
 use Rattle.fields.specs.Codes.{receiptRead, kindRead, reasonRead, reasonFault}
-use Rattle.message.specs.Slots.{Slot}
+use Rattle.parameters.specs.Slots.{Slot}
 use Rattle.message.specs.Request.{amountField, dateField, reasonField, valueIn, refused, firstFault}
 
 -- the four readers of digit fields

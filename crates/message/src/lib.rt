@@ -1,5 +1,2 @@
-// Requests between the ends, read from bytes and written into lent buffers.
-pub mod action;
+// Requests, read from bytes with their first fault.
 pub mod request;
-pub mod slots;
-pub mod write;

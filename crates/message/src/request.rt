@@ -1,27 +1,27 @@
 // Requests: what they ask, or their first fault.
-use crate::action;
+use parameters::action;
 use payments::Action;
-use crate::action::ActionRead;
-use crate::slots;
-use crate::slots::Slots;
+use parameters::action::ActionRead;
+use parameters::slots;
+use parameters::slots::Slots;
 use dates::date;
 use dates::date::DateRead;
 use fields::amount;
 use fields::codes;
-use fields::digits::Digits;
+use texts::digits::Digits;
 use fields::number;
 use fields::number::Number;
 use fields::number::NumberRead;
-use fields::scan;
+use texts::scan;
 ghost use mathlib.Core.Path.{_≡_};
 ghost use Prim.Native.Nat.{_<_};
 ghost use lib.ListN.{getD};
-ghost use Rattle.fields.specs.declared.digits.Digits.the-variants.{Value};
-ghost use Rattle.message.specs.declared.action.ActionRead.the-variants.{Unknown};
-ghost use Rattle.message.specs.Names.{actionOf};
+ghost use Rattle.texts.specs.declared.digits.Digits.the-variants.{Value};
+ghost use Rattle.parameters.specs.declared.action.ActionRead.the-variants.{Unknown};
+ghost use Rattle.parameters.specs.Names.{actionOf};
 ghost use Rattle.message.specs.Request.{held, fieldOf, refused, receiptField, numberField, kindField, amountField, dateField, reasonField, fieldsRead, requestRead};
 ghost use Rattle.message.specs.RequestWalk.{readBy, laterRead};
-ghost use Rattle.message.specs.Slots.{Absent, slotsIn};
+ghost use Rattle.parameters.specs.Slots.{Absent, slotsIn};
 
 // The fields of a request; those that its action lacks are at fixed values, zeros.
 pub struct Asked {

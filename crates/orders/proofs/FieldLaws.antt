@@ -13,9 +13,9 @@ use lib.Dec.{eqb, leb}
 use lib.ListN.{length, take, drop, getD, length-drop, drop-of-length-le}
 use lib.Seq.{take-all, drop-drop}
 use borrow.Author.Tests.{eq-eqb, ne-eqb, not-true, not-false}
-use Rattle.fields.specs.Lists.{find, eqList}
-use Rattle.fields.proofs.ListLaws.{drop-next}
-use Rattle.fields.proofs.ScanLaws.{find-le, from-some}
+use Rattle.texts.specs.Lists.{find, eqList}
+use Rattle.texts.proofs.ListLaws.{drop-next}
+use Rattle.texts.proofs.ScanLaws.{find-le, from-some}
 use Rattle.coding.specs.Params.{splitAt, longer}
 use Rattle.coding.proofs.ParamLaws.{split-first, split-last}
 use Rattle.orders.specs.Order.{spaced, fieldAt, fieldCount, hasLetter, afterSpace, paramsIn}

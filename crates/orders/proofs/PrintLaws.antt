@@ -13,11 +13,11 @@ use lib.Seq.{take-at, length-take-le}
 use mir.Syntax.{w64}
 use mir.Val.{Fits, SFits, toZ, ofZ}
 use borrow.Author.Tests.{eq-eqb, ne-eqb, le-ltb, ltb-true}
-use Rattle.fields.specs.Digits.{fixed, leadZeros, decimal}
-use Rattle.fields.specs.Lists.{written, cursorAfter}
-use Rattle.fields.proofs.Tests.{cond-elim, no-claim}
-use Rattle.fields.proofs.OutLaws.{cursor-moves, written-over, cursor-then, written-then}
-use Rattle.fields.proofs.DecimalLaws.{decimal-size}
+use Rattle.texts.specs.Digits.{fixed, leadZeros, decimal}
+use Rattle.texts.specs.Lists.{written, cursorAfter}
+use Rattle.texts.proofs.Tests.{cond-elim, no-claim}
+use Rattle.texts.proofs.OutLaws.{cursor-moves, written-over, cursor-then, written-then}
+use Rattle.texts.proofs.DecimalLaws.{decimal-size}
 use Rattle.table.specs.declared.Gate.{Gate}
 use Rattle.table.specs.Accounts.{accountsOf}
 use Rattle.table.proofs.SignedLaws.{small, back}

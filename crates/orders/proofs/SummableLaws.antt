@@ -12,16 +12,16 @@ use lib.ListN.{length, getD, set, replicate, length-set}
 use borrow.Author.Tests.{leb-false, not-true}
 use Rattle.dates.specs.declared.calendar.DayRead.{DayRead}
 use Rattle.dates.specs.declared.calendar.DayRead.the-variants.{Good, NoDate}
-use Rattle.fields.specs.declared.digits.Digits.{Digits}
-use Rattle.fields.specs.declared.digits.Digits.the-variants.{Value, Malformed}
+use Rattle.texts.specs.declared.digits.Digits.{Digits}
+use Rattle.texts.specs.declared.digits.Digits.the-variants.{Value, Malformed}
 use Rattle.fields.specs.declared.number.Number.{Number}
-use Rattle.fields.specs.Digits.{digitsRead}
+use Rattle.texts.specs.Digits.{digitsRead}
 use Rattle.fields.specs.Amount.{isAmount}
 use Rattle.fields.specs.Codes.{isKind, kindRead}
 use Rattle.fields.specs.Number.{isNumber, numberRead}
 use Rattle.dates.specs.Calendar.{dayRead}
 use Rattle.dates.specs.Date.{dateRead}
-use Rattle.fields.proofs.Tests.{and-right, cond-elim}
+use Rattle.texts.proofs.Tests.{and-right, cond-elim}
 use Rattle.payments.specs.declared.Instruction.{Instruction}
 use Rattle.message.specs.Request.{requestRead}
 use Rattle.lists.specs.declared.Found.{Found}

@@ -10,10 +10,10 @@ use Rattle.dates.specs.declared.calendar.Day.{Day}
 use Rattle.dates.specs.declared.calendar.DayRead.{DayRead}
 use Rattle.dates.specs.declared.calendar.DayRead.the-variants.{Good, NoDate}
 use Rattle.dates.specs.declared.date.DateRead.{DateRead}
-use Rattle.fields.specs.declared.digits.Digits.{Digits}
-use Rattle.fields.specs.declared.digits.Digits.the-variants.{Value, Malformed}
+use Rattle.texts.specs.declared.digits.Digits.{Digits}
+use Rattle.texts.specs.declared.digits.Digits.the-variants.{Value, Malformed}
 use Rattle.fields.specs.declared.number.NumberRead.{NumberRead}
-use Rattle.fields.specs.Digits.{digitsRead}
+use Rattle.texts.specs.Digits.{digitsRead}
 use Rattle.fields.specs.Codes.{kindRead}
 use Rattle.fields.specs.Number.{numberRead}
 use Rattle.dates.specs.Calendar.{dayRead}

@@ -7,10 +7,10 @@ use lib.IntN.{ℤ, pos, negsuc, _+ℤ_}
 use lib.ListN.{length, drop, getD, replicate}
 use Rattle.dates.specs.declared.calendar.DayRead.{DayRead}
 use Rattle.dates.specs.declared.calendar.DayRead.the-variants.{Good, NoDate}
-use Rattle.fields.specs.declared.digits.Digits.{Digits}
-use Rattle.fields.specs.declared.digits.Digits.the-variants.{Value, Malformed}
-use Rattle.fields.specs.Lists.{find, eqList}
-use Rattle.fields.specs.Digits.{digitsRead, decimal}
+use Rattle.texts.specs.declared.digits.Digits.{Digits}
+use Rattle.texts.specs.declared.digits.Digits.the-variants.{Value, Malformed}
+use Rattle.texts.specs.Lists.{find, eqList}
+use Rattle.texts.specs.Digits.{digitsRead, decimal}
 use Rattle.fields.specs.Codes.{kindRead}
 use Rattle.fields.specs.Number.{numberRead}
 use Rattle.dates.specs.Calendar.{dayFault, dayRead}

@@ -4,7 +4,7 @@ use mathlib.Core.List.{List, [], _∷_, _++_}
 use Prim.Native.Nat.{ℕ, _<_, _≤_}
 use lib.Signed.{mag}
 use lib.ListN.{length}
-use Rattle.fields.specs.Digits.{decimal}
+use Rattle.texts.specs.Digits.{decimal}
 use Rattle.table.specs.declared.Gate.{Gate}
 use Rattle.table.specs.Accounts.{balanceAt}
 

@@ -1,5 +1,5 @@
 // The fields of a line, split by every space.
-use fields::scan;
+use texts::scan;
 ghost use mathlib.Core.Path.{_≡_};
 ghost use mathlib.Core.Bool.{cond, _&&_};
 ghost use lib.Dec.{eqb, leb};

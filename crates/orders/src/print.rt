@@ -1,8 +1,8 @@
 // What a line prints.
 use crate::sums;
-use fields::digits;
-use fields::out;
-use fields::scan;
+use texts::digits;
+use texts::out;
+use texts::scan;
 use table::Gate;
 ghost use mathlib.Core.Path.{_≡_};
 ghost use mathlib.Core.List.{[], _∷_};
@@ -11,8 +11,8 @@ ghost use Prim.Native.Nat.{_≤_};
 ghost use lib.Dec.{eqb};
 ghost use lib.IntN.{natAbs};
 ghost use lib.ListN.{length};
-ghost use Rattle.fields.specs.Digits.{decimal};
-ghost use Rattle.fields.specs.Lists.{written, cursorAfter};
+ghost use Rattle.texts.specs.Digits.{decimal};
+ghost use Rattle.texts.specs.Lists.{written, cursorAfter};
 ghost use Rattle.orders.specs.Order.{signedText, figures};
 ghost use Rattle.orders.specs.Sums.{Summable, countsText};
 

@@ -3,7 +3,7 @@ use Prim.Native.Nat.{ℕ, suc, _+_, _-_, _≤_, _<_}
 use native.Mathlib.Omega.{arith}
 use mathlib.Core.Path.{_≡_, sym, _∙_}
 use mathlib.Core.List.{List}
-use mathlib.Core.Bool.{Bool, true, false, cond, not, _&&_, and-false, and-assoc, and-true}
+use mathlib.Core.Bool.{Bool, true, false, cond, not, _&&_, and-assoc, and-true}
 use lib.Dec.{ltb}
 use lib.ListN.{length, take, drop, length-drop, drop-of-length-le}
 use lib.Seq.{drop-drop}
@@ -11,8 +11,8 @@ use borrow.Author.Tests.{le-leb, lt-leb, not-true, not-false}
 use Rattle.dates.specs.declared.calendar.Day.{Day}
 use Rattle.dates.specs.Calendar.{onDay}
 use Rattle.dates.specs.Date.{dateDay}
-use Rattle.registry.specs.declared.line.LineRead.{LineRead}
-use Rattle.registry.specs.Line.{lineRead}
+use Rattle.lines.specs.declared.line.LineRead.{LineRead}
+use Rattle.lines.specs.Line.{lineRead}
 use Rattle.registry.specs.Registry.{lineEnd, splitLines, countOf, lineCount, goodLine, goodLines, heldLines, registryLines, rising, registryFault}
 use Rattle.registry.proofs.SplitLaws.{end-room, count-line, count-rest, good-line, good-rest, held-line}
 

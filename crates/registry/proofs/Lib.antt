@@ -1,7 +1,3 @@
-pub mod LineLaws
-pub mod LineParts
-pub mod LineAgain
-pub mod WriteLaws
 pub mod SplitLaws
 pub mod CheckLaws
 pub mod TextAgain

@@ -8,23 +8,23 @@ use lib.Dec.{leb}
 use lib.ListN.{length}
 use borrow.Author.Tests.{leb-true}
 use Rattle.dates.specs.declared.calendar.Day.{Day}
-use Rattle.fields.specs.declared.digits.Digits.{Digits}
-use Rattle.fields.specs.declared.digits.Digits.the-variants.{Value, Malformed}
+use Rattle.texts.specs.declared.digits.Digits.{Digits}
+use Rattle.texts.specs.declared.digits.Digits.the-variants.{Value, Malformed}
 use Rattle.fields.specs.declared.number.NumberRead.{NumberRead}
 use Rattle.dates.specs.declared.date.DateRead.{DateRead}
 use Rattle.fields.specs.Amount.{isAmount, amountRead}
 use Rattle.fields.specs.Codes.{isReceipt, receiptRead, isKind, kindRead}
 use Rattle.fields.specs.Number.{isNumber, isNumberText, noNumber, numberRead}
 use Rattle.dates.specs.Date.{isWritten, noDate, dateRead}
-use Rattle.fields.proofs.Tests.{both, cond-elim, no-claim}
-use Rattle.fields.proofs.DigitLaws.{range-within}
+use Rattle.texts.proofs.Tests.{both, cond-elim, no-claim}
+use Rattle.texts.proofs.DigitLaws.{range-within}
 use Rattle.fields.proofs.AmountLaws.{amount-within}
 use Rattle.fields.proofs.NumberLaws.{text-number}
-use Rattle.registry.specs.declared.line.LineRead.{LineRead}
-use Rattle.registry.specs.Line.{field, afterField, noLine, lineOf, lineRead, isLine}
+use Rattle.lines.specs.declared.line.LineRead.{LineRead}
+use Rattle.lines.specs.Line.{field, afterField, noLine, lineOf, lineRead, isLine}
 use Rattle.registry.specs.Registry.{splitLines, countOf, lineCount, goodLine, goodLines, heldLines, registryLines, rising, registryFault}
-use Rattle.registry.specs.RegistryText.{lineOn, everyLine}
-use Rattle.registry.proofs.LineParts.{line-is}
+use Rattle.registry.specs.Registry.{lineOn, everyLine}
+use Rattle.lines.proofs.LineParts.{line-is}
 use Rattle.registry.proofs.SplitLaws.{count-more, good-more}
 use Rattle.registry.proofs.TextAgain.{on-line}
 

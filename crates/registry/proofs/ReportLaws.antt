@@ -7,8 +7,8 @@ use mathlib.Core.Bool.{Bool, true, false, _||_, and-false}
 use lib.Dec.{leb, eqb}
 use lib.ListN.{length, getD, drop}
 use borrow.Author.Tests.{le-leb, lt-leb, eq-eqb, ne-eqb, eqb-true, eqb-false}
-use Rattle.fields.specs.Lists.{every}
-use Rattle.fields.proofs.ListLaws.{every-step, every-fails, every-all}
+use Rattle.texts.specs.Lists.{every}
+use Rattle.texts.proofs.ListLaws.{every-step, every-fails, every-all}
 use Rattle.registry.specs.Report.{isMark, isReport}
 
 module _ (b : ℕ) where

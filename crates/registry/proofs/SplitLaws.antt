@@ -8,11 +8,11 @@ use mathlib.Core.Bool.{Bool, true, false, cond, _&&_}
 use lib.Dec.{eqb}
 use lib.ListN.{length, getD, take, drop, drop-of-length-le}
 use borrow.Author.Tests.{eq-eqb, ne-eqb}
-use Rattle.fields.proofs.ListLaws.{drop-next}
-use Rattle.registry.specs.Line.{lineRead}
+use Rattle.texts.proofs.ListLaws.{drop-next}
+use Rattle.lines.specs.Line.{lineRead}
 use Rattle.registry.specs.Registry.{lineEnd, onto, splitLines, countOf, lineCount, goodLine, goodLines, heldLines}
 use Rattle.dates.specs.declared.calendar.Day.{Day}
-use Rattle.fields.proofs.Tests.{cond-elim}
+use Rattle.texts.proofs.Tests.{cond-elim}
 
 -- ---- the two bytes of a line's end
 module _ (b c : ℕ) where

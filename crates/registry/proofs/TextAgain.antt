@@ -10,16 +10,16 @@ use lib.ListN.{length, take, drop, length-append}
 use lib.Seq.{take-append-seam, drop-append-add}
 use borrow.Author.Tests.{le-leb, not-true}
 use Rattle.dates.specs.declared.calendar.Day.{Day}
-use Rattle.fields.specs.Lists.{every}
+use Rattle.texts.specs.Lists.{every}
 use Rattle.dates.specs.Calendar.{onDay}
 use Rattle.dates.specs.Date.{dateDay}
-use Rattle.fields.proofs.Tests.{both}
-use Rattle.registry.specs.declared.line.Line.{Line}
-use Rattle.registry.specs.Line.{isLine, lineRead, lineBody, lineBytes, lineAgain}
+use Rattle.texts.proofs.Tests.{both}
+use Rattle.lines.specs.declared.line.Line.{Line}
+use Rattle.lines.specs.Line.{isLine, lineRead, lineBody, lineBytes, lineAgain}
 use Rattle.registry.specs.Registry.{lineEnd, splitLines, countOf, lineCount, goodLine, goodLines, heldLines, registryLines, rising, registryFault, registryBytes}
-use Rattle.registry.specs.RegistryText.{lineOn, everyLine}
-use Rattle.registry.proofs.LineParts.{line-length}
-use Rattle.registry.proofs.LineAgain.{other, body-other, line-again}
+use Rattle.registry.specs.Registry.{lineOn, everyLine}
+use Rattle.lines.proofs.LineParts.{line-length}
+use Rattle.lines.proofs.LineAgain.{other, body-other, line-again}
 use Rattle.registry.proofs.SplitLaws.{held-line, count-line, good-line}
 
 -- what the test of a day's line says

@@ -1,4 +1,2 @@
-pub mod Line
 pub mod Registry
-pub mod RegistryText
 pub mod Report

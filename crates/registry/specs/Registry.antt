@@ -6,8 +6,8 @@ use lib.Dec.{leb, ltb, eqb}
 use Rattle.dates.specs.declared.calendar.Day.{Day}
 use Rattle.dates.specs.Calendar.{onDay}
 use Rattle.dates.specs.Date.{dateDay}
-use Rattle.registry.specs.declared.line.Line.{Line}
-use Rattle.registry.specs.Line.{lineRead, lineBytes}
+use Rattle.lines.specs.declared.line.Line.{Line}
+use Rattle.lines.specs.Line.{lineRead, lineBytes}
 
 -- where the first line ends: the index of the first 0D that a 0A follows, or the length
 unfoldable pub lineEnd : List ℕ → ℕ
@@ -70,3 +70,11 @@ registryFault day s =
 unfoldable pub registryBytes : List Line → List ℕ
 registryBytes [] = []
 registryBytes (x ∷ xs) = lineBytes x ++ registryBytes xs
+
+-- ---- the lists of lines that a registry of the day may hold
+unfoldable pub lineOn : Day → Line → Bool
+lineOn day x = isLine x && onDay day (dateDay (x .date))
+
+unfoldable pub everyLine : Day → List Line → Bool
+everyLine day [] = true
+everyLine day (x ∷ xs) = lineOn day x && everyLine day xs

@@ -4,7 +4,7 @@ use mathlib.Core.List.{List}
 use mathlib.Core.Bool.{Bool, _&&_, _||_}
 use lib.ListN.{length}
 use lib.Dec.{eqb}
-use Rattle.fields.specs.Lists.{every}
+use Rattle.texts.specs.Lists.{every}
 
 abbrev pub isMark : ℕ → Bool
 isMark b = eqb b 48 || eqb b 49

@@ -1,4 +1,3 @@
 // The texts of the day's end: registries and their reports.
-pub mod line;
 pub mod report;
 pub mod text;

@@ -1,9 +1,9 @@
 // The text of a registry: lines ended by 0D 0A.
-use crate::line;
-use crate::line::LineRead;
+use lines::line;
+use lines::line::LineRead;
 use dates::calendar::Day;
 use dates::date;
-use fields::scan;
+use texts::scan;
 ghost use Prim.Native.Nat.{_+_};
 ghost use mathlib.Core.Path.{_≡_};
 ghost use mathlib.Core.Bool.{_&&_, cond};
@@ -11,7 +11,7 @@ ghost use lib.Dec.{ltb, eqb};
 ghost use lib.ListN.{take, drop};
 ghost use Rattle.dates.specs.Calendar.{onDay};
 ghost use Rattle.dates.specs.Date.{dateDay};
-ghost use Rattle.registry.specs.Line.{lineRead};
+ghost use Rattle.lines.specs.Line.{lineRead};
 ghost use Rattle.registry.specs.Registry.{lineEnd, lineCount, registryFault};
 
 // Whether two bytes are 0D 0A.

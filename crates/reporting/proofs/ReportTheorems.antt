@@ -12,8 +12,8 @@ use borrow.Author.Tests.{eqb-true, ltb-true, ltb-false, not-true}
 use Rattle.dates.specs.declared.calendar.Day.{Day}
 use Rattle.dates.specs.Calendar.{isDay, dayBefore, sameDay, onDay}
 use Rattle.dates.specs.Date.{dateDay}
-use Rattle.fields.specs.Lists.{every}
-use Rattle.fields.proofs.Tests.{and-left, and-right, cond-elim, no-claim}
+use Rattle.texts.specs.Lists.{every}
+use Rattle.texts.proofs.Tests.{and-left, and-right, cond-elim, no-claim}
 use Rattle.lists.specs.Lent.{Lent}
 use Rattle.lists.proofs.ColumnLaws.{column-size, column-at}
 use Rattle.lists.proofs.LentLaws.{lent-facts, facts-lent}

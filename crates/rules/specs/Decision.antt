@@ -2,7 +2,7 @@
 use Prim.Native.Nat.{ℕ}
 use mathlib.Core.Bool.{Bool, cond, _||_}
 use lib.Dec.{eqb}
-use Rattle.fields.specs.Digits.{within}
+use Rattle.texts.specs.Digits.{within}
 use Rattle.payments.specs.declared.Action.{Action}
 use Rattle.payments.specs.declared.Action.the-variants.{Check, Payment, Status, Cancel}
 use Rattle.rules.specs.declared.decision.Standing.{Standing}

@@ -10,7 +10,7 @@ use borrow.Author.Tests.{le-ltb, ltb-true}
 use mir.Syntax.{w64}
 use mir.Val.{Fits, SFits, toZ, ofZ}
 use mir.Facts.{fits-natAbs}
-use Rattle.fields.proofs.Tests.{no-claim}
+use Rattle.texts.proofs.Tests.{no-claim}
 use Rattle.table.proofs.SignedLaws.{small, back, back-pos, mag-down}
 
 not-below : (z : ℤ) → ltZ z (pos 0) ≡ false → T (nonNeg z)

@@ -7,8 +7,8 @@ use lib.ListN.{length, take, drop, length-take, length-drop}
 use lib.Seq.{length-take-le}
 use mir.Syntax.{w64}
 use mir.Val.{Fits}
-use Rattle.fields.specs.Lists.{find}
-use Rattle.fields.proofs.ScanLaws.{find-le}
+use Rattle.texts.specs.Lists.{find}
+use Rattle.texts.proofs.ScanLaws.{find-le}
 
 -- ---- where a line ends
 module _ (s : List ℕ) (at e : ℕ) (h : at < length s) (ee : e ≡ find 10 (take (length s - at) (drop at s))) where

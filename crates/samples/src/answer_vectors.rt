@@ -6,13 +6,13 @@ use payments::Answer;
 use answers::answer::AnswerRead;
 use answers::read;
 use answers::write;
-use fields::digits;
-use fields::digits::Digits;
-use fields::out;
-use fields::scan;
-use message::action;
+use texts::digits;
+use texts::digits::Digits;
+use texts::out;
+use texts::scan;
+use parameters::action;
 use payments::Action;
-use message::action::ActionRead;
+use parameters::action::ActionRead;
 
 // The answer to an action.
 pub fn answer(s: &[u8]) {

@@ -2,14 +2,14 @@
 use crate::given;
 use crate::show;
 use crate::split;
-use fields::digits;
-use fields::digits::Digits;
-use fields::scan;
-use message::action;
+use texts::digits;
+use texts::digits::Digits;
+use texts::scan;
+use parameters::action;
 use payments::Action;
-use message::action::ActionRead;
+use parameters::action::ActionRead;
 use message::request::Asked;
-use message::write;
+use request_writer::write;
 
 // The fields of a request, split by spaces: number, type, kopecks, receipt, date and reason.
 fn fields_of(action: Action, s: &[u8]) -> Asked {

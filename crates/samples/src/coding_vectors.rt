@@ -4,7 +4,7 @@ use crate::split;
 use coding::params;
 use coding::params::Method;
 use coding::url;
-use fields::scan;
+use texts::scan;
 
 // The parameters of `GET` and a target, or of `POST` and a body, in brackets.
 pub fn parameters(s: &[u8]) {

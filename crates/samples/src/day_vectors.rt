@@ -4,7 +4,7 @@ use crate::split;
 use dates::calendar;
 use dates::calendar::DayRead;
 use dates::date;
-use fields::scan;
+use texts::scan;
 
 // A day, or the words for none.
 fn show_day(r: DayRead, none: &[u8]) {

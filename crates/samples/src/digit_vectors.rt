@@ -2,8 +2,8 @@
 use crate::show;
 use fields::amount::read_amount;
 use fields::codes;
-use fields::digits;
-use fields::digits::Digits;
+use texts::digits;
+use texts::digits::Digits;
 
 // The value of up to twenty digits.
 pub fn digits20(s: &[u8]) {

@@ -3,11 +3,11 @@ use crate::split;
 use dates::calendar;
 use dates::calendar::Day;
 use dates::calendar::DayRead;
-use fields::digits;
-use fields::digits::Digits;
+use texts::digits;
+use texts::digits::Digits;
 use fields::number::Number;
-use fields::out;
-use fields::scan;
+use texts::out;
+use texts::scan;
 
 // The value of the digits before the first space; 0 where there are none.
 pub fn value(s: &[u8]) -> u64 {

@@ -18,7 +18,7 @@ mod words;
 mod world;
 mod write_vectors;
 
-use fields::scan;
+use texts::scan;
 use world::World;
 ghost use Prim.Native.Nat.{_<_, _≤_};
 ghost use lib.ListN.{length};

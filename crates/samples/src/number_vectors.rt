@@ -2,7 +2,7 @@
 use crate::show;
 use crate::split;
 use fields::number::read_number;
-use fields::scan;
+use texts::scan;
 
 // The length, and the number written back.
 pub fn number(s: &[u8]) {

@@ -2,11 +2,11 @@
 use crate::given;
 use crate::show;
 use crate::split;
-use fields::digits;
-use fields::digits::Digits;
-use fields::out;
-use fields::scan;
-use registry::line::Line;
+use texts::digits;
+use texts::digits::Digits;
+use texts::out;
+use texts::scan;
+use lines::line::Line;
 use registry::report;
 use registry::text;
 

@@ -1,12 +1,12 @@
 // Requests, read.
 use crate::show;
 use crate::split;
-use fields::digits;
-use fields::digits::Digits;
+use texts::digits;
+use texts::digits::Digits;
 use fields::number::Number;
-use fields::out;
-use fields::scan;
-use message::action;
+use texts::out;
+use texts::scan;
+use parameters::action;
 use payments::Action;
 use message::request::Asked;
 use message::request::RequestRead;

@@ -1,8 +1,8 @@
 // Answers, printed.
 use dates::calendar::Day;
-use fields::digits::Digits;
+use texts::digits::Digits;
 use fields::number::Number;
-use fields::scan;
+use texts::scan;
 
 // Writes a text as it is.
 pub fn text(s: &[u8]) {

@@ -1,5 +1,5 @@
 // A text in two at its first space.
-use fields::scan;
+use texts::scan;
 
 // What stands before the first space, or all.
 pub fn head(s: &[u8]) -> &[u8] {

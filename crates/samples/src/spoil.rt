@@ -2,7 +2,7 @@
 use crate::given;
 use crate::split;
 use crate::world::World;
-use fields::scan;
+use texts::scan;
 use table::Gate;
 use table::Record;
 use table::rows;

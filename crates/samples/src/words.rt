@@ -14,7 +14,7 @@ use crate::spoil;
 use crate::world;
 use crate::world::World;
 use crate::write_vectors;
-use fields::scan;
+use texts::scan;
 
 // Runs a word that keeps no state.
 fn answer_alone(word: &[u8], text: &[u8]) {

@@ -2,10 +2,10 @@
 use crate::show;
 use crate::split;
 use fields::amount;
-use fields::digits;
-use fields::digits::Digits;
-use fields::out;
-use fields::scan;
+use texts::digits;
+use texts::digits::Digits;
+use texts::out;
+use texts::scan;
 
 // The kopecks in s, written as an amount.
 pub fn write_amount(s: &[u8]) {

@@ -2,7 +2,7 @@
 use console::feed;
 use console::feed::Part;
 use console::gather;
-use fields::scan;
+use texts::scan;
 ghost use mathlib.Core.Path.{_≡_};
 ghost use lib.ListN.{length};
 ghost use Rattle.orders.specs.Sums.{Summable};

@@ -5,9 +5,9 @@ use mathlib.Core.Path.{_≡_, refl, sym, ap, _∙_}
 use mathlib.Core.List.{List, [], _∷_}
 use lib.ListN.{length, length-map}
 use Rattle.dates.specs.declared.calendar.Day.{Day}
-use Rattle.fields.specs.Lists.{over, written}
-use Rattle.fields.proofs.OutLaws.{written-over}
-use Rattle.registry.specs.declared.line.Line.{Line}
+use Rattle.texts.specs.Lists.{over, written}
+use Rattle.texts.proofs.OutLaws.{written-over}
+use Rattle.lines.specs.declared.line.Line.{Line}
 use Rattle.table.specs.declared.Gate.{Gate}
 use Rattle.table.specs.declared.Record.{Record}
 use Rattle.table.specs.Table.{Rows, recordsOf, rowsFrom}

@@ -12,8 +12,8 @@ use lib.ListN.{length, getD, set, drop, length-set, length-append, length-map, L
 use lib.Seq.{getD-at, getD-set-same, getD-set-other, drop-append-add, drop-drop}
 use borrow.Author.Tests.{leb-false, not-true, not-false}
 use Rattle.dates.specs.declared.calendar.Day.{Day}
-use Rattle.fields.proofs.Tests.{cond-elim}
-use Rattle.registry.specs.declared.line.Line.{Line}
+use Rattle.texts.proofs.Tests.{cond-elim}
+use Rattle.lines.specs.declared.line.Line.{Line}
 use Rattle.table.specs.declared.Account.{Account}
 use Rattle.table.specs.declared.Gate.{Gate}
 use Rattle.table.specs.declared.Record.{Record}

@@ -6,20 +6,20 @@ use mathlib.Core.Bool.{Bool, true, false, cond, _&&_, _||_}
 use mathlib.Core.List.{List, [], _∷_}
 use lib.ListN.{length, take, drop, length-drop, drop-of-length-le}
 use lib.Seq.{drop-drop}
-use Rattle.fields.specs.declared.digits.Digits.{Digits}
-use Rattle.fields.specs.declared.digits.Digits.the-variants.{Value, Malformed}
+use Rattle.texts.specs.declared.digits.Digits.{Digits}
+use Rattle.texts.specs.declared.digits.Digits.the-variants.{Value, Malformed}
 use Rattle.fields.specs.declared.number.NumberRead.{NumberRead}
 use Rattle.dates.specs.declared.date.DateRead.{DateRead}
 use Rattle.fields.specs.Amount.{amountRead}
 use Rattle.fields.specs.Codes.{receiptRead, kindRead}
 use Rattle.fields.specs.Number.{numberRead}
 use Rattle.dates.specs.Date.{dateRead}
-use Rattle.fields.proofs.Tests.{cond-elim}
+use Rattle.texts.proofs.Tests.{cond-elim}
 use Rattle.fields.proofs.AmountLaws.{amount-within}
-use Rattle.fields.proofs.DigitLaws.{within-high}
-use Rattle.registry.specs.declared.line.Line.{Line}
-use Rattle.registry.specs.declared.line.LineRead.{LineRead}
-use Rattle.registry.specs.Line.{field, afterField, noLine, lineOf, lineRead}
+use Rattle.texts.proofs.DigitLaws.{within-high}
+use Rattle.lines.specs.declared.line.Line.{Line}
+use Rattle.lines.specs.declared.line.LineRead.{LineRead}
+use Rattle.lines.specs.Line.{field, afterField, noLine, lineOf, lineRead}
 use Rattle.registry.specs.Registry.{lineEnd, splitLines, lineCount, heldLines, registryLines}
 use Rattle.registry.proofs.SplitLaws.{end-room, held-line, held-rest, count-line}
 use Rattle.table.specs.declared.Gate.{Gate}

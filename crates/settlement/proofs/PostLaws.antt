@@ -9,7 +9,7 @@ use lib.ListN.{length, getD}
 use lib.Dec.{leb}
 use borrow.Author.Tests.{eq-eqb, ne-eqb, leb-false}
 use Rattle.fields.specs.declared.number.Number.{Number}
-use Rattle.registry.specs.declared.line.Line.{Line}
+use Rattle.lines.specs.declared.line.Line.{Line}
 use Rattle.table.specs.declared.Gate.{Gate}
 use Rattle.table.specs.declared.Record.{Record}
 use Rattle.lists.specs.declared.Found.{Found}

@@ -9,11 +9,11 @@ use lib.Dec.{eqb}
 use lib.ListN.{length, getD, take, drop, set, length-set, drop-of-length-le}
 use lib.Seq.{drop-cons}
 use borrow.Author.Tests.{eq-eqb, ne-eqb}
-use Rattle.fields.specs.Lists.{over}
-use Rattle.fields.proofs.OutLaws.{over-step, over-none}
-use Rattle.registry.specs.declared.line.Line.{Line}
-use Rattle.registry.specs.declared.line.LineRead.{LineRead}
-use Rattle.registry.specs.Line.{lineRead}
+use Rattle.texts.specs.Lists.{over}
+use Rattle.texts.proofs.OutLaws.{over-step, over-none}
+use Rattle.lines.specs.declared.line.Line.{Line}
+use Rattle.lines.specs.declared.line.LineRead.{LineRead}
+use Rattle.lines.specs.Line.{lineRead}
 use Rattle.registry.specs.Registry.{lineEnd, lineCount, registryLines}
 use Rattle.table.specs.declared.Record.{Record}
 use Rattle.table.specs.Table.{Rows, recordAt, recordsOf}

@@ -8,13 +8,13 @@ use lib.Dec.{eqb}
 use lib.ListN.{length}
 use borrow.Author.Tests.{le-leb, lt-leb, eq-eqb, ne-eqb, not-true, not-false}
 use Rattle.dates.specs.declared.calendar.Day.{Day}
-use Rattle.fields.specs.Lists.{over}
+use Rattle.texts.specs.Lists.{over}
 use Rattle.dates.specs.Calendar.{isDay, dayBefore, nextDay, onDay}
 use Rattle.fields.specs.Amount.{isAmount}
 use Rattle.fields.specs.Codes.{isReceipt}
 use Rattle.dates.specs.Date.{isWritten}
-use Rattle.fields.proofs.Tests.{and-left, and-right}
-use Rattle.fields.proofs.DigitLaws.{within-high}
+use Rattle.texts.proofs.Tests.{and-left, and-right}
+use Rattle.texts.proofs.DigitLaws.{within-high}
 use Rattle.registry.specs.Registry.{registryLines, registryFault, lineCount}
 use Rattle.registry.proofs.LinesGood.{lines-good}
 use Rattle.table.specs.declared.Gate.{Gate}

@@ -3,7 +3,7 @@ use crate::verdict;
 use crate::verdict::Verdict;
 use ledger::change;
 use payments::Details;
-use registry::line::Line;
+use lines::line::Line;
 use table::Gate;
 use table::Record;
 use table::accounts;

@@ -1,6 +1,6 @@
 // The report: a byte for each line, 1 where it stands done in the table.
 use crate::matching;
-use registry::line::Line;
+use lines::line::Line;
 use registry::text;
 use table::Record;
 use table::rows;
@@ -8,7 +8,7 @@ ghost use mathlib.Core.Path.{_≡_};
 ghost use mathlib.Core.Bool.{_&&_, cond};
 ghost use Prim.Native.Nat.{_≤_};
 ghost use lib.ListN.{length};
-ghost use Rattle.fields.specs.Lists.{over};
+ghost use Rattle.texts.specs.Lists.{over};
 ghost use Rattle.registry.specs.Registry.{lineCount, registryLines};
 ghost use Rattle.table.specs.Table.{recordsOf};
 ghost use Rattle.table.specs.Lent.{before};

@@ -13,8 +13,8 @@ use borrow.Author.Tests.{eq-eqb, ne-eqb}
 use Rattle.dates.specs.declared.calendar.Day.{Day}
 use Rattle.fields.specs.declared.number.Number.{Number}
 use Rattle.dates.specs.Calendar.{nextDay, onDay}
-use Rattle.fields.proofs.Tests.{cond-elim, no-claim}
-use Rattle.registry.specs.declared.line.Line.{Line}
+use Rattle.texts.proofs.Tests.{cond-elim, no-claim}
+use Rattle.lines.specs.declared.line.Line.{Line}
 use Rattle.registry.specs.Registry.{registryLines}
 use Rattle.table.specs.declared.Account.{Account}
 use Rattle.table.specs.declared.Gate.{Gate}

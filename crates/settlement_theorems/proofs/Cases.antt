@@ -5,7 +5,7 @@ use mathlib.Core.Bool.{true}
 use mathlib.Core.List.{_∷_, _++_}
 use lib.IntN.{pos, negsuc}
 use lib.ListN.{replicate}
-use Rattle.fields.specs.declared.digits.Digits.the-variants.{Value}
+use Rattle.texts.specs.declared.digits.Digits.the-variants.{Value}
 use Rattle.fields.specs.Amount.{amountRead, amountFault}
 use Rattle.fields.specs.Codes.{receiptRead, receiptFault}
 use Rattle.dates.specs.Date.{dateRead, dateFault}
@@ -25,19 +25,19 @@ use Rattle.lists.specs.Lists as TL
 use Rattle.lists.specs.Lent as LE
 use Rattle.table.specs.Accounts as A
 use Rattle.validity.specs.Valid as VA
-use Rattle.fields.specs.Lists as L
-use Rattle.fields.specs.Digits as G
+use Rattle.texts.specs.Lists as L
+use Rattle.texts.specs.Digits as G
 use Rattle.fields.specs.Amount as M
 use Rattle.fields.specs.Number as N
 use Rattle.dates.specs.Calendar as C
 use Rattle.dates.specs.Date as W
 use Rattle.coding.specs.Url as U
 use Rattle.coding.specs.Params as P
-use Rattle.message.specs.Names as MN
-use Rattle.message.specs.Slots as MS
+use Rattle.parameters.specs.Names as MN
+use Rattle.parameters.specs.Slots as MS
 use Rattle.message.specs.Request as MR
 use Rattle.answers.specs.Answer as AN
-use Rattle.registry.specs.Line as RL
+use Rattle.lines.specs.Line as RL
 use Rattle.registry.specs.Registry as RR
 use Rattle.settlement.specs.Settle.{settle}
 use Rattle.settlement.specs.Settle as S

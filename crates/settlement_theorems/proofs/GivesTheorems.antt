@@ -7,11 +7,11 @@ use mathlib.Core.List.{List, [], _∷_}
 use lib.ListN.{length, take}
 use borrow.Author.Tests.{eq-eqb, le-leb}
 use Rattle.dates.specs.declared.calendar.Day.{Day}
-use Rattle.fields.specs.Lists.{every}
+use Rattle.texts.specs.Lists.{every}
 use Rattle.dates.specs.Date.{isWritten}
 use Rattle.dates.specs.Calendar.{nextDay, onDay}
-use Rattle.fields.proofs.OutLaws.{text-first}
-use Rattle.registry.specs.declared.line.Line.{Line}
+use Rattle.texts.proofs.OutLaws.{text-first}
+use Rattle.lines.specs.declared.line.Line.{Line}
 use Rattle.registry.specs.Registry.{registryLines, registryFault}
 use Rattle.registry.specs.Report.{isMark, isReport}
 use Rattle.registry.proofs.LinesGood.{lines-good}

@@ -11,9 +11,9 @@ use Rattle.dates.specs.declared.calendar.DayRead.{DayRead}
 use Rattle.dates.specs.declared.calendar.DayRead.the-variants.{Good, NoDate}
 use Rattle.dates.specs.Calendar.{isDay, nextDay, onDay}
 use Rattle.dates.specs.Date.{isWritten}
-use Rattle.fields.proofs.Tests.{no-claim}
+use Rattle.texts.proofs.Tests.{no-claim}
 use Rattle.dates.proofs.DayLaws.{same-day, next-is-day}
-use Rattle.registry.specs.declared.line.Line.{Line}
+use Rattle.lines.specs.declared.line.Line.{Line}
 use Rattle.registry.specs.Registry.{registryLines}
 use Rattle.registry.proofs.LinesGood.{lines-good as registry-lines}
 use Rattle.lists.specs.Lists.{firstFrom}

@@ -10,16 +10,16 @@ use lib.Seq.{getD-at, getD-set-same, getD-set-other}
 use borrow.Author.Tests.{eqb-true, eqb-false}
 use Rattle.dates.specs.declared.calendar.Day.{Day}
 use Rattle.fields.specs.declared.number.Number.{Number}
-use Rattle.fields.specs.Lists.{eqList}
+use Rattle.texts.specs.Lists.{eqList}
 use Rattle.fields.specs.Amount.{isAmount}
 use Rattle.fields.specs.Codes.{isReceipt}
 use Rattle.dates.specs.Date.{isWritten}
-use Rattle.fields.proofs.Tests.{both, and-left, cond-elim, no-claim}
+use Rattle.texts.proofs.Tests.{both, and-left, cond-elim, no-claim}
 use Rattle.dates.proofs.KeyLaws.{Valid, valid-number}
-use Rattle.registry.specs.declared.line.Line.{Line}
-use Rattle.registry.specs.Line.{isLine}
+use Rattle.lines.specs.declared.line.Line.{Line}
+use Rattle.lines.specs.Line.{isLine}
 use Rattle.registry.specs.Registry.{registryLines}
-use Rattle.registry.specs.RegistryText.{everyLine}
+use Rattle.registry.specs.Registry.{everyLine}
 use Rattle.registry.proofs.TextAgain.{LineOn, every-line}
 use Rattle.lists.specs.declared.Found.{Found}
 use Rattle.lists.specs.declared.Found.the-variants.{At, Nothing}

@@ -9,16 +9,16 @@ use lib.Dec.{eqb, leb}
 use lib.ListN.{length, drop, getD, set, length-append, length-set, length-map, List·getD-append}
 use lib.Seq.{getD-set-same, getD-set-other}
 use Rattle.dates.specs.declared.calendar.Day.{Day}
-use Rattle.fields.specs.Lists.{written}
+use Rattle.texts.specs.Lists.{written}
 use Rattle.dates.specs.Date.{dateDay, isWritten}
 use Rattle.dates.specs.Calendar.{isDay, dayBefore, nextDay, onDay}
-use Rattle.fields.proofs.Tests.{cond-elim, and-left, and-right}
+use Rattle.texts.proofs.Tests.{cond-elim, and-left, and-right}
 use Rattle.fields.specs.Number.{sameNumber}
-use Rattle.fields.proofs.OutLaws.{written-over, bytes-past}
-use Rattle.fields.proofs.ScanLaws.{eqList-true}
-use Rattle.registry.specs.declared.line.Line.{Line}
-use Rattle.registry.specs.Line.{isLine}
-use Rattle.registry.specs.RegistryText.{lineOn, everyLine}
+use Rattle.texts.proofs.OutLaws.{written-over, bytes-past}
+use Rattle.texts.proofs.ScanLaws.{eqList-true}
+use Rattle.lines.specs.declared.line.Line.{Line}
+use Rattle.lines.specs.Line.{isLine}
+use Rattle.registry.specs.Registry.{lineOn, everyLine}
 use Rattle.registry.proofs.LinesGood.{lines-good}
 use Rattle.registry.specs.Registry.{registryLines, registryFault}
 use Rattle.table.specs.declared.Record.{Record}

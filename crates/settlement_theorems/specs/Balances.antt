@@ -6,7 +6,7 @@ use lib.Dec.{eqb}
 use lib.ListN.{length}
 use Rattle.dates.specs.declared.calendar.Day.{Day}
 use Rattle.fields.specs.declared.number.Number.{Number}
-use Rattle.registry.specs.declared.line.Line.{Line}
+use Rattle.lines.specs.declared.line.Line.{Line}
 use Rattle.table.specs.declared.Record.{Record}
 use Rattle.table.specs.declared.Gate.{Gate}
 use Rattle.lists.specs.declared.Found.{Found}

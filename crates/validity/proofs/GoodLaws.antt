@@ -10,7 +10,7 @@ use borrow.Author.Tests.{le-leb, leb-true}
 use Rattle.dates.specs.Calendar.{isDay}
 use Rattle.fields.specs.Codes.{isKind}
 use Rattle.fields.specs.Number.{isNumber}
-use Rattle.fields.proofs.Tests.{and-left, and-right, and-both}
+use Rattle.texts.proofs.Tests.{and-left, and-right, and-both}
 use Rattle.table.specs.declared.Gate.{Gate}
 use Rattle.lists.specs.Lists.{allFrom}
 use Rattle.table.specs.Table.{Rows, recordAt, recordsOf, Whole}

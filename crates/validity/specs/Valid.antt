@@ -4,7 +4,7 @@ use Prim.Native.Nat.{ℕ, _+_, _≤_}
 use lib.Dec.{eqb, leb, ltb}
 use lib.IntN.{ℤ, pos, negsuc}
 use lib.ListN.{length}
-use Rattle.fields.specs.Lists.{eqList}
+use Rattle.texts.specs.Lists.{eqList}
 use Rattle.fields.specs.Amount.{isAmount}
 use Rattle.dates.specs.Calendar.{isDay}
 use Rattle.fields.specs.Codes.{isReceipt, isKind}

@@ -12,7 +12,7 @@ use lib.ListN.{take, getElem?}
 use Rattle.dates.specs.declared.calendar.Day.{Day}
 use Rattle.fields.specs.declared.number.Number.{Number}
 use Rattle.dates.specs.Calendar.{isDay}
-use Rattle.fields.proofs.Tests.{and-left}
+use Rattle.texts.proofs.Tests.{and-left}
 use Rattle.payments.specs.declared.Action.{Action}
 use Rattle.payments.specs.declared.Action.the-variants.{Check, Payment, Status, Cancel}
 use Rattle.lists.specs.Lists.{tab}

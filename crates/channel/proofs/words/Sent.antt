@@ -10,13 +10,13 @@ use lib.ListN.{length, take, getElem?}
 use borrow.Author.Tests.{leb-true, eq-eqb, ne-eqb, not-true, not-false}
 use Rattle.dates.specs.declared.calendar.Day.{Day}
 use Rattle.fields.specs.declared.number.Number.{Number}
-use Rattle.fields.specs.Lists.{written, cursorAfter}
+use Rattle.texts.specs.Lists.{written, cursorAfter}
 use Rattle.fields.specs.Amount.{isAmount}
 use Rattle.dates.specs.Calendar.{isDay, dayBefore}
 use Rattle.fields.specs.Codes.{isKind}
 use Rattle.fields.specs.Number.{isNumber}
-use Rattle.fields.proofs.Tests.{cond-elim}
-use Rattle.fields.proofs.OutLaws.{text-first, text-back}
+use Rattle.texts.proofs.Tests.{cond-elim}
+use Rattle.texts.proofs.OutLaws.{text-first, text-back}
 use Rattle.dates.proofs.DateLaws.{written-parts}
 use Rattle.payments.specs.declared.Action.{Action}
 use Rattle.payments.specs.declared.Action.the-variants.{Check}

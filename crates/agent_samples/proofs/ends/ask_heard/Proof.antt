@@ -7,7 +7,7 @@ use Rattle.agent_samples.proofs.ends.ask_heard.Lts as lts
 use Rattle.agent_samples.proofs.ends.ask.Reads as ask-reads
 use Rattle.agent_samples.proofs.ends.hear.Reads as hear-reads
 use Rattle.agent_samples.proofs.ends.with_gate.Reads as with-gate-reads
-use Rattle.fields.proofs.scan.first_bytes.Reads as first-bytes-reads
+use Rattle.texts.proofs.scan.first_bytes.Reads as first-bytes-reads
 
 -- src/ends.rt:170:9
 ask-requires : tie.Need-ask-requires

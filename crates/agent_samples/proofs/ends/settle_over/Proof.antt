@@ -7,7 +7,7 @@ use Rattle.agent_samples.proofs.ends.deliver_registry.Reads as deliver-
 use Rattle.agent_samples.proofs.ends.list.Reads as list-reads
 use Rattle.agent_samples.proofs.ends.take_report.Reads as take-report-reads
 use Rattle.agent_samples.proofs.ends.with_gate.Reads as with-gate-reads
-use Rattle.fields.proofs.scan.first_bytes.Reads as first-bytes-reads
+use Rattle.texts.proofs.scan.first_bytes.Reads as first-bytes-reads
 
 -- src/ends.rt:317:9
 list-requires : tie.Need-list-requires

@@ -1,5 +1,5 @@
 use native.Mathlib.Omega.{arith}
-use Rattle.fields.proofs.Tests.{no-claim}
+use Rattle.texts.proofs.Tests.{no-claim}
 use Rattle.lists.proofs.LentLaws.{lent-is}
 use Rattle.book.proofs.ValidLaws.{book-unlent, book-head, book-entries, head-receipt, book-days, book-ready}
 use borrow.Author.Needs.{needs}

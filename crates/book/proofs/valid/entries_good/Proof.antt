@@ -1,5 +1,5 @@
 -- `book::valid::entries_good` meets its contract. The invariant: what is left to test gives the whole answer, and the rows that were read are whole.
-use Rattle.fields.proofs.Tests.{no-claim}
+use Rattle.texts.proofs.Tests.{no-claim}
 use Rattle.book.proofs.EntryLaws.{book-none, book-next, book-end}
 use Rattle.book.proofs.ValidLaws.{entry-bad, entry-passed, entries-end}
 use Prim.Native.Nat.{_≤_, _-_}

@@ -5,7 +5,7 @@ use native.Mathlib.Nat.{zero-add}
 use Prim.Native.Nat.{_≤_, _-_, _+_}
 use mathlib.Core.Path.{_≡_}
 use lib.ListN.{length, drop}
-use Rattle.fields.specs.Lists.{over}
+use Rattle.texts.specs.Lists.{over}
 use Rattle.coding.specs.Url.{decoded}
 use Rattle.coding.proofs.url.decode.Statement.{statement}
 use Rattle.coding.proofs.url.decode.Tie as tie

@@ -1,11 +1,11 @@
 -- The invariant: writing what is left at the cursor gives the whole writing.
 use borrow.Author.Needs.{needs}
-use Rattle.fields.proofs.OutLaws.{past-end, past-end-kept}
+use Rattle.texts.proofs.OutLaws.{past-end, past-end-kept}
 use Rattle.coding.proofs.WriteLaws.{coded-stays, coded-kept, coded-fits, cursor-step, written-step, fit-step, cursor-done, written-done}
 use Prim.Native.Nat.{_≤_, _-_, _+_}
 use mathlib.Core.Path.{_≡_}
 use lib.ListN.{length, drop}
-use Rattle.fields.specs.Lists.{written, cursorAfter}
+use Rattle.texts.specs.Lists.{written, cursorAfter}
 use Rattle.coding.specs.Url.{coded}
 use Rattle.coding.proofs.url.write_coded.Statement.{statement}
 use Rattle.coding.proofs.url.write_coded.Tie as tie

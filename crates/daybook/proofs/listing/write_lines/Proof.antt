@@ -3,7 +3,7 @@ use Prim.Native.Nat.{_≤_, _-_, _+_}
 use mathlib.Core.Path.{_≡_}
 use mathlib.Core.List.{List}
 use lib.ListN.{length, drop}
-use Rattle.fields.specs.Lists.{written, cursorAfter}
+use Rattle.texts.specs.Lists.{written, cursorAfter}
 use Rattle.book.specs.declared.Entry.{Entry}
 use Rattle.book.specs.Entries.{entriesOf}
 use Rattle.daybook.specs.Freezing.{registryOf}

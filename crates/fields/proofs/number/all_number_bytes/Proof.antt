@@ -3,7 +3,7 @@ use Rattle.fields.proofs.NumberLaws.{bytes-step, bytes-fail, bytes-all}
 use Prim.Native.Nat.{_≤_, _-_}
 use mathlib.Core.Path.{_≡_}
 use lib.ListN.{length, drop}
-use Rattle.fields.specs.Lists.{every}
+use Rattle.texts.specs.Lists.{every}
 use Rattle.fields.specs.Number.{numberByte}
 use Rattle.fields.proofs.number.all_number_bytes.Statement.{statement}
 use Rattle.fields.proofs.number.all_number_bytes.Tie as tie

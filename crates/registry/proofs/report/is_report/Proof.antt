@@ -3,7 +3,7 @@ use Rattle.registry.proofs.ReportLaws.{other-size, bad-mark, all-marks,
 use Prim.Native.Nat.{_≤_, _-_}
 use mathlib.Core.Path.{_≡_}
 use lib.ListN.{length, drop}
-use Rattle.fields.specs.Lists.{every}
+use Rattle.texts.specs.Lists.{every}
 use Rattle.registry.specs.Report.{isMark}
 use Rattle.registry.proofs.report.is_report.Statement.{statement}
 use Rattle.registry.proofs.report.is_report.Tie as tie

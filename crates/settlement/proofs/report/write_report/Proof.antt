@@ -5,7 +5,7 @@ use native.Mathlib.Nat.{zero-add}
 use Prim.Native.Nat.{_≤_, _-_, _+_}
 use mathlib.Core.Path.{_≡_}
 use lib.ListN.{length, drop}
-use Rattle.fields.specs.Lists.{over}
+use Rattle.texts.specs.Lists.{over}
 use Rattle.registry.specs.Registry.{lineCount, registryLines}
 use Rattle.table.specs.Table.{Rows, recordsOf}
 use Rattle.settlement.specs.Settle.{reportOf}

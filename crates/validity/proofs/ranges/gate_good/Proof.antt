@@ -1,5 +1,5 @@
 use borrow.Author.Needs.{needs}
-use Rattle.fields.proofs.Tests.{no-claim}
+use Rattle.texts.proofs.Tests.{no-claim}
 use Rattle.validity.proofs.RangeLaws.{gate-many, gate-no-day, gate-rest, gate-sound}
 use Rattle.validity.proofs.ranges.gate_good.Statement.{statement}
 use Rattle.validity.proofs.ranges.gate_good.Tie as tie

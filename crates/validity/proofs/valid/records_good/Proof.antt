@@ -1,6 +1,6 @@
 -- `table::valid::records_good` meets its contract. The invariant: what is left to test gives the whole answer, and the rows that were read are whole.
 use borrow.Author.Needs.{needs}
-use Rattle.fields.proofs.Tests.{no-claim}
+use Rattle.texts.proofs.Tests.{no-claim}
 use Rattle.table.proofs.TableLaws.{whole-none, whole-more, whole-less}
 use Rattle.validity.proofs.ValidLaws.{record-own, record-guessed, record-stranger, record-known, records-end}
 use Prim.Native.Nat.{_≤_, _-_}

@@ -1,5 +1,5 @@
 use native.Mathlib.Omega.{arith}
-use Rattle.fields.proofs.Tests.{no-claim}
+use Rattle.texts.proofs.Tests.{no-claim}
 use Rattle.lists.proofs.LentLaws.{lent-is}
 use Rattle.validity.proofs.ValidLaws.{table-lent, table-gate, sound-count, table-records, table-ready}
 use borrow.Author.Needs.{needs}

@@ -1,0 +1,4 @@
+pub mod LineLaws
+pub mod LineParts
+pub mod LineAgain
+pub mod WriteLaws

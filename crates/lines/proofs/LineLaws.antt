@@ -1,0 +1,78 @@
+-- Laws of a line's fields, at each way out of its reader and of the test of a line.
+use Prim.Native.Nat.{ℕ, _-_}
+use mathlib.Core.Path.{_≡_, _∙_}
+use mathlib.Core.List.{List}
+use mathlib.Core.Bool.{Bool, true, false, not, and-false}
+use borrow.Author.Tests.{not-true, not-false}
+use Rattle.texts.specs.declared.digits.Digits.{Digits}
+use Rattle.texts.specs.declared.digits.Digits.the-variants.{Value, Malformed}
+use Rattle.fields.specs.declared.number.NumberRead.{NumberRead}
+use Rattle.dates.specs.declared.date.DateRead.{DateRead}
+use Rattle.fields.specs.Amount.{isAmount, amountRead}
+use Rattle.fields.specs.Codes.{isReceipt, receiptRead, isKind, kindRead}
+use Rattle.fields.specs.Number.{isNumber, numberRead}
+use Rattle.dates.specs.Date.{isWritten, dateRead}
+use Rattle.lines.specs.declared.line.Line.{Line}
+use Rattle.lines.specs.declared.line.LineRead.{LineRead}
+use Rattle.lines.specs.Line.{field, afterField, noLine, lineOf, lineRead, isLine}
+use Rattle.lines.specs.LineText.{lineWith}
+
+-- ---- five fields that were read
+module _ (n : NumberRead) (k : Digits) (d : DateRead) (a r : Digits) where
+  module _ (x : LineRead) (none : x ≡ noLine) where
+    pub no-kind : k ≡ Malformed → x ≡ lineOf n k d a r
+    no-kind e = none ∙ rw e
+
+    module _ (v : ℕ) (ek : k ≡ Value v) where
+      pub no-amount : a ≡ Malformed → x ≡ lineOf n k d a r
+      no-amount e = none ∙ rw (ek, e)
+
+      module _ (w : ℕ) (ea : a ≡ Value w) where
+        pub no-receipt : r ≡ Malformed → x ≡ lineOf n k d a r
+        no-receipt e = none ∙ rw (ek, ea, e)
+
+        module _ (u : ℕ) (er : r ≡ Value u) where
+          pub no-number : n .ok ≡ false → x ≡ lineOf n k d a r
+          no-number e = none ∙ rw (ek, ea, er, e)
+
+          pub no-date : d .ok ≡ false → x ≡ lineOf n k d a r
+          no-date e = none ∙ rw (ek, ea, er, e) (simp and-false)
+
+  pub line-good : (v : ℕ) → k ≡ Value v → (w : ℕ) → a ≡ Value w → (u : ℕ) → r ≡ Value u → n .ok ≡ true → d .ok ≡ true
+      → record { ok = true; line = record { number = n .number; kind = v; date = d .date; amount = w; receipt = u } } ≡ lineOf n k d a r
+  line-good v ek w ea u er en ed = rw (ek, ea, er, en, ed)
+
+pub line-with : (n : NumberRead) (k : Digits) (s s₁ f f₁ f₂ : List ℕ) (d : DateRead) (a r : Digits) (x : LineRead) → f ≡ field s → d ≡ dateRead f
+    → s₁ ≡ afterField s → f₁ ≡ field s₁ → a ≡ amountRead f₁ → f₂ ≡ afterField s₁ → r ≡ receiptRead f₂ → x ≡ lineOf n k d a r → x ≡ lineWith n k s
+unfolding lineWith
+line-with n k s s₁ f f₁ f₂ d a r x g ed e₁ g₁ ea g₂ er e = e ∙ rw (ed, ea, er, g, g₁, g₂, e₁)
+
+pub line-read : (s s₁ s₂ f f₁ : List ℕ) (n : NumberRead) (k : Digits) (x : LineRead) → f ≡ field s → n ≡ numberRead f
+    → s₁ ≡ afterField s → f₁ ≡ field s₁ → k ≡ kindRead f₁ → s₂ ≡ afterField s₁ → x ≡ lineWith n k s₂ → x ≡ lineRead s
+unfolding lineRead lineWith
+line-read s s₁ s₂ f f₁ n k x g en e₁ g₁ ek e₂ e = e ∙ rw (en, ek, g, g₁, e₂, e₁)
+
+-- ---- whether every field is well formed
+module _ (x : Line) (n : Bool) (en : n ≡ isNumber (x .number)) where
+  pub bad-number : not n ≡ true → false ≡ isLine x
+  unfolding isLine
+  bad-number h = rw (← en, not-true n h)
+
+  module _ (k : Bool) (ek : k ≡ isKind (x .kind)) where
+    pub bad-kind : not k ≡ true → false ≡ isLine x
+    unfolding isLine
+    bad-kind h = rw (← ek, not-true k h) (simp and-false)
+
+    module _ (d : Bool) (ed : d ≡ isWritten (x .date)) where
+      pub bad-date : not d ≡ true → false ≡ isLine x
+      unfolding isLine
+      bad-date h = rw (← ed, not-true d h) (simp and-false)
+
+      module _ (a : Bool) (ea : a ≡ isAmount (x .amount)) where
+        pub bad-amount : not a ≡ true → false ≡ isLine x
+        unfolding isLine
+        bad-amount h = rw (← ea, not-true a h) (simp and-false)
+
+        pub last-receipt : not n ≡ false → not k ≡ false → not d ≡ false → not a ≡ false → (r : Bool) → r ≡ isReceipt (x .receipt) → r ≡ isLine x
+        unfolding isLine
+        last-receipt h i j l r e = e ∙ rw (← en, ← ek, ← ed, ← ea, not-false n h, not-false k i, not-false d j, not-false a l)

@@ -1,0 +1,2 @@
+// A line of a registry, read and written.
+pub mod line;

@@ -1,0 +1,164 @@
+// One line of a registry: number, type, date, amount and receipt, split by 09.
+use dates::date;
+use dates::date::DateRead;
+use fields::amount;
+use fields::codes;
+use texts::digits;
+use texts::digits::Digits;
+use fields::number;
+use fields::number::Number;
+use fields::number::NumberRead;
+use texts::out;
+use texts::scan;
+ghost use mathlib.Core.Path.{_≡_};
+ghost use mathlib.Core.Bool.{true};
+ghost use Rattle.texts.specs.Lists.{written, cursorAfter};
+ghost use Rattle.lines.specs.LineText.{lineWith, rowOf9, accountPart};
+ghost use Rattle.lines.specs.Line.{lineRead, lineOf, noLine, isLine, lineBytes, lineText};
+
+pub struct Line {
+    pub number: Number,
+    pub kind: u64,
+    pub date: [u8; 19],
+    pub amount: u64,
+    pub receipt: u64,
+}
+
+// A line, or `ok` false and zeros.
+pub struct LineRead {
+    pub ok: bool,
+    pub line: Line,
+}
+
+// What a text that is no line reads as.
+pub fn no_line() -> LineRead
+    ensures { λ r. ⌜ r ≡ noLine ⌝ }
+{
+    LineRead {
+        ok: false,
+        line: Line {
+            number: Number {
+                bytes: [0u8; 30],
+                len: 0,
+            },
+            kind: 0,
+            date: [0u8; 19],
+            amount: 0,
+            receipt: 0,
+        },
+    }
+}
+
+// The line of five fields that were read.
+pub(crate) fn line_of(n: NumberRead, k: Digits, d: DateRead, a: Digits, r: Digits) -> LineRead
+    ensures { λ x. ⌜ x ≡ lineOf n k d a r ⌝ }
+{
+    let Digits::Value(kind) = k else {
+        return no_line();
+    };
+    let Digits::Value(amount) = a else {
+        return no_line();
+    };
+    let Digits::Value(receipt) = r else {
+        return no_line();
+    };
+    if n.ok {
+        if d.ok {
+            let number = n.number;
+            let date = d.date;
+            LineRead {
+                ok: true,
+                line: Line {
+                    number,
+                    kind,
+                    date,
+                    amount,
+                    receipt,
+                },
+            }
+        } else {
+            no_line()
+        }
+    } else {
+        no_line()
+    }
+}
+
+// The line of a number and a type that were read, and of the text of the three other fields.
+pub(crate) fn line_with(n: NumberRead, k: Digits, s: &[u8]) -> LineRead
+    ensures { λ x. ⌜ x ≡ lineWith n k (now (s .entry)) ⌝ }
+{
+    let d = date::read_date(scan::before_byte(s, 9));
+    let s1 = scan::after_byte(s, 9);
+    let a = amount::read_amount(scan::before_byte(s1, 9));
+    line_of(n, k, d, a, codes::read_receipt(scan::after_byte(s1, 9)))
+}
+
+// A line, without its end.
+pub fn read_line(s: &[u8]) -> LineRead
+    ensures { λ r. ⌜ r ≡ lineRead (now (s .entry)) ⌝ }
+{
+    let n = number::read_number(scan::before_byte(s, 9));
+    let s1 = scan::after_byte(s, 9);
+    let k = codes::read_kind(scan::before_byte(s1, 9));
+    line_with(n, k, scan::after_byte(s1, 9))
+}
+
+impl Line {
+    // Whether every field is well formed.
+    pub fn is_valid(self) -> bool
+        ensures { λ r. ⌜ r ≡ isLine self ⌝ }
+    {
+        let number = self.number;
+        if !number.is_valid() {
+            return false;
+        }
+        if !codes::is_kind(self.kind) {
+            return false;
+        }
+        let date = self.date;
+        if !date::is_written(date) {
+            return false;
+        }
+        if !amount::is_amount(self.amount) {
+            return false;
+        }
+        codes::is_receipt(self.receipt)
+    }
+
+    // Writes number, type and date into a row of 09, in which the separators stand already.
+    pub(crate) fn put_account(self, row: &mut [u8]) -> usize
+        requires { ⌜ (isLine self ≡ true) × (now row ≡ rowOf9) ⌝ }
+        ensures { λ r. ⌜ (r ≡ cursorAfter rowOf9 0 (accountPart self)) × (now (row .exit) ≡ written rowOf9 0 (accountPart self)) ⌝ }
+    {
+        let number = self.number;
+        let date = self.date;
+        let a = number.write(row, 0);
+        let b = digits::write_digits(self.kind, row, a + 1);
+        date::write_date(date, row, b + 1)
+    }
+
+    // Writes amount, receipt and the line's end behind them.
+    pub(crate) fn put_payment(self, row: &mut [u8], at: usize) -> usize
+        requires { ⌜ (isLine self ≡ true) × (at ≡ cursorAfter rowOf9 0 (accountPart self)) × (now row ≡ written rowOf9 0 (accountPart self)) ⌝ }
+        ensures { λ r. ⌜ (r ≡ cursorAfter rowOf9 0 (lineBytes self)) × (now (row .exit) ≡ written rowOf9 0 (lineBytes self)) ⌝ }
+    {
+        let end = [13u8, 10u8];
+        let a = amount::write_amount(self.amount, row, at + 1);
+        let b = digits::write_digits(self.receipt, row, a + 1);
+        out::put_bytes(&end, row, b)
+    }
+
+    // Writes a line and its end at the cursor, where it is well formed and has room.
+    pub fn write(self, dst: &mut [u8], at: usize) -> usize
+        ensures { λ r. ⌜ (r ≡ cursorAfter (now (dst .entry)) at (lineText self)) × (now (dst .exit) ≡ written (now (dst .entry)) at (lineText self)) ⌝ }
+    {
+        if !self.is_valid() {
+            return at;
+        }
+        let mut row = [9u8; 96];
+        let a = self.put_account(&mut row);
+        let n = self.put_payment(&mut row, a);
+        out::put_bytes(scan::first_bytes(&row, n), dst, at)
+    }
+}

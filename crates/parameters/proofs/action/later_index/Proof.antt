@@ -1,0 +1,23 @@
+use borrow.Author.Needs.{needs}
+use Rattle.message.proofs.Picks.{picked, passed}
+use Rattle.parameters.specs.Names.{laterIndex}
+use Rattle.parameters.proofs.action.later_index.Statement.{statement}
+use Rattle.parameters.proofs.action.later_index.Tie as tie
+
+ruleset laws = (picked, passed, needs)
+
+pub later-index-spec : {M : Type 1} → statement M
+unfolding laterIndex
+later-index-spec =
+    tie.close
+    (tie.spec
+    (λ c. search laws)
+    (λ c κs. search laws)
+    (λ c. search laws)
+    (λ c. search laws)
+    (λ c κs. search laws)
+    (λ c. search laws)
+    (λ c. search laws)
+    (λ c κs. search laws)
+    (λ c. search laws)
+    (λ c. search laws))

@@ -1,0 +1,27 @@
+use borrow.Author.Needs.{needs}
+use Rattle.message.proofs.Picks.{picked, passed}
+use Rattle.parameters.specs.Names.{nameIndex}
+use Rattle.parameters.proofs.action.name_index.Statement.{statement}
+use Rattle.parameters.proofs.action.name_index.Tie as tie
+
+ruleset laws = (picked, passed, needs)
+
+pub name-index-spec : {M : Type 1} → statement M
+unfolding nameIndex
+name-index-spec =
+    tie.close
+    (tie.spec
+    (λ c. search laws)
+    (λ c κs. search laws)
+    (λ c. search laws)
+    (λ c. search laws)
+    (λ c κs. search laws)
+    (λ c. search laws)
+    (λ c. search laws)
+    (λ c κs. search laws)
+    (λ c. search laws)
+    (λ c. search laws)
+    (λ c κs. search laws)
+    (λ c. search laws)
+    (λ c κs. search laws)
+    (λ c. search laws))

@@ -1,0 +1,3 @@
+pub mod WriteTexts
+pub mod AskedLaws
+pub mod WriteLaws

@@ -1,0 +1,2 @@
+// Requests, written into lent buffers.
+pub mod write;

@@ -1,0 +1,6 @@
+pub mod Tests
+pub mod ListLaws
+pub mod OutLaws
+pub mod ScanLaws
+pub mod DigitLaws
+pub mod DecimalLaws

@@ -1,0 +1,103 @@
+// Fields of ASCII digits.
+use crate::out;
+ghost use mathlib.Core.Path.{_≡_};
+ghost use Rattle.texts.specs.Digits.{digitsRead, rangeRead, within, fixed, leadZeros, decimal};
+ghost use Rattle.texts.specs.Lists.{written, cursorAfter};
+
+// What a field of digits holds.
+pub enum Digits {
+    Value(u64),
+    Malformed,
+}
+
+// The value of a field of 1 to `most` digits that fits 64 bits.
+pub fn read_digits(s: &[u8], most: usize) -> Digits
+    ensures { λ r. ⌜ r ≡ digitsRead most (now (s .entry)) ⌝ }
+{
+    if s.len() == 0 {
+        return Digits::Malformed;
+    }
+    if most < s.len() {
+        return Digits::Malformed;
+    }
+    let mut value: u64 = 0;
+    let mut i = 0;
+    while i < s.len() {
+        let b = s[i];
+        if b < 48 {
+            return Digits::Malformed;
+        }
+        if 57 < b {
+            return Digits::Malformed;
+        }
+        let d = (b - 48) as u64;
+        if (18446744073709551615 - d) / 10 < value {
+            return Digits::Malformed;
+        }
+        value = value * 10 + d;
+        i += 1;
+    }
+    Digits::Value(value)
+}
+
+// Whether a value lies from low to high.
+pub fn is_within(low: u64, high: u64, v: u64) -> bool
+    ensures { λ r. ⌜ r ≡ within low high v ⌝ }
+{
+    if v < low {
+        return false;
+    }
+    v <= high
+}
+
+// The value of a field of 1 to `most` digits that lies from low to high.
+pub fn read_range(s: &[u8], most: usize, low: u64, high: u64) -> Digits
+    ensures { λ r. ⌜ r ≡ rangeRead most low high (now (s .entry)) ⌝ }
+{
+    let Digits::Value(v) = read_digits(s, most) else {
+        return Digits::Malformed;
+    };
+    if is_within(low, high, v) {
+        Digits::Value(v)
+    } else {
+        Digits::Malformed
+    }
+}
+
+// The twenty digits of a number, with leading zeros.
+pub fn twenty(n: u64) -> [u8; 20]
+    ensures { λ r. ⌜ r ≡ fixed 20 n ⌝ }
+{
+    let mut a = [48u8; 20];
+    let mut m = n;
+    let mut i: usize = 20;
+    while 0 < i {
+        i -= 1;
+        a[i] = 48 + (m % 10) as u8;
+        m = m / 10;
+    }
+    a
+}
+
+// How many zeros lead, at least one digit kept.
+pub fn leading_zeros(s: &[u8]) -> usize
+    ensures { λ r. ⌜ r ≡ leadZeros (now (s .entry)) ⌝ }
+{
+    let mut i: usize = 0;
+    while i + 1 < s.len() {
+        if s[i] != 48 {
+            return i;
+        }
+        i += 1;
+    }
+    i
+}
+
+// Writes a number without leading zeros at the cursor, where it has room.
+pub fn write_digits(n: u64, dst: &mut [u8], at: usize) -> usize
+    ensures { λ r. ⌜ (r ≡ cursorAfter (now (dst .entry)) at (decimal n)) × (now (dst .exit) ≡ written (now (dst .entry)) at (decimal n)) ⌝ }
+{
+    let a = twenty(n);
+    let z = leading_zeros(&a);
+    out::put_bytes(&a[z..], dst, at)
+}
