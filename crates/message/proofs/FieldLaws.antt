@@ -25,7 +25,8 @@ use Rattle.coding.specs.Url.{hexValue, decoded}
 use Rattle.payments.specs.declared.Action.the-variants.{Check, Payment, Status, Cancel}
 use Rattle.parameters.specs.declared.slots.Text.{Text}
 use Rattle.parameters.specs.Names.{actionWord, actionOf}
-use Rattle.parameters.specs.Slots.{Slot, Absent, Holds, clipped, clippedSlot, textSlot}
+use Rattle.parameters.specs.Slots.{Slot, Absent, Holds}
+use Rattle.parameters.specs.SlotWalk.{clipped, clippedSlot, textSlot}
 use Rattle.message.specs.declared.request.Reader.{Reader}
 use Rattle.message.specs.declared.request.Reader.the-variants.{Receipt, Kind, Amount, Reason}
 use Rattle.message.specs.RequestWalk.{readBy}

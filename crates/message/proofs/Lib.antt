@@ -1,4 +1,3 @@
-pub mod Picks
 pub mod FieldLaws
 pub mod RequestLaws
 pub mod PairLaws

@@ -30,7 +30,7 @@ use Rattle.payments.specs.declared.Action.{Action}
 use Rattle.payments.specs.declared.Action.the-variants.{Check, Payment, Status, Cancel}
 use Rattle.parameters.specs.declared.action.ActionRead.the-variants.{Known, Unknown}
 use Rattle.message.specs.declared.request.Asked.{Asked}
-use Rattle.parameters.specs.Names.{actionName, numberName, kindName, amountName, receiptName, dateName, reasonName, laterIndex, nameIndex, actionWord, actionOf, hasAccount, hasReceipt, hasDate, hasReason}
+use Rattle.parameters.specs.Names.{actionName, numberName, kindName, amountName, receiptName, dateName, reasonName, nameIndex, actionWord, actionOf, hasAccount, hasReceipt, hasDate, hasReason}
 use Rattle.parameters.specs.Slots.{Slot, Values, gathered}
 use Rattle.message.specs.Request.{held, fieldOf, unusedNumber, receiptField, numberField, kindField, amountField, dateField, reasonField, firstFault, fieldFault, askedOf, fieldsRead, requestRead}
 use Rattle.message.specs.RequestText.{isAsked, pair, requestBytes, askedAgain}
@@ -160,7 +160,7 @@ module _ (q : Asked) (dated : length (q .date) ≡ 19) (good : isAsked q ≡ tru
   request-fits = omega (arith, request-length)
 
   gathered-is : gathered (requestBytes q) ≡ Values (slotsFor entries)
-  unfolding named nameIndex laterIndex eqList every isPlain
+  unfolding named nameIndex eqList every isPlain
   gathered-is = gather-all entries (requestBytes q) refl refl text-is
 
   -- what is written is read back

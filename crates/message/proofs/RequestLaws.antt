@@ -19,7 +19,8 @@ use Rattle.message.specs.declared.request.RequestRead.{RequestRead}
 use Rattle.parameters.specs.declared.slots.Scan.{Scan}
 use Rattle.dates.specs.Date.{emptyDate}
 use Rattle.parameters.specs.Names.{actionOf, hasAccount, hasReceipt, hasReason}
-use Rattle.parameters.specs.Slots.{Slot, Absent, gathered, slotsIn, scanned}
+use Rattle.parameters.specs.Slots.{Slot, Absent, gathered}
+use Rattle.parameters.specs.SlotWalk.{slotsIn, scanned}
 use Rattle.message.specs.declared.request.Reader.the-variants.{Receipt, Kind, Amount, Reason}
 use Rattle.message.specs.RequestWalk.{readBy, laterFault, laterRead}
 use Rattle.message.specs.Request.{held, fieldOf, unusedNumber, receiptField, numberField, kindField, amountField, dateField, reasonField, refused, firstFault, fieldFault, askedOf, fieldsRead, requestRead}

@@ -20,7 +20,7 @@ use Rattle.parameters.specs.declared.action.ActionRead.{ActionRead}
 use Rattle.parameters.specs.declared.action.ActionRead.the-variants.{Known, Unknown}
 use Rattle.message.specs.declared.request.Asked.{Asked}
 use Rattle.message.specs.declared.request.RequestRead.{RequestRead}
-use Rattle.parameters.specs.Names.{actionOf, hasAccount, hasReceipt, hasDate, hasReason}
+use Rattle.parameters.specs.Names.{actionPlace, numberPlace, kindPlace, amountPlace, receiptPlace, datePlace, reasonPlace, actionOf, hasAccount, hasReceipt, hasDate, hasReason}
 use Rattle.parameters.specs.Slots.{Slot, Absent, Holds, Gathered, Broken, Values, gathered}
 
 -- ---- a field of an action
@@ -37,23 +37,23 @@ abbrev pub unusedNumber : Number
 unusedNumber = record { bytes = replicate 30 0; len = 0 }
 
 abbrev pub receiptField : Action → List Slot → Digits
-receiptField a t = fieldOf (hasReceipt a) (Value 0) Malformed receiptRead (getD t 4 Absent)
+receiptField a t = fieldOf (hasReceipt a) (Value 0) Malformed receiptRead (getD t receiptPlace Absent)
 
 abbrev pub numberField : Action → List Slot → NumberRead
-numberField a t = fieldOf (hasAccount a) (record { ok = true; number = unusedNumber }) noNumber numberRead (getD t 1 Absent)
+numberField a t = fieldOf (hasAccount a) (record { ok = true; number = unusedNumber }) noNumber numberRead (getD t numberPlace Absent)
 
 -- an absent type is 1
 abbrev pub kindField : Action → List Slot → Digits
-kindField a t = fieldOf (hasAccount a) (Value 0) (Value 1) kindRead (getD t 2 Absent)
+kindField a t = fieldOf (hasAccount a) (Value 0) (Value 1) kindRead (getD t kindPlace Absent)
 
 abbrev pub amountField : Action → List Slot → Digits
-amountField a t = fieldOf (hasAccount a) (Value 0) Malformed amountRead (getD t 3 Absent)
+amountField a t = fieldOf (hasAccount a) (Value 0) Malformed amountRead (getD t amountPlace Absent)
 
 abbrev pub dateField : Action → List Slot → DateRead
-dateField a t = fieldOf (hasDate a) (record { ok = true; date = emptyDate }) noDate dateRead (getD t 5 Absent)
+dateField a t = fieldOf (hasDate a) (record { ok = true; date = emptyDate }) noDate dateRead (getD t datePlace Absent)
 
 abbrev pub reasonField : Action → List Slot → Digits
-reasonField a t = fieldOf (hasReason a) (Value 0) Malformed reasonRead (getD t 6 Absent)
+reasonField a t = fieldOf (hasReason a) (Value 0) Malformed reasonRead (getD t reasonPlace Absent)
 
 -- ---- the request
 abbrev pub valueIn : Digits → ℕ
@@ -106,7 +106,7 @@ actionRead (Known a) t = fieldsRead a t
 
 abbrev pub valuesRead : Gathered → RequestRead
 valuesRead Broken = refused 31 Check
-valuesRead (Values t) = actionRead (held Unknown actionOf (getD t 0 Absent)) t
+valuesRead (Values t) = actionRead (held Unknown actionOf (getD t actionPlace Absent)) t
 
 -- over 2,048 bytes it is 31, whatever they are
 unfoldable pub requestRead : List ℕ → RequestRead

@@ -21,7 +21,8 @@ ghost use Rattle.parameters.specs.declared.action.ActionRead.the-variants.{Unkn
 ghost use Rattle.parameters.specs.Names.{actionOf};
 ghost use Rattle.message.specs.Request.{held, fieldOf, refused, receiptField, numberField, kindField, amountField, dateField, reasonField, fieldsRead, requestRead};
 ghost use Rattle.message.specs.RequestWalk.{readBy, laterRead};
-ghost use Rattle.parameters.specs.Slots.{Absent, slotsIn};
+ghost use Rattle.parameters.specs.Slots.{Absent};
+ghost use Rattle.parameters.specs.SlotWalk.{slotsIn};
 
 // The fields of a request; those that its action lacks are at fixed values, zeros.
 pub struct Asked {
@@ -73,7 +74,7 @@ pub(crate) fn refuse(fault: u64, a: Action) -> RequestRead
 pub(crate) fn action_field(s: &[u8], t: Slots) -> ActionRead
     ensures { λ r. ⌜ r ≡ held Unknown actionOf (getD (slotsIn (now (s .entry)) t) 0 Absent) ⌝ }
 {
-    let x = slots::text_of(s, t, 0);
+    let x = slots::text_of(s, t, action::ACTION);
     if !x.present {
         return ActionRead::Unknown;
     }
@@ -120,7 +121,7 @@ fn receipt_field(a: Action, s: &[u8], t: Slots) -> Digits
         Digits::Malformed,
         s,
         t,
-        4,
+        action::RECEIPT,
     )
 }
 
@@ -133,7 +134,7 @@ fn kind_field(a: Action, s: &[u8], t: Slots) -> Digits
         Digits::Value(1),
         s,
         t,
-        2,
+        action::KIND,
     )
 }
 
@@ -146,7 +147,7 @@ fn amount_field(a: Action, s: &[u8], t: Slots) -> Digits
         Digits::Malformed,
         s,
         t,
-        3,
+        action::AMOUNT,
     )
 }
 
@@ -159,7 +160,7 @@ fn reason_field(a: Action, s: &[u8], t: Slots) -> Digits
         Digits::Malformed,
         s,
         t,
-        6,
+        action::REASON,
     )
 }
 
@@ -176,7 +177,7 @@ pub(crate) fn number_field(a: Action, s: &[u8], t: Slots) -> NumberRead
             },
         };
     }
-    let x = slots::text_of(s, t, 1);
+    let x = slots::text_of(s, t, action::NUMBER);
     if !x.present {
         return number::no_number();
     }
@@ -195,7 +196,7 @@ pub(crate) fn date_field(a: Action, s: &[u8], t: Slots) -> DateRead
             date: [0u8; 19],
         };
     }
-    let x = slots::text_of(s, t, 5);
+    let x = slots::text_of(s, t, action::DATE);
     if !x.present {
         return date::no_date();
     }

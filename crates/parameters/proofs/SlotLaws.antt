@@ -21,7 +21,8 @@ use Rattle.parameters.specs.declared.slots.Slots.{Slots}
 use Rattle.parameters.specs.declared.slots.Scan.{Scan}
 use Rattle.parameters.specs.declared.slots.Text.{Text}
 use Rattle.parameters.specs.Names.{nameIndex}
-use Rattle.parameters.specs.Slots.{Slot, Absent, Holds, Gathered, Broken, Values, place, addPiece, follow, gatherFrom, noSlots, gathered, slotAt, slotsOf, slotsIn, scanned, emptySlots, brokenScan, placed, clippedSlot, textSlot}
+use Rattle.parameters.specs.Slots.{Slot, Absent, Holds, Gathered, Broken, Values, place, addPiece, follow, gatherFrom, noSlots, gathered}
+use Rattle.parameters.specs.SlotWalk.{slotAt, slotsOf, slotsIn, scanned, emptySlots, brokenScan, placed, clippedSlot, textSlot}
 
 -- ---- a part of a text
 module _ (s : List ℕ) (from to : ℕ) where

@@ -30,14 +30,38 @@ dateName = 100 ∷ 97 ∷ 116 ∷ 101 ∷ []
 abbrev pub reasonName : List ℕ
 reasonName = 109 ∷ 101 ∷ 115 ∷ []
 
--- a known name's place among the seven, 0 to 6; of any other name 7
-unfoldable pub laterIndex : List ℕ → ℕ
-laterIndex n = cond (eqList n receiptName) 4 (cond (eqList n dateName) 5 (cond (eqList n reasonName) 6 7))
+-- their places among the seven; of any other name the place is 7
+abbrev pub actionPlace : ℕ
+actionPlace = 0
+
+abbrev pub numberPlace : ℕ
+numberPlace = 1
+
+abbrev pub kindPlace : ℕ
+kindPlace = 2
+
+abbrev pub amountPlace : ℕ
+amountPlace = 3
+
+abbrev pub receiptPlace : ℕ
+receiptPlace = 4
+
+abbrev pub datePlace : ℕ
+datePlace = 5
+
+abbrev pub reasonPlace : ℕ
+reasonPlace = 6
+
+abbrev pub noPlace : ℕ
+noPlace = 7
 
 unfoldable pub nameIndex : List ℕ → ℕ
 nameIndex n =
-    cond (eqList n actionName) 0
-    (cond (eqList n numberName) 1 (cond (eqList n kindName) 2 (cond (eqList n amountName) 3 (laterIndex n))))
+    cond (eqList n actionName) actionPlace
+    (cond (eqList n numberName) numberPlace
+    (cond (eqList n kindName) kindPlace
+    (cond (eqList n amountName) amountPlace
+    (cond (eqList n receiptName) receiptPlace (cond (eqList n dateName) datePlace (cond (eqList n reasonName) reasonPlace noPlace))))))
 
 -- `check`, `payment`, `status`, `cancel`
 unfoldable pub actionWord : Action → List ℕ

@@ -2,7 +2,18 @@
 use texts::scan;
 use payments::Action;
 ghost use mathlib.Core.Path.{_≡_};
-ghost use Rattle.parameters.specs.Names.{laterIndex, nameIndex, actionOf, hasAccount, hasReceipt, hasDate, hasReason};
+ghost use Rattle.parameters.specs.SlotWalk.{laterIndex};
+ghost use Rattle.parameters.specs.Names.{nameIndex, actionOf, hasAccount, hasReceipt, hasDate, hasReason};
+
+// The places of the seven names; of any other name the place is NO_NAME.
+pub const ACTION: usize = 0;
+pub const NUMBER: usize = 1;
+pub const KIND: usize = 2;
+pub const AMOUNT: usize = 3;
+pub const RECEIPT: usize = 4;
+pub const DATE: usize = 5;
+pub const REASON: usize = 6;
+pub const NO_NAME: usize = 7;
 
 pub enum ActionRead {
     Known(Action),
@@ -13,15 +24,15 @@ fn later_index(name: &[u8]) -> usize
     ensures { λ r. ⌜ r ≡ laterIndex (now (name .entry)) ⌝ }
 {
     if scan::same_bytes(name, b"receipt") {
-        return 4;
+        return RECEIPT;
     }
     if scan::same_bytes(name, b"date") {
-        return 5;
+        return DATE;
     }
     if scan::same_bytes(name, b"mes") {
-        return 6;
+        return REASON;
     }
-    7
+    NO_NAME
 }
 
 // A known name's place among the seven, or 7.
@@ -29,16 +40,16 @@ pub fn name_index(name: &[u8]) -> usize
     ensures { λ r. ⌜ r ≡ nameIndex (now (name .entry)) ⌝ }
 {
     if scan::same_bytes(name, b"action") {
-        return 0;
+        return ACTION;
     }
     if scan::same_bytes(name, b"number") {
-        return 1;
+        return NUMBER;
     }
     if scan::same_bytes(name, b"type") {
-        return 2;
+        return KIND;
     }
     if scan::same_bytes(name, b"amount") {
-        return 3;
+        return AMOUNT;
     }
     later_index(name)
 }

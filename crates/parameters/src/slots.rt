@@ -5,7 +5,8 @@ use texts::scan;
 ghost use mathlib.Core.Path.{_≡_};
 ghost use Prim.Native.Nat.{_-_, _<_, _≤_};
 ghost use lib.ListN.{length, take, drop, getD};
-ghost use Rattle.parameters.specs.Slots.{Absent, addPiece, gathered, slotsIn, scanned, brokenScan, placed, textSlot, clippedSlot};
+ghost use Rattle.parameters.specs.Slots.{Absent, addPiece, gathered};
+ghost use Rattle.parameters.specs.SlotWalk.{slotsIn, scanned, brokenScan, placed, textSlot, clippedSlot};
 
 // Where the value of each known name begins and ends in the text; an end of 0 is an absent name.
 pub struct Slots {
@@ -27,7 +28,7 @@ pub struct Text {
 }
 
 // What a text that meets row 31 gathers.
-pub(crate) fn broken() -> Scan
+fn broken() -> Scan
     ensures { λ r. ⌜ r ≡ brokenScan ⌝ }
 {
     Scan {
@@ -40,7 +41,7 @@ pub(crate) fn broken() -> Scan
 }
 
 // The part of a text from one place up to another.
-pub(crate) fn part(s: &[u8], from: usize, to: usize) -> &[u8]
+fn part(s: &[u8], from: usize, to: usize) -> &[u8]
     ensures { λ r. ⌜ now r ≡ take (to - from) (drop from (now (s .entry))) ⌝ }
 {
     if s.len() <= from {
@@ -53,7 +54,7 @@ pub(crate) fn part(s: &[u8], from: usize, to: usize) -> &[u8]
 }
 
 // Stores where the value of the name with place k stands; a name that has one already breaks the text, an unknown one is ignored.
-pub(crate) fn place(t: Slots, k: usize, from: usize, to: usize) -> Scan
+fn place(t: Slots, k: usize, from: usize, to: usize) -> Scan
     ensures { λ r. ⌜ r ≡ placed t k from to ⌝ }
 {
     if 7 <= k {
@@ -72,7 +73,7 @@ pub(crate) fn place(t: Slots, k: usize, from: usize, to: usize) -> Scan
 }
 
 // Gathers the piece from `at` to `end`.
-pub(crate) fn add_piece(s: &[u8], at: usize, end: usize, t: Slots) -> Scan
+fn add_piece(s: &[u8], at: usize, end: usize, t: Slots) -> Scan
     requires { ⌜ (at ≤ end) × (end ≤ length (now s)) ⌝ }
     ensures { λ r. ⌜ scanned (now (s .entry)) r ≡ addPiece (slotsIn (now (s .entry)) t) (take (end - at) (drop at (now (s .entry)))) ⌝ }
 {
@@ -80,7 +81,7 @@ pub(crate) fn add_piece(s: &[u8], at: usize, end: usize, t: Slots) -> Scan
     if p.len() == 0 {
         return Scan { ok: true, slots: t };
     }
-    let q = scan::find_byte(p, 61);
+    let q = scan::find_byte(p, b'=');
     if p.len() <= q {
         return broken();
     }
@@ -92,7 +93,7 @@ pub(crate) fn add_piece(s: &[u8], at: usize, end: usize, t: Slots) -> Scan
 }
 
 // Gathers every piece between ampersands.
-pub(crate) fn gather(s: &[u8]) -> Scan
+pub fn gather(s: &[u8]) -> Scan
     ensures { λ r. ⌜ scanned (now (s .entry)) r ≡ gathered (now (s .entry)) ⌝ }
 {
     let mut t = Slots {
@@ -101,7 +102,7 @@ pub(crate) fn gather(s: &[u8]) -> Scan
     };
     let mut at: usize = 0;
     while at < s.len() {
-        let end = at + scan::find_byte(&s[at..], 38);
+        let end = at + scan::find_byte(&s[at..], b'&');
         let r = add_piece(s, at, end, t);
         if !r.ok {
             return broken();
@@ -113,7 +114,7 @@ pub(crate) fn gather(s: &[u8]) -> Scan
 }
 
 // The decoded value of the name with place k.
-pub(crate) fn text_of(s: &[u8], t: Slots, k: usize) -> Text
+pub fn text_of(s: &[u8], t: Slots, k: usize) -> Text
     requires { ⌜ k < 7 ⌝ }
     ensures { λ r. ⌜ textSlot r ≡ clippedSlot (getD (slotsIn (now (s .entry)) t) k Absent) ⌝ }
 {

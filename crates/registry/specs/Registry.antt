@@ -7,7 +7,7 @@ use Rattle.dates.specs.declared.calendar.Day.{Day}
 use Rattle.dates.specs.Calendar.{onDay}
 use Rattle.dates.specs.Date.{dateDay}
 use Rattle.lines.specs.declared.line.Line.{Line}
-use Rattle.lines.specs.Line.{lineRead, lineBytes}
+use Rattle.lines.specs.Line.{lineRead, lineBytes, isLine}
 
 -- where the first line ends: the index of the first 0D that a 0A follows, or the length
 unfoldable pub lineEnd : List ℕ → ℕ

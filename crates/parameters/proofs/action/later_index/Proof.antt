@@ -1,6 +1,6 @@
 use borrow.Author.Needs.{needs}
-use Rattle.message.proofs.Picks.{picked, passed}
-use Rattle.parameters.specs.Names.{laterIndex}
+use Rattle.parameters.proofs.Picks.{picked, passed}
+use Rattle.parameters.specs.SlotWalk.{laterIndex}
 use Rattle.parameters.proofs.action.later_index.Statement.{statement}
 use Rattle.parameters.proofs.action.later_index.Tie as tie
 

@@ -1,5 +1,5 @@
 use borrow.Author.Needs.{needs}
-use Rattle.message.proofs.Picks.{picked, passed}
+use Rattle.parameters.proofs.Picks.{picked, passed}
 use Rattle.parameters.specs.Names.{actionOf, actionWord}
 use Rattle.parameters.proofs.action.read_action.Statement.{statement}
 use Rattle.parameters.proofs.action.read_action.Tie as tie

@@ -4,7 +4,8 @@ use Prim.Native.Nat.{_≤_, _-_, _+_}
 use mathlib.Core.Path.{_≡_}
 use lib.ListN.{length, drop}
 use Rattle.coding.specs.Params.{pieces}
-use Rattle.parameters.specs.Slots.{gathered, gatherFrom, slotsIn}
+use Rattle.parameters.specs.Slots.{gathered, gatherFrom}
+use Rattle.parameters.specs.SlotWalk.{slotsIn}
 use Rattle.parameters.proofs.slots.gather.Statement.{statement}
 use Rattle.parameters.proofs.slots.gather.Tie as tie
 
