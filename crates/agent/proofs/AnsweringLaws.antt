@@ -8,8 +8,8 @@ use Rattle.fields.specs.Codes.{isReceipt}
 use Rattle.payments.specs.declared.Action.{Action}
 use Rattle.payments.specs.declared.Action.the-variants.{Check}
 use Rattle.payments.specs.declared.Answer.{Answer}
-use Rattle.answers.specs.declared.answer.AnswerRead.{AnswerRead}
-use Rattle.answers.specs.AnswerRead.{answerRead}
+use Rattle.answer_reader.specs.declared.answer.AnswerRead.{AnswerRead}
+use Rattle.answer_reader.specs.AnswerRead.{answerRead}
 use Rattle.lists.specs.declared.Found.{Found}
 use Rattle.lists.specs.declared.Found.the-variants.{At, Nothing}
 use Rattle.book.specs.declared.Book.{Book}

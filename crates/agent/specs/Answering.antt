@@ -8,7 +8,7 @@ use Rattle.fields.specs.Codes.{isReceipt}
 use Rattle.payments.specs.declared.Action.{Action}
 use Rattle.payments.specs.declared.Action.the-variants.{Check, Payment, Status, Cancel}
 use Rattle.payments.specs.declared.Answer.{Answer}
-use Rattle.answers.specs.AnswerRead.{answerRead}
+use Rattle.answer_reader.specs.AnswerRead.{answerRead}
 use Rattle.lists.specs.declared.Found.{Found}
 use Rattle.lists.specs.declared.Found.the-variants.{At, Nothing}
 use Rattle.book.specs.declared.Book.{Book}

@@ -1,7 +1,7 @@
 // An answer comes back, with the action and the receipt of its request.
 use crate::meaning;
 use payments::Answer;
-use answers::read;
+use answer_reader::read;
 use book::Book;
 use book::Entry;
 use book::find;

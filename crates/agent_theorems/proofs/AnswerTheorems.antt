@@ -13,8 +13,8 @@ use Rattle.texts.proofs.DigitLaws.{within-high}
 use Rattle.payments.specs.declared.Action.{Action}
 use Rattle.payments.specs.declared.Action.the-variants.{Check, Payment, Status, Cancel}
 use Rattle.payments.specs.declared.Answer.{Answer}
-use Rattle.answers.specs.AnswerRead.{answerRead}
-use Rattle.answers.proofs.AnswerRange.{read-code}
+use Rattle.answer_reader.specs.AnswerRead.{answerRead}
+use Rattle.answer_reader.proofs.AnswerRange.{read-code}
 use Rattle.lists.specs.declared.Found.{Found}
 use Rattle.lists.specs.declared.Found.the-variants.{At, Nothing}
 use Rattle.book.specs.declared.Book.{Book}

@@ -20,7 +20,7 @@ use Rattle.message.specs.declared.request.Asked.{Asked as Request}
 use Rattle.message.specs.RequestText.{isAsked, requestBytes, requestText}
 use Rattle.message.proofs.RequestAgain.{request-fits}
 use Rattle.payments.specs.declared.Answer.{Answer}
-use Rattle.answers.specs.AnswerRead.{answerRead}
+use Rattle.answer_reader.specs.AnswerRead.{answerRead}
 use Rattle.lists.specs.declared.Found.the-variants.{At}
 use Rattle.book.specs.declared.Book.{Book}
 use Rattle.book.specs.declared.Entry.{Entry}

@@ -1,7 +1,1 @@
-pub mod AnswerTests
 pub mod AnswerTextLaws
-pub mod AnswerTagLaws
-pub mod AnswerPartLaws
-pub mod AnswerSteps
-pub mod AnswerRange
-pub mod AnswerAgain

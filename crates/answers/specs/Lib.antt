@@ -1,4 +1,2 @@
 pub mod Answer
-pub mod AnswerRead
 pub mod AnswerText
-pub mod AnswerParts

@@ -1,6 +1,2 @@
-// Answers: written by the gate, read by the agent.
-pub mod answer;
-pub mod parts;
-pub mod read;
-pub mod tags;
+// Answers, as the gate writes them.
 pub mod write;

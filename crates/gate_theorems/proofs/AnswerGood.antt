@@ -9,8 +9,9 @@ use Rattle.dates.specs.Date.{isWritten, emptyDate}
 use Rattle.payments.specs.declared.Action.{Action}
 use Rattle.payments.specs.declared.Action.the-variants.{Check, Payment, Status, Cancel}
 use Rattle.answers.specs.Answer.{answerBytes}
-use Rattle.answers.specs.AnswerRead.{mayLackDate, answerRead, isAnswer, answerAgain}
-use Rattle.answers.proofs.AnswerAgain.{answer-again}
+use Rattle.answer_reader.specs.AnswerRead.{mayLackDate, answerRead}
+use Rattle.answer_reader.specs.ReadBack.{isAnswer, answerAgain}
+use Rattle.answer_reader.proofs.AnswerAgain.{answer-again}
 use Rattle.table.specs.declared.Record.{Record}
 use Rattle.rules.specs.Answering.{settles, answersAuthcode, answersDate, answerDate, answerOf}
 

@@ -18,7 +18,7 @@ use Rattle.payments.specs.declared.Instruction.{Instruction}
 use Rattle.message.specs.Request.{requestRead}
 use Rattle.payments.specs.declared.Answer.{Answer}
 use Rattle.answers.specs.Answer.{answerBytes}
-use Rattle.answers.specs.AnswerRead.{answerRead}
+use Rattle.answer_reader.specs.AnswerRead.{answerRead}
 use Rattle.table.specs.declared.Record.{Record}
 use Rattle.table.specs.declared.Gate.{Gate}
 use Rattle.lists.specs.declared.Found.{Found}

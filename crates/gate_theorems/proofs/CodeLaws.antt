@@ -25,7 +25,7 @@ use Rattle.parameters.specs.Slots.{Slot, Absent, Gathered, Broken, Values, gath
 use Rattle.message.specs.Request.{held, receiptField, numberField, kindField, amountField, dateField, reasonField, refused, firstFault, fieldFault, fieldsRead, actionRead, valuesRead, requestRead}
 use Rattle.payments.specs.declared.Answer.{Answer}
 use Rattle.answers.specs.Answer.{answerBytes}
-use Rattle.answers.specs.AnswerRead.{answerAgain}
+use Rattle.answer_reader.specs.ReadBack.{answerAgain}
 use Rattle.answers.proofs.AnswerTextLaws.{answer-length-512}
 use Rattle.table.specs.declared.Record.{Record}
 use Rattle.table.specs.declared.Gate.{Gate}

@@ -1,0 +1,5 @@
+mod AnswerTests
+mod AnswerTagLaws
+mod AnswerPartLaws
+pub mod AnswerRange
+pub mod AnswerAgain

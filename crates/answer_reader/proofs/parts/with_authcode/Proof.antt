@@ -1,0 +1,16 @@
+use borrow.Author.Needs.{needs}
+use Rattle.answer_reader.proofs.AnswerPartLaws.{number-good, number-bad}
+use Rattle.answer_reader.proofs.parts.with_authcode.Statement.{statement}
+use Rattle.answer_reader.proofs.parts.with_authcode.Tie as tie
+
+ruleset laws = (number-good, number-bad, needs)
+
+pub with-authcode-spec : {M : Type 1} → statement M
+with-authcode-spec =
+    tie.close
+    (tie.spec
+    (λ c. search laws)
+    (λ c. search laws)
+    (λ c κs. search laws)
+    (λ c. search laws)
+    (λ c. search laws))

@@ -1,0 +1,14 @@
+use borrow.Author.Needs.{needs}
+use Rattle.answer_reader.proofs.AnswerPartLaws.{date-good, date-bad}
+use Rattle.answer_reader.proofs.parts.with_date.Statement.{statement}
+use Rattle.answer_reader.proofs.parts.with_date.Tie as tie
+
+ruleset laws = (date-good, date-bad, needs)
+
+pub with-date-spec : {M : Type 1} → statement M
+with-date-spec =
+    tie.close
+    (tie.spec
+    (λ c κs. search laws)
+    (λ c. search laws)
+    (λ c. search laws))

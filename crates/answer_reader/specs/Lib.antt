@@ -1,0 +1,3 @@
+pub mod AnswerRead
+pub mod AnswerParts
+pub mod ReadBack

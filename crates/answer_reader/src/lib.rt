@@ -1,0 +1,5 @@
+// Answers, as the agent reads them.
+pub mod answer;
+mod parts;
+pub mod read;
+mod tags;
