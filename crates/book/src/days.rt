@@ -13,6 +13,9 @@ ghost use Rattle.book.specs.Lent.{bookBefore};
 ghost use Rattle.book.specs.BookValid.{dayCount, daysGood};
 ghost use Rattle.book.specs.BookWalk.{daySlot};
 
+// How many entries one day has at most.
+pub const DAY_MOST: usize = 512;
+
 // How many of the first `used` entries are on the day.
 pub fn count_day(
     nums: &[[u64; 6]],
@@ -78,7 +81,7 @@ pub(crate) fn days_good(
         };
         let s = day_slot(day);
         let before = counts[s];
-        if 512 <= before {
+        if DAY_MOST <= before {
             return false;
         }
         counts[s] = before + 1;

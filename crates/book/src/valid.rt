@@ -17,6 +17,9 @@ ghost use Rattle.book.specs.Entries.{entriesOf, WholeBook};
 ghost use Rattle.book.specs.Lent.{bookBefore};
 ghost use Rattle.book.specs.BookValid.{entryFields, entryGood, bookHead, bookGood, ReadyBook};
 
+// The largest authcode: 15 digits.
+const AUTHCODE_MOST: u64 = 999999999999999;
+
 // Whether the fields of an entry are in their ranges.
 fn entry_fields(e: Entry) -> bool
     ensures { λ r. ⌜ r ≡ entryFields e ⌝ }
@@ -41,7 +44,7 @@ fn entry_fields(e: Entry) -> bool
     if !digits::is_within(1, 5, e.state) {
         return false;
     }
-    digits::is_within(0, 999999999999999, e.authcode)
+    digits::is_within(0, AUTHCODE_MOST, e.authcode)
 }
 
 // Whether the entry at i has the receipt of its place, and its fields are in their ranges.

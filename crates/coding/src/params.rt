@@ -15,7 +15,7 @@ pub fn parameters<'a>(method: Method, target: &'a [u8], body: &'a [u8]) -> &'a [
 {
     match method {
         Method::Get => {
-            let q = scan::find_byte(target, 63);
+            let q = scan::find_byte(target, b'?');
             if q < target.len() {
                 &target[q + 1..]
             } else {

@@ -21,9 +21,9 @@ pub fn is_hex(b: u8) -> bool
     ensures { λ r. ⌜ r ≡ isHex b ⌝ }
 {
     match b {
-        48..=57 => true,
-        65..=70 => true,
-        97..=102 => true,
+        b'0'..=b'9' => true,
+        b'A'..=b'F' => true,
+        b'a'..=b'f' => true,
         _ => false,
     }
 }
@@ -33,9 +33,9 @@ pub fn hex_value(b: u8) -> u8
     ensures { λ r. ⌜ r ≡ hexValue b ⌝ }
 {
     match b {
-        48..=57 => b - 48,
-        65..=70 => b - 55,
-        97..=102 => b - 87,
+        b'0'..=b'9' => b - b'0',
+        b'A'..=b'F' => b - 55,
+        b'a'..=b'f' => b - 87,
         _ => 0,
     }
 }
@@ -53,7 +53,7 @@ pub(crate) fn unit_at(s: &[u8], i: usize) -> Unit
     ensures { λ r. ⌜ r ≡ unitOf (drop i (now (s .entry))) ⌝ }
 {
     let b = s[i];
-    if b != 37 {
+    if b != b'%' {
         return Unit {
             byte: b,
             len: 1,
@@ -114,10 +114,10 @@ pub fn is_plain(b: u8) -> bool
     ensures { λ r. ⌜ r ≡ isPlain b ⌝ }
 {
     match b {
-        65..=90 => true,
-        97..=122 => true,
-        48..=58 => true,
-        45..=46 => true,
+        b'A'..=b'Z' => true,
+        b'a'..=b'z' => true,
+        b'0'..=b':' => true,
+        b'-'..=b'.' => true,
         _ => false,
     }
 }
@@ -161,7 +161,7 @@ pub(crate) fn write_byte(b: u8, dst: &mut [u8], at: usize) -> usize
     if is_plain(b) {
         return out::put_bytes(&[b], dst, at);
     }
-    out::put_bytes(&[37, hex_digit(b / 16), hex_digit(b % 16)], dst, at)
+    out::put_bytes(&[b'%', hex_digit(b / 16), hex_digit(b % 16)], dst, at)
 }
 
 // Writes bytes url-coded at the cursor, where they have room.

@@ -29,7 +29,7 @@ pub struct Gathered {
 fn asks(first: u8, spaces: usize) -> bool
     ensures { λ r. ⌜ r ≡ asksAt first spaces ⌝ }
 {
-    if first != 82 {
+    if first != b'R' {
         return false;
     }
     2 <= spaces
@@ -64,7 +64,7 @@ fn step_of(first: u8, len: usize, spaces: usize, run: usize, b: u8) -> Step
         }
         return passed;
     }
-    if b == 32 {
+    if b == b' ' {
         if spaces < 4 {
             return held_byte(spaces + 1, 0);
         }
@@ -99,7 +99,7 @@ pub fn gather(h: Held, input: &[u8], at: usize) -> Gathered
     let mut i = at;
     while i < input.len() {
         let b = input[i];
-        if b == 10 {
+        if b == b'\n' {
             return Gathered {
                 held: hold(bytes, len, spaces, run),
                 at: i + 1,

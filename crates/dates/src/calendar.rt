@@ -171,10 +171,10 @@ pub fn day_part(s: &[u8]) -> DayRead
     if s.len() < 10 {
         return DayRead::NoDate;
     }
-    if s[4] != 45 {
+    if s[4] != b'-' {
         return DayRead::NoDate;
     }
-    if s[7] != 45 {
+    if s[7] != b'-' {
         return DayRead::NoDate;
     }
     if two(s[0], s[1]) != 20 {

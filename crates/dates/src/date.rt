@@ -19,13 +19,13 @@ pub struct DateRead {
 pub fn has_time(d: [u8; 19]) -> bool
     ensures { λ r. ⌜ r ≡ clockTime d ⌝ }
 {
-    if d[10] != 84 {
+    if d[10] != b'T' {
         return false;
     }
-    if d[13] != 58 {
+    if d[13] != b':' {
         return false;
     }
-    if d[16] != 58 {
+    if d[16] != b':' {
         return false;
     }
     if 23 < calendar::two(d[11], d[12]) {

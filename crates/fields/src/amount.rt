@@ -8,11 +8,14 @@ ghost use lib.ListN.{drop};
 ghost use Rattle.fields.specs.Amount.{isAmount, amountRead, kopecksAfter, kopecksFrom, amountBytes};
 ghost use Rattle.texts.specs.Lists.{written, cursorAfter};
 
+// The most that one payment or draw is, in kopecks.
+const AMOUNT_MOST: u64 = 999999999;
+
 // Whether kopecks are an amount.
 pub fn is_amount(kopecks: u64) -> bool
     ensures { λ r. ⌜ r ≡ isAmount kopecks ⌝ }
 {
-    digits::is_within(1, 999999999, kopecks)
+    digits::is_within(1, AMOUNT_MOST, kopecks)
 }
 
 // The kopecks that one or two digits after the point give.
@@ -47,7 +50,7 @@ pub fn kopecks_from(s: &[u8], p: usize) -> Digits
 pub fn read_amount(s: &[u8]) -> Digits
     ensures { λ r. ⌜ r ≡ amountRead (now (s .entry)) ⌝ }
 {
-    let p = scan::find_byte(s, 46);
+    let p = scan::find_byte(s, b'.');
     let Digits::Value(whole) = digits::read_digits(&s[..p], 7) else {
         return Digits::Malformed;
     };
@@ -75,7 +78,7 @@ pub fn write_amount(kopecks: u64, dst: &mut [u8], at: usize) -> usize
         return at;
     }
     let c = kopecks % 100;
-    let low = [46, 48 + (c / 10 % 10) as u8, 48 + (c % 10) as u8];
+    let low = [b'.', b'0' + (c / 10 % 10) as u8, b'0' + (c % 10) as u8];
     let p = out::put_bytes(&a[z..], dst, at);
     out::put_bytes(&low, dst, p)
 }

@@ -4,18 +4,21 @@ use texts::digits::Digits;
 ghost use mathlib.Core.Path.{_≡_};
 ghost use Rattle.fields.specs.Codes.{isReceipt, receiptRead, isKind, kindRead, isReason, reasonRead};
 
+// The largest receipt: 10^15 - 1.
+const RECEIPT_MOST: u64 = 999999999999999;
+
 // Whether a value is a receipt, a payment's number.
 pub fn is_receipt(v: u64) -> bool
     ensures { λ r. ⌜ r ≡ isReceipt v ⌝ }
 {
-    digits::is_within(1, 999999999999999, v)
+    digits::is_within(1, RECEIPT_MOST, v)
 }
 
 // A receipt: a payment's number, in at most 15 digits.
 pub fn read_receipt(s: &[u8]) -> Digits
     ensures { λ r. ⌜ r ≡ receiptRead (now (s .entry)) ⌝ }
 {
-    digits::read_range(s, 15, 1, 999999999999999)
+    digits::read_range(s, 15, 1, RECEIPT_MOST)
 }
 
 // Whether a value is an account's type.

@@ -24,7 +24,7 @@ pub fn is_number_byte(b: u8) -> bool
     if b < 33 {
         return false;
     }
-    b <= 126
+    b <= b'~'
 }
 
 // Whether each of the bytes is one that a number may have.

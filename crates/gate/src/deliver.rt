@@ -18,6 +18,9 @@ ghost use Rattle.table.specs.Lent.{lent, before, after};
 ghost use Rattle.validity.specs.Valid.{Ready, tableGood};
 ghost use Rattle.gate.specs.Deliver.{instructionOf, deliveryOf, respond, deliver};
 
+// How many bytes an answer's buffer has at least.
+const ANSWER_ROOM: usize = 512;
+
 // What a request of this wire asks, whatever the wire.
 fn instruction_of(q: Asked) -> Instruction
     ensures { λ r. ⌜ r ≡ instructionOf q ⌝ }
@@ -79,7 +82,7 @@ pub fn deliver(
             size: 0,
         };
     }
-    if out.len() < 512 {
+    if out.len() < ANSWER_ROOM {
         return Reply {
             code: 50,
             gate: g,

@@ -88,20 +88,20 @@ pub(crate) fn line_of(n: NumberRead, k: Digits, d: DateRead, a: Digits, r: Digit
 pub(crate) fn line_with(n: NumberRead, k: Digits, s: &[u8]) -> LineRead
     ensures { λ x. ⌜ x ≡ lineWith n k (now (s .entry)) ⌝ }
 {
-    let d = date::read_date(scan::before_byte(s, 9));
-    let s1 = scan::after_byte(s, 9);
-    let a = amount::read_amount(scan::before_byte(s1, 9));
-    line_of(n, k, d, a, codes::read_receipt(scan::after_byte(s1, 9)))
+    let d = date::read_date(scan::before_byte(s, b'\t'));
+    let s1 = scan::after_byte(s, b'\t');
+    let a = amount::read_amount(scan::before_byte(s1, b'\t'));
+    line_of(n, k, d, a, codes::read_receipt(scan::after_byte(s1, b'\t')))
 }
 
 // A line, without its end.
 pub fn read_line(s: &[u8]) -> LineRead
     ensures { λ r. ⌜ r ≡ lineRead (now (s .entry)) ⌝ }
 {
-    let n = number::read_number(scan::before_byte(s, 9));
-    let s1 = scan::after_byte(s, 9);
-    let k = codes::read_kind(scan::before_byte(s1, 9));
-    line_with(n, k, scan::after_byte(s1, 9))
+    let n = number::read_number(scan::before_byte(s, b'\t'));
+    let s1 = scan::after_byte(s, b'\t');
+    let k = codes::read_kind(scan::before_byte(s1, b'\t'));
+    line_with(n, k, scan::after_byte(s1, b'\t'))
 }
 
 impl Line {

@@ -4,6 +4,9 @@ ghost use mathlib.Core.Bool.{true};
 ghost use Rattle.lists.specs.Lists.{isFound};
 ghost use Rattle.lists.specs.Lent.{lentWell, Lent};
 
+// How many places a table or a book has at most.
+const PLACES_MOST: usize = 4096;
+
 pub enum Found {
     At(usize),
     Nothing,
@@ -27,7 +30,7 @@ pub fn is_lent(used: usize, nums: usize, numbers: usize, dates: usize) -> bool
     if nums < 1 {
         return false;
     }
-    if 4096 < nums {
+    if PLACES_MOST < nums {
         return false;
     }
     if numbers != nums {

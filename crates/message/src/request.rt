@@ -24,6 +24,9 @@ ghost use Rattle.message.specs.RequestWalk.{readBy, laterRead};
 ghost use Rattle.parameters.specs.Slots.{Absent};
 ghost use Rattle.parameters.specs.SlotWalk.{slotsIn};
 
+// How many bytes the parameters of a request are at most.
+const PARAMETERS_MOST: usize = 2048;
+
 // The fields of a request; those that its action lacks are at fixed values, zeros.
 pub struct Asked {
     pub action: Action,
@@ -263,7 +266,7 @@ pub(crate) fn read_fields(a: Action, s: &[u8], t: Slots) -> RequestRead
 pub fn read_request(s: &[u8]) -> RequestRead
     ensures { λ r. ⌜ r ≡ requestRead (now (s .entry)) ⌝ }
 {
-    if 2048 < s.len() {
+    if PARAMETERS_MOST < s.len() {
         return refuse(31, Action::Check);
     }
     let scan = slots::gather(s);

@@ -44,7 +44,7 @@ fn open_to(g: Gate, n: Number, kind: u64) -> Reply
             size: 0,
         };
     }
-    if 256 <= g.count {
+    if table::ACCOUNTS_MOST <= g.count {
         return Reply {
             code: 57,
             gate: g,

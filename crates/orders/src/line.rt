@@ -9,7 +9,7 @@ ghost use Rattle.orders.specs.Order.{fieldAt, fieldCount, hasLetter, par
 fn first_field(s: &[u8]) -> &[u8]
     ensures { λ r. ⌜ now r ≡ fieldAt 0 (now (s .entry)) ⌝ }
 {
-    scan::before_byte(s, 32)
+    scan::before_byte(s, b' ')
 }
 
 // Field i, from 0; empty where the line has fewer.
@@ -22,7 +22,7 @@ pub fn field_at(line: &[u8], i: usize) -> &[u8]
         if line.len() <= at {
             return &line[..0];
         }
-        at += scan::find_byte(&line[at..], 32) + 1;
+        at += scan::find_byte(&line[at..], b' ') + 1;
         left -= 1;
     }
     first_field(scan::bytes_from(line, at))
@@ -32,7 +32,7 @@ pub fn field_at(line: &[u8], i: usize) -> &[u8]
 fn ends_field(b: u8) -> usize
     ensures { λ r. ⌜ r ≡ cond (eqb b 32) 1 0 ⌝ }
 {
-    if b == 32 { 1 } else { 0 }
+    if b == b' ' { 1 } else { 0 }
 }
 
 // How many fields a line has.
@@ -80,5 +80,5 @@ pub fn has_least(line: &[u8], letter: u8, count: usize) -> bool
 pub fn params_in(line: &[u8]) -> &[u8]
     ensures { λ r. ⌜ now r ≡ paramsIn (now (line .entry)) ⌝ }
 {
-    scan::after_byte(scan::after_byte(line, 32), 32)
+    scan::after_byte(scan::after_byte(line, b' '), b' ')
 }

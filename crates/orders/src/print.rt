@@ -38,7 +38,7 @@ pub fn write_signed(z: i64, dst: &mut [u8], at: usize) -> usize
 {
     let n = size_of(z);
     if z < 0 {
-        write_led(45, n, dst, at)
+        write_led(b'-', n, dst, at)
     } else {
         digits::write_digits(n, dst, at)
     }
@@ -50,7 +50,7 @@ fn put_counts(code: u64, used: u64, row: &mut [u8]) -> usize
     ensures { λ r. ⌜ (r ≡ cursorAfter (now (row .entry)) 0 (countsText code used)) × (now (row .exit) ≡ written (now (row .entry)) 0 (countsText code used)) ⌝ }
 {
     let a = digits::write_digits(code, row, 0);
-    let b = write_led(32, used, row, a);
+    let b = write_led(b' ', used, row, a);
     out::put_bytes(b" ", row, b)
 }
 

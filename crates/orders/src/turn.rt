@@ -62,7 +62,7 @@ fn kind_in(d: Digits) -> u64
 fn start_turn(x: Console, line: &[u8]) -> Turn
     ensures { λ r. ⌜ ((t : Rows) → turnOf r t ≡ startTurn x t (now (line .entry))) ⌝ }
 {
-    if !line::has_form(line, 67, 2) {
+    if !line::has_form(line, b'C', 2) {
         return not_read(x);
     }
     let DayRead::Good(d) = calendar::read_day(line::field_at(line, 1)) else {
@@ -156,13 +156,13 @@ fn order_turn(
 ) -> Turn
     ensures { λ r. ⌜ turnOf r (after nums numbers dates) ≡ orderTurn x (before nums numbers dates) (now (line .entry)) ⌝ }
 {
-    if line::has_form(line, 79, 3) {
+    if line::has_form(line, b'O', 3) {
         return open_turn(nums, numbers, dates, x, line);
     }
-    if line::has_form(line, 68, 4) {
+    if line::has_form(line, b'D', 4) {
         return draw_turn(nums, numbers, dates, x, line);
     }
-    if line::has_least(line, 82, 3) {
+    if line::has_least(line, b'R', 3) {
         return ask_turn(nums, numbers, dates, x, line);
     }
     not_read(x)

@@ -9,7 +9,7 @@ pub fn is_mark(b: u8) -> bool
     if b < 48 {
         return false;
     }
-    b <= 49
+    b <= b'1'
 }
 
 // Whether a text is a report of n lines.

@@ -14,11 +14,14 @@ ghost use Rattle.dates.specs.Date.{dateDay};
 ghost use Rattle.lines.specs.Line.{lineRead};
 ghost use Rattle.registry.specs.Registry.{lineEnd, lineCount, registryFault};
 
+// How many lines a registry has at most.
+const LINES_MOST: usize = 512;
+
 // Whether two bytes are 0D 0A.
 pub(crate) fn is_end(b: u8, c: u8) -> bool
     ensures { λ r. ⌜ r ≡ eqb b 13 && eqb c 10 ⌝ }
 {
-    if b == 13 { c == 10 } else { false }
+    if b == b'\r' { c == b'\n' } else { false }
 }
 
 // Where the line that begins at the cursor ends: the place of its 0D 0A, or the end of the text.
@@ -94,7 +97,7 @@ pub(crate) fn fault_of(good: bool, rose: bool) -> u64
 pub fn check_registry(day: Day, s: &[u8]) -> u64
     ensures { λ r. ⌜ r ≡ registryFault day (now (s .entry)) ⌝ }
 {
-    if 512 < count_lines(s) {
+    if LINES_MOST < count_lines(s) {
         return 53;
     }
     let mut rose = true;

@@ -77,9 +77,9 @@ fn payment_new(v: View) -> Decided
 fn cancel_done(v: View) -> Decided
     ensures { λ r. ⌜ r ≡ cancelDone v ⌝ }
 {
-    let closed = v.closed;
+    let day_closed = v.closed;
     let short = v.short;
-    match closed {
+    match day_closed {
         true => keep(9),
         false => match short {
             true => keep(9),

@@ -5,6 +5,9 @@ pub mod rows;
 use dates::calendar::Day;
 use fields::number::Number;
 
+// How many accounts a gate has at most.
+pub const ACCOUNTS_MOST: usize = 256;
+
 // The states of a record.
 pub const DONE: u64 = 1;
 pub const CANCELLED: u64 = 2;

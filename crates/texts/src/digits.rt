@@ -73,7 +73,7 @@ pub fn twenty(n: u64) -> [u8; 20]
     let mut i: usize = 20;
     while 0 < i {
         i -= 1;
-        a[i] = 48 + (m % 10) as u8;
+        a[i] = b'0' + (m % 10) as u8;
         m = m / 10;
     }
     a
@@ -85,7 +85,7 @@ pub fn leading_zeros(s: &[u8]) -> usize
 {
     let mut i: usize = 0;
     while i + 1 < s.len() {
-        if s[i] != 48 {
+        if s[i] != b'0' {
             return i;
         }
         i += 1;

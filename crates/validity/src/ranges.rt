@@ -13,14 +13,18 @@ ghost use Rattle.lists.specs.Lists.{allFrom};
 ghost use Rattle.table.specs.Accounts.{accountsOf};
 ghost use Rattle.validity.specs.Valid.{near, accountGood, gateGood, stateGood, rangesGood, authcodeGood, Sound};
 
+// The bounds of a balance: 10^13 either side.
+const BALANCE_MOST: i64 = 10000000000000;
+const BALANCE_LEAST: i64 = -10000000000000;
+
 // Whether a balance is no further from 0 than 10^13.
 fn is_near(b: i64) -> bool
     ensures { λ r. ⌜ r ≡ near b ⌝ }
 {
-    if 10000000000000 < b {
+    if BALANCE_MOST < b {
         return false;
     }
-    if b < -10000000000000 {
+    if b < BALANCE_LEAST {
         return false;
     }
     true
