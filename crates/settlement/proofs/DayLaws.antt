@@ -1,5 +1,5 @@
 -- Laws of a day that is settled.
-use Prim.Native.Nat.{ℕ, suc, _+_, _≤_}
+use Prim.Native.Nat.{ℕ, suc, _≤_}
 use native.Mathlib.Omega.{arith}
 use mathlib.Core.Path.{_≡_, refl, sym, ap, _∙_}
 use mathlib.Core.List.{List, [], _∷_}
@@ -12,9 +12,12 @@ use Rattle.table.specs.declared.Gate.{Gate}
 use Rattle.table.specs.declared.Record.{Record}
 use Rattle.table.specs.Table.{Rows, recordsOf, rowsFrom}
 use Rattle.table.specs.Accounts.{withClosed}
-use Rattle.settlement.specs.Settle.{Ledger, settleLines, sweptRecord, swept, reportOf, Settlement, settleDay}
-use Rattle.settlement.specs.Steps.{Left, ledgerOf}
-use Rattle.settlement.proofs.HeldLaws.{from-from}
+use Rattle.posting.specs.Posting.{Ledger}
+use Rattle.settlement.specs.Settle.{settleLines, sweptRecord, swept, reportOf, Settlement, settleDay}
+use Rattle.posting.specs.Steps.{Left, ledgerOf}
+use Rattle.settlement.specs.Lines.{LineRows, linesOf, Read}
+use Rattle.settlement.proofs.LinesLaws.{from-from}
+use Rattle.settlement.proofs.ReadLaws.{length-lines}
 
 -- one byte a line
 pub report-length : (xs : List Line) (rs : List Record) → length (reportOf xs rs) ≡ length xs
@@ -25,13 +28,13 @@ report-length (x ∷ xs) rs = ap suc (report-length xs rs)
 pub report-written : (xs : List Line) (rs : List Record) (out : List ℕ) → length xs ≤ 512 → 512 ≤ length out → over out 0 (reportOf xs rs) ≡ written out 0 (reportOf xs rs)
 report-written xs rs out a b = written-over out 0 (reportOf xs rs) (omega (arith, report-length xs rs))
 
-module _ (g : Gate) (t : Rows) (clock : List ℕ) (day : Day) (xs : List Line) (out : List ℕ) (few : length xs ≤ 512) (room : 512 ≤ length out)
-    (a : Gate) (t₁ : Rows) (left₁ : Left t (settleLines clock (length (t .nums)) xs (ledgerOf g t)) a t₁)
-    (is₁ : settleLines clock (length (t .nums)) xs (ledgerOf g t) ≡ ledgerOf a t₁)
-    (b : Gate) (t₂ : Rows) (left₂ : Left t₁ (swept clock day xs (ledgerOf a t₁)) b t₂) (is₂ : swept clock day xs (ledgerOf a t₁) ≡ ledgerOf b t₂) where
+module _ (g : Gate) (t : Rows) (clock : List ℕ) (day : Day) (u : LineRows) (n : ℕ) (out : List ℕ) (read : Read u n) (room : 512 ≤ length out)
+    (a : Gate) (t₁ : Rows) (left₁ : Left t (settleLines clock (length (t .nums)) (linesOf u n) (ledgerOf g t)) a t₁)
+    (is₁ : settleLines clock (length (t .nums)) (linesOf u n) (ledgerOf g t) ≡ ledgerOf a t₁)
+    (b : Gate) (t₂ : Rows) (left₂ : Left t₁ (swept clock day (linesOf u n) (ledgerOf a t₁)) b t₂) (is₂ : swept clock day (linesOf u n) (ledgerOf a t₁) ≡ ledgerOf b t₂) where
   as-many : length (recordsOf t₂ (b .used)) ≡ length (recordsOf t₁ (a .used))
   unfolding swept
-  as-many = ap (λ (l : Ledger). length (l .records)) (sym is₂) ∙ length-map (recordsOf t₁ (a .used)) (sweptRecord clock day xs)
+  as-many = ap (λ (l : Ledger). length (l .records)) (sym is₂) ∙ length-map (recordsOf t₁ (a .used)) (sweptRecord clock day (linesOf u n))
 
   rows-are : t₂ ≡ rowsFrom t (recordsOf t₂ (b .used))
   rows-are =
@@ -40,12 +43,17 @@ module _ (g : Gate) (t : Rows) (clock : List ℕ) (day : Day) (xs : List Line) (
       ∙ ap (λ (y : Rows). rowsFrom y (recordsOf t₂ (b .used))) one
       ∙ from-from t (recordsOf t₁ (a .used)) (recordsOf t₂ (b .used)) (omega (arith, as-many))
 
-  pub day-settled : (out′ : List ℕ) → out′ ≡ over out 0 (reportOf xs (recordsOf t₂ (b .used))) → (n : ℕ) → n ≡ length xs
-      → _≡_ {A = Settlement} (record { code = 0; gate = withClosed b day; rows = t₂; report = out′; size = n }) (settleDay g t clock day xs out)
+  pub day-settled : (out′ : List ℕ) → out′ ≡ over out 0 (reportOf (linesOf u n) (recordsOf t₂ (b .used)))
+      → _≡_ {A = Settlement} (record { code = 0; gate = withClosed b day; rows = t₂; report = out′; size = n }) (settleDay g t clock day (linesOf u n) out)
   unfolding settleDay
-  day-settled out′ e n en =
+  day-settled out′ e =
+      let few : length (linesOf u n) ≤ 512 = omega (arith, read .few, length-lines u n) in
       rw (is₁, is₂)
       (ap (λ (y : Rows). record { code = 0; gate = withClosed b day; rows = y; report = out′; size = n }) rows-are
-      ∙ ap (λ (k : ℕ). record { code = 0; gate = withClosed b day; rows = rowsFrom t (recordsOf t₂ (b .used)); report = out′; size = k }) en
-      ∙ ap (λ (y : List ℕ). record { code = 0; gate = withClosed b day; rows = rowsFrom t (recordsOf t₂ (b .used)); report = y; size = length xs })
-      (e ∙ report-written xs (recordsOf t₂ (b .used)) out few room))
+      ∙ ap (λ (k : ℕ). record { code = 0; gate = withClosed b day; rows = rowsFrom t (recordsOf t₂ (b .used)); report = out′; size = k }) (sym (length-lines u n))
+      ∙ ap (λ (y : List ℕ). record { code = 0; gate = withClosed b day; rows = rowsFrom t (recordsOf t₂ (b .used)); report = y; size = length (linesOf u n) })
+      (e ∙ report-written (linesOf u n) (recordsOf t₂ (b .used)) out few room))
+
+-- what the report needs of the table that the sweep left, and of the buffer
+pub report-room : (u : LineRows) (n : ℕ) (out : List ℕ) → Read u n → 512 ≤ length out → n ≤ length out
+report-room u n out read room = omega (arith, read .few)

@@ -1,8 +1,7 @@
 pub mod DayLaws
-pub mod HeldLaws
 pub mod LinesLaws
-pub mod MatchLaws
-pub mod PostLaws
+pub mod ReadLaws
 pub mod ReportLaws
 pub mod SweepLaws
 pub mod TextLaws
+pub mod RevokeLaws

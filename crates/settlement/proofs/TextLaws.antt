@@ -1,10 +1,9 @@
 -- Laws of a registry that is delivered, at each way out of the call.
 use Prim.Native.Nat.{ℕ, _≤_, _<_}
 use native.Mathlib.Omega.{arith}
-use mathlib.Core.Path.{_≡_, refl, sym, ap, _∙_}
-use mathlib.Core.Bool.{Bool, true, false, cond, not, _&&_}
+use mathlib.Core.Path.{_≡_, sym, ap, _∙_}
+use mathlib.Core.Bool.{Bool, true, false, not}
 use mathlib.Core.List.{List}
-use lib.Dec.{eqb}
 use lib.ListN.{length}
 use borrow.Author.Tests.{le-leb, lt-leb, eq-eqb, ne-eqb, not-true, not-false}
 use Rattle.dates.specs.declared.calendar.Day.{Day}
@@ -15,6 +14,7 @@ use Rattle.fields.specs.Codes.{isReceipt}
 use Rattle.dates.specs.Date.{isWritten}
 use Rattle.texts.proofs.Tests.{and-left, and-right}
 use Rattle.texts.proofs.DigitLaws.{within-high}
+use Rattle.lines.specs.declared.line.Line.{Line}
 use Rattle.registry.specs.Registry.{registryLines, registryFault, lineCount}
 use Rattle.registry.proofs.LinesGood.{lines-good}
 use Rattle.table.specs.declared.Gate.{Gate}
@@ -22,9 +22,11 @@ use Rattle.table.specs.declared.Record.{Record}
 use Rattle.table.specs.Table.{Rows, recordAt, recordsOf}
 use Rattle.validity.specs.Valid.{rangesGood, recordGood, authcodeGood, tableGood, Ready}
 use Rattle.validity.proofs.GoodLaws.{good-table}
-use Rattle.settlement.specs.Settle.{Settlement, reportOf, settleDay, settleText, settle}
-use Rattle.settlement.specs.Steps.{Held}
+use Rattle.settlement.specs.Settle.{Settlement, reportOf, settleDay, settleRead, settle}
+use Rattle.posting.specs.Steps.{Held}
+use Rattle.settlement.specs.Lines.{LineRows, linesOf, Read}
 use Rattle.settlement.proofs.DayLaws.{report-written}
+use Rattle.settlement.proofs.ReadLaws.{length-lines}
 
 -- ---- what the checks give to the functions behind them
 good-amount : (g : Gate) (i : ℕ) (r : Record) → recordGood g i r ≡ true → r .amount < 1000000000
@@ -44,36 +46,45 @@ held-ready g t ready good =
       small = λ i h. good-amount g i (recordAt t i) (good-table g t (ready .sound .places) good .records i h);
     }
 
-pub lines-few : (day : Day) (s : List ℕ) (f : ℕ) → f ≡ registryFault day s → f ≡ 0 → length (registryLines s) ≤ 512
-lines-few day s f e z = lines-good day s (sym e ∙ z) .few
-
 pub count-few : (day : Day) (s : List ℕ) (f : ℕ) → f ≡ registryFault day s → f ≡ 0 → lineCount s ≤ 512
 count-few day s f e z =
     let l = lines-good day s (sym e ∙ z) in
     omega (arith, l .few, l .count)
 
--- ---- a text without a fault
-module _ (g : Gate) (t : Rows) (clock : List ℕ) (day : Day) (s out : List ℕ) (n : Bool) (en : n ≡ onDay day (nextDay (g .closed))) where
-  pub text-next : n ≡ true → (d : Settlement) → d ≡ settleDay g t clock day (registryLines s) out → d ≡ settleText g t clock day s out
-  unfolding settleText
-  text-next h d e = e ∙ rw (← en, h)
+-- ---- the lines of a text without a fault
+module _ (g : Gate) (t : Rows) (clock : List ℕ) (day : Day) (xs : List Line) (out : List ℕ) (n : Bool) (en : n ≡ onDay day (nextDay (g .closed))) where
+  pub read-next : n ≡ true → (d : Settlement) → d ≡ settleDay g t clock day xs out → d ≡ settleRead g t clock day xs out
+  unfolding settleRead
+  read-next h d e = e ∙ rw (← en, h)
 
   module _ (h : n ≡ false) (rows : Rows) (er : rows ≡ t) (v : Bool) (ev : v ≡ isDay day) where
-    pub text-no-date : not v ≡ true → (left : List ℕ) → left ≡ out → _≡_ {A = Settlement} (record { code = 55; gate = g; rows = rows; report = left; size = 0 }) (settleText g t clock day s out)
-    unfolding settleText
-    text-no-date c left el = rw (← en, h, ← ev, not-true v c, er, el)
+    pub read-no-date : not v ≡ true → (left : List ℕ) → left ≡ out → _≡_ {A = Settlement} (record { code = 55; gate = g; rows = rows; report = left; size = 0 }) (settleRead g t clock day xs out)
+    unfolding settleRead
+    read-no-date c left el = rw (← en, h, ← ev, not-true v c, er, el)
 
     module _ (c : not v ≡ false) (b : Bool) (eb : b ≡ dayBefore (g .closed) day) where
-      pub text-later : b ≡ true → (left : List ℕ) → left ≡ out → _≡_ {A = Settlement} (record { code = 55; gate = g; rows = rows; report = left; size = 0 }) (settleText g t clock day s out)
-      unfolding settleText
-      text-later y left el = rw (← en, h, ← ev, not-false v c, ← eb, y, er, el)
+      pub read-later : b ≡ true → (left : List ℕ) → left ≡ out → _≡_ {A = Settlement} (record { code = 55; gate = g; rows = rows; report = left; size = 0 }) (settleRead g t clock day xs out)
+      unfolding settleRead
+      read-later y left el = rw (← en, h, ← ev, not-false v c, ← eb, y, er, el)
 
-      pub text-reported : b ≡ false → length (registryLines s) ≤ 512 → 512 ≤ length out → (left : List ℕ) → left ≡ over out 0 (reportOf (registryLines s) (recordsOf t (g .used)))
-          → (k : ℕ) → k ≡ length (registryLines s) → _≡_ {A = Settlement} (record { code = 0; gate = g; rows = rows; report = left; size = k }) (settleText g t clock day s out)
-      unfolding settleText
-      text-reported y few room left el k ek =
-          let w = el ∙ report-written (registryLines s) (recordsOf t (g .used)) out few room in
+      read-before : b ≡ false → length xs ≤ 512 → 512 ≤ length out → (left : List ℕ) → left ≡ over out 0 (reportOf xs (recordsOf t (g .used)))
+          → (k : ℕ) → k ≡ length xs → _≡_ {A = Settlement} (record { code = 0; gate = g; rows = rows; report = left; size = k }) (settleRead g t clock day xs out)
+      unfolding settleRead
+      read-before y few room left el k ek =
+          let w = el ∙ report-written xs (recordsOf t (g .used)) out few room in
           rw (← en, h, ← ev, not-false v c, ← eb, y, er, w, ek)
+
+pub read-reported : (g : Gate) (t : Rows) (clock : List ℕ) (day : Day) (u : LineRows) (k : ℕ) (out : List ℕ) (n : Bool) → n ≡ onDay day (nextDay (g .closed)) → n ≡ false → (rows : Rows) → rows ≡ t
+    → (v : Bool) → v ≡ isDay day → not v ≡ false → (b : Bool) → b ≡ dayBefore (g .closed) day → b ≡ false → Read u k → 512 ≤ length out
+    → (left : List ℕ) → left ≡ over out 0 (reportOf (linesOf u k) (recordsOf t (g .used)))
+    → _≡_ {A = Settlement} (record { code = 0; gate = g; rows = rows; report = left; size = k }) (settleRead g t clock day (linesOf u k) out)
+read-reported g t clock day u k out n en h rows er v ev c b eb y read room left el =
+    read-before g t clock day (linesOf u k) out n en h rows er v ev c b eb y (omega (arith, read .few, length-lines u k)) room left el k (sym (length-lines u k))
+
+-- ---- a text whose lines were read
+pub text-read : (g : Gate) (t : Rows) (clock : List ℕ) (day : Day) (u : LineRows) (n : ℕ) (s out : List ℕ) → linesOf u n ≡ registryLines s
+    → (d : Settlement) → d ≡ settleRead g t clock day (linesOf u n) out → d ≡ settleRead g t clock day (registryLines s) out
+text-read g t clock day u n s out e d ed = ed ∙ ap (λ (xs : List Line). settleRead g t clock day xs out) e
 
 -- ---- the call
 module _ (g : Gate) (t : Rows) (clock : List ℕ) (day : Day) (s out : List ℕ) (b : Bool) (eb : b ≡ tableGood g t) where
@@ -97,6 +108,6 @@ module _ (g : Gate) (t : Rows) (clock : List ℕ) (day : Day) (s out : List ℕ)
         settle-fault n f ef z = rw (← eb, not-false b h, le-leb _ _ l, ← ew, not-false w n, ← ef, ne-eqb _ _ z, er, el)
 
   pub settle-read : not b ≡ false → 512 ≤ length out → (w : Bool) → w ≡ isWritten clock → not w ≡ false → (f : ℕ) → f ≡ registryFault day s → f ≡ 0
-      → (d : Settlement) → d ≡ settleText g t clock day s out → d ≡ settle g t clock day s out
+      → (d : Settlement) → d ≡ settleRead g t clock day (registryLines s) out → d ≡ settle g t clock day s out
   unfolding settle
   settle-read h l w ew n f ef z d e = e ∙ rw (← eb, not-false b h, le-leb _ _ l, ← ew, not-false w n, ← ef, eq-eqb _ _ z)

@@ -1,2 +1,3 @@
 pub mod Settle
 pub mod Steps
+pub mod Lines

@@ -1,37 +1,16 @@
--- What the functions behind the checks of a settlement start from and leave.
-use Prim.Native.Nat.{ℕ, _<_, _≤_}
-use mathlib.Core.Path.{_≡_}
+-- What a record that is swept leaves.
+use Prim.Native.Nat.{ℕ}
 use mathlib.Core.List.{List}
-use lib.ListN.{length, getD, set}
-use Rattle.dates.specs.declared.calendar.Day.{Day}
-use Rattle.lines.specs.declared.line.Line.{Line}
-use Rattle.table.specs.declared.Gate.{Gate}
+use lib.ListN.{set}
 use Rattle.table.specs.declared.Record.{Record}
-use Rattle.table.specs.Table.{Rows, recordAt, recordsOf, rowsFrom, Whole, SameLengths}
-use Rattle.table.specs.Table.{noRecord}
-use Rattle.table.specs.Accounts.{Funds}
-use Rattle.settlement.specs.Settle.{Ledger, sweptRecord, sweptGate}
+use Rattle.table.specs.Accounts.{accountsOf, findAccount}
+use Rattle.ledger.specs.Change.{revoked, debitedAt}
+use Rattle.posting.specs.Posting.{Ledger}
 
--- whole rows of one length with amounts in their range, and balances within a bound
-pub record Held (g : Gate) (t : Rows) (b : ℕ) : Type 0 where
-  pub whole : Whole t (g .used)
-  pub same : SameLengths t
-  pub size : length (t .nums) ≤ 4096
-  pub funds : Funds g b
-  pub small : (i : ℕ) → i < g .used → (recordAt t i) .amount < 1000000000
-
-abbrev pub ledgerOf : Gate → Rows → Ledger
-ledgerOf g t = record { gate = g; records = recordsOf t (g .used) }
-
--- a gate and rows are what a ledger says
-pub record Left (t : Rows) (l : Ledger) (gate : Gate) (rows : Rows) : Type 0 where
-  pub gates : gate ≡ l .gate
-  pub left : rows ≡ rowsFrom t (l .records)
-
--- the record at i swept
-unfoldable pub sweptAt : List ℕ → Day → List Line → ℕ → Ledger → Ledger
-sweptAt clock day xs i l =
+-- r cancelled in the place i, and its amount off its account
+unfoldable pub revokedAt : List ℕ → Record → ℕ → Ledger → Ledger
+revokedAt clock r i l =
     record {
-      gate = sweptGate day xs (getD (l .records) i noRecord) (l .gate);
-      records = set (l .records) i (sweptRecord clock day xs (getD (l .records) i noRecord));
+      gate = debitedAt (l .gate) (findAccount (r .number) (r .kind) (accountsOf (l .gate))) (r .amount);
+      records = set (l .records) i (revoked clock r);
     }

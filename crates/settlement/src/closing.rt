@@ -8,12 +8,12 @@ use table::Gate;
 ghost use mathlib.Core.Path.{_≡_};
 ghost use Prim.Native.Nat.{_≤_};
 ghost use lib.ListN.{length};
-ghost use Rattle.registry.specs.Registry.{lineCount, registryLines};
 ghost use Rattle.table.specs.Lent.{lent, before, after};
 ghost use Rattle.settlement.specs.Settle.{settlementOf, settleDay};
-ghost use Rattle.settlement.specs.Steps.{Held};
+ghost use Rattle.posting.specs.Steps.{Held};
+ghost use Rattle.settlement.specs.Lines.{linesOf, Read, linesLent, linesBefore};
 
-// Settles the day after the closed one, closes it and writes its report.
+// Settles the day after the closed one by the lines of its registry, closes it and writes its report.
 pub(crate) fn settle_day(
     nums: &mut [[u64; 6]],
     numbers: &mut [[u8; 30]],
@@ -21,22 +21,47 @@ pub(crate) fn settle_day(
     g: Gate,
     clock: [u8; 19],
     day: Day,
-    s: &[u8],
+    values: &[[u64; 4]],
+    holders: &[[u8; 30]],
+    days: &[[u8; 19]],
+    count: usize,
     out: &mut [u8],
 ) -> Reply
     requires { ⌜ Held g (lent nums numbers dates) 10000000000000 ⌝ }
-    requires { ⌜ (lineCount (now s) ≤ 512) × (length (registryLines (now s)) ≤ 512) × (512 ≤ length (now out)) ⌝ }
+    requires { ⌜ Read (linesLent values holders days) count × (512 ≤ length (now out)) ⌝ }
     ensures { λ r. ⌜ settlementOf r (after nums numbers dates) (now (out .exit))
-        ≡ settleDay g (before nums numbers dates) clock day (registryLines (now (s .entry))) (now (out .entry)) ⌝ }
+        ≡ settleDay g (before nums numbers dates) clock day (linesOf (linesBefore values holders days) count) (now (out .entry)) ⌝ }
 {
-    let a = lines::settle_lines(nums, numbers, dates, g, clock, s);
-    let b = sweeping::sweep(nums, numbers, dates, a, clock, day, s);
-    let size = report::write_report(nums, numbers, dates, b.used, s, out);
+    let a = lines::settle_lines(nums, numbers, dates, g, clock, values, holders, days, count);
+    let b = sweeping::sweep(
+        nums,
+        numbers,
+        dates,
+        a,
+        clock,
+        day,
+        values,
+        holders,
+        days,
+        count,
+    );
+    let used = b.used;
+    report::write_report(
+        nums,
+        numbers,
+        dates,
+        used,
+        values,
+        holders,
+        days,
+        count,
+        out,
+    );
     let mut next = b;
     next.closed = day;
     Reply {
         code: 0,
         gate: next,
-        size,
+        size: count,
     }
 }

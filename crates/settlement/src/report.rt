@@ -1,7 +1,7 @@
 // The report: a byte for each line, 1 where it stands done in the table.
-use crate::matching;
+use crate::reading;
+use posting::matching;
 use lines::line::Line;
-use registry::text;
 use table::Record;
 use table::rows;
 ghost use mathlib.Core.Path.{_≡_};
@@ -9,16 +9,17 @@ ghost use mathlib.Core.Bool.{_&&_, cond};
 ghost use Prim.Native.Nat.{_≤_};
 ghost use lib.ListN.{length};
 ghost use Rattle.texts.specs.Lists.{over};
-ghost use Rattle.registry.specs.Registry.{lineCount, registryLines};
 ghost use Rattle.table.specs.Table.{recordsOf};
 ghost use Rattle.table.specs.Lent.{before};
-ghost use Rattle.settlement.specs.Settle.{matches, isDone, anyDone, reportOf};
+ghost use Rattle.posting.specs.Posting.{matches, isDone};
+ghost use Rattle.settlement.specs.Settle.{anyDone, reportOf};
+ghost use Rattle.settlement.specs.Lines.{linesOf, Read, linesLent, linesBefore};
 
 // Whether a record is done and the line matches it.
 pub(crate) fn is_done_match(x: Line, r: Record) -> bool
     ensures { λ b. ⌜ b ≡ isDone r && matches x r ⌝ }
 {
-    if r.state == 1 {
+    if r.state == table::DONE {
         matching::matches_record(x, r)
     } else {
         false
@@ -51,34 +52,29 @@ pub(crate) fn any_done(
 pub(crate) fn mark(done: bool) -> u8
     ensures { λ b. ⌜ b ≡ cond done 49 48 ⌝ }
 {
-    if done { 49 } else { 48 }
+    if done { b'1' } else { b'0' }
 }
 
-// Writes the report of the lines of a text, and tells its length.
+// Writes the report of the lines.
 pub(crate) fn write_report(
     nums: &[[u64; 6]],
     numbers: &[[u8; 30]],
     dates: &[[[u8; 19]; 3]],
     used: usize,
-    s: &[u8],
+    values: &[[u64; 4]],
+    holders: &[[u8; 30]],
+    days: &[[u8; 19]],
+    count: usize,
     out: &mut [u8],
-) -> usize
-    requires { ⌜ (used ≤ length (now nums)) × (used ≤ length (now numbers)) × (used ≤ length (now dates)) × (lineCount (now s) ≤ length (now out)) ⌝ }
-    ensures { λ r. ⌜ r ≡ length (registryLines (now (s .entry))) ⌝ }
-    ensures { λ _. ⌜ now (out .exit) ≡ over (now (out .entry)) 0 (reportOf (registryLines (now (s .entry))) (recordsOf (before nums numbers dates) used)) ⌝ }
+)
+    requires { ⌜ (used ≤ length (now nums)) × (used ≤ length (now numbers)) × (used ≤ length (now dates)) × (count ≤ length (now out)) ⌝ }
+    requires { ⌜ Read (linesLent values holders days) count ⌝ }
+    ensures { λ _. ⌜ now (out .exit) ≡ over (now (out .entry)) 0 (reportOf (linesOf (linesBefore values holders days) count) (recordsOf (before nums numbers dates) used)) ⌝ }
 {
-    let mut n: usize = 0;
-    let mut at: usize = 0;
-    while at < s.len() {
-        let e = text::end_of_line(s, at);
-        if s.len() <= e {
-            return n;
-        }
-        let read = text::line_at(s, at);
-        let x = read.line;
-        out[n] = mark(any_done(nums, numbers, dates, used, x));
-        n += 1;
-        at = e + 2;
+    let mut i: usize = 0;
+    while i < count {
+        let x = reading::line_at(values, holders, days, i);
+        out[i] = mark(any_done(nums, numbers, dates, used, x));
+        i += 1;
     }
-    n
 }

@@ -1,5 +1,6 @@
 // A registry delivered to the gate.
 use crate::closing;
+use crate::reading;
 use crate::report;
 use dates::calendar::Day;
 use dates::date;
@@ -12,27 +13,47 @@ ghost use Prim.Native.Nat.{_≤_};
 ghost use lib.ListN.{length};
 ghost use Rattle.registry.specs.Registry.{lineCount, registryLines};
 ghost use Rattle.table.specs.Lent.{lent, before, after};
-ghost use Rattle.settlement.specs.Settle.{settlementOf, settleText, settle};
-ghost use Rattle.settlement.specs.Steps.{Held};
+ghost use Rattle.settlement.specs.Settle.{settlementOf, settleRead, settle};
+ghost use Rattle.posting.specs.Steps.{Held};
+ghost use Rattle.settlement.specs.Lines.{linesOf, Read, linesLent, linesBefore};
 
-// A text without a fault: the day after the closed one is settled, one up to it only reported.
-pub(crate) fn settle_text(
+// How many bytes a report's buffer has at least.
+const REPORT_ROOM: usize = 512;
+
+// The lines of a registry without a fault: the day after the closed one is settled, one up to it only reported.
+pub(crate) fn settle_read(
     nums: &mut [[u64; 6]],
     numbers: &mut [[u8; 30]],
     dates: &mut [[[u8; 19]; 3]],
     g: Gate,
     clock: [u8; 19],
     day: Day,
-    s: &[u8],
+    values: &[[u64; 4]],
+    holders: &[[u8; 30]],
+    days: &[[u8; 19]],
+    count: usize,
     out: &mut [u8],
 ) -> Reply
     requires { ⌜ Held g (lent nums numbers dates) 10000000000000 ⌝ }
-    requires { ⌜ (lineCount (now s) ≤ 512) × (length (registryLines (now s)) ≤ 512) × (512 ≤ length (now out)) ⌝ }
-    ensures { λ r. ⌜ settlementOf r (after nums numbers dates) (now (out .exit)) ≡ settleText g (before nums numbers dates) clock day (now (s .entry)) (now (out .entry)) ⌝ }
+    requires { ⌜ Read (linesLent values holders days) count × (512 ≤ length (now out)) ⌝ }
+    ensures { λ r. ⌜ settlementOf r (after nums numbers dates) (now (out .exit))
+        ≡ settleRead g (before nums numbers dates) clock day (linesOf (linesBefore values holders days) count) (now (out .entry)) ⌝ }
 {
     let closed = g.closed;
     if day.follows(closed) {
-        return closing::settle_day(nums, numbers, dates, g, clock, day, s, out);
+        return closing::settle_day(
+            nums,
+            numbers,
+            dates,
+            g,
+            clock,
+            day,
+            values,
+            holders,
+            days,
+            count,
+            out,
+        );
     }
     if !day.is_valid() {
         return Reply {
@@ -49,12 +70,57 @@ pub(crate) fn settle_text(
         };
     }
     let used = g.used;
-    let size = report::write_report(nums, numbers, dates, used, s, out);
+    report::write_report(
+        nums,
+        numbers,
+        dates,
+        used,
+        values,
+        holders,
+        days,
+        count,
+        out,
+    );
     Reply {
         code: 0,
         gate: g,
-        size,
+        size: count,
     }
+}
+
+// Reads the lines of a text without a fault, once, and settles by them.
+pub(crate) fn settle_text(
+    nums: &mut [[u64; 6]],
+    numbers: &mut [[u8; 30]],
+    dates: &mut [[[u8; 19]; 3]],
+    g: Gate,
+    clock: [u8; 19],
+    day: Day,
+    s: &[u8],
+    out: &mut [u8],
+) -> Reply
+    requires { ⌜ Held g (lent nums numbers dates) 10000000000000 ⌝ }
+    requires { ⌜ (lineCount (now s) ≤ 512) × (512 ≤ length (now out)) ⌝ }
+    ensures { λ r. ⌜ settlementOf r (after nums numbers dates) (now (out .exit))
+        ≡ settleRead g (before nums numbers dates) clock day (registryLines (now (s .entry))) (now (out .entry)) ⌝ }
+{
+    let mut values = reading::empty_nums();
+    let mut holders = reading::empty_numbers();
+    let mut days = reading::empty_dates();
+    let count = reading::read_lines(s, &mut values, &mut holders, &mut days);
+    settle_read(
+        nums,
+        numbers,
+        dates,
+        g,
+        clock,
+        day,
+        &values,
+        &holders,
+        &days,
+        count,
+        out,
+    )
 }
 
 // Settles a day by its registry, or only reports it; a fault keeps all.
@@ -77,7 +143,7 @@ pub fn settle(
             size: 0,
         };
     }
-    if out.len() < 512 {
+    if out.len() < REPORT_ROOM {
         return Reply {
             code: 50,
             gate: g,

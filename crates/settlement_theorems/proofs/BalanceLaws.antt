@@ -28,12 +28,13 @@ use Rattle.table.specs.Accounts.{isAccount, accountsOf, findAccount, noAccount,
 use Rattle.ledger.specs.Change.{creditedAt, debitedAt}
 use Rattle.ledger.specs.Plan.{isFull}
 use Rattle.gate_theorems.proofs.RowsLaws.{SameNames, names-same, names-used, names-credited, names-debited}
-use Rattle.settlement.specs.declared.verdict.Verdict.{Verdict}
-use Rattle.settlement.specs.declared.verdict.Verdict.the-variants.{Keeps, Restores, Posts, Unposted}
-use Rattle.settlement.specs.Settle.{matches, verdictOf, Ledger, applied, settleLine, settleLines, isStray, sweptGate, sweepGates, swept, Settlement, settleDay, settle}
-use Rattle.settlement.specs.Steps.{ledgerOf}
+use Rattle.posting.specs.declared.verdict.Verdict.{Verdict}
+use Rattle.posting.specs.declared.verdict.Verdict.the-variants.{Keeps, Restores, Posts, Unposted}
+use Rattle.posting.specs.Posting.{matches, verdictOf, Ledger, applied, settleLine}
+use Rattle.settlement.specs.Settle.{settleLines, isStray, sweptGate, sweepGates, swept, Settlement, settleDay, settle}
+use Rattle.posting.specs.Steps.{ledgerOf}
 use Rattle.settlement_theorems.specs.Balances.{isAt, creditOf, credits, debitOf, sweptFrom, creditsOn, sweptOn}
-use Rattle.settlement.proofs.HeldLaws.{post-room, verdict-post}
+use Rattle.posting.proofs.HeldLaws.{post-room, verdict-post}
 use Rattle.settlement_theorems.proofs.SettleLaws.{settled-by}
 
 -- ---- the accounts keep their names

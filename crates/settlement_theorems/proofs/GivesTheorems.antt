@@ -19,7 +19,7 @@ use Rattle.table.specs.declared.Gate.{Gate}
 use Rattle.table.specs.declared.Record.{Record}
 use Rattle.table.specs.Table.{Rows, recordsOf}
 use Rattle.validity.specs.Valid.{tableGood}
-use Rattle.settlement.specs.Settle.{anyDone, reportOf, Settlement, settleDay, settleText, settle}
+use Rattle.settlement.specs.Settle.{anyDone, reportOf, Settlement, settleDay, settleRead, settle}
 use Rattle.settlement.proofs.DayLaws.{report-length}
 use Rattle.settlement_theorems.proofs.SettleLaws.{settled-by, report-now}
 
@@ -75,7 +75,7 @@ module _ (g : Gate) (t : Rows) (clock : List ℕ) (day : Day) (text out : List �
   -- ---- a faultless registry of the day after the closed one is settled
   module _ (good : tableGood g t ≡ true) (room : 512 ≤ length out) (dated : isWritten clock ≡ true) (faultless : registryFault day text ≡ 0) (next : onDay day (nextDay (g .closed)) ≡ true) where
     pub settle-gives : settle g t clock day text out ≡ settleDay g t clock day (registryLines text) out
-    unfolding settle settleText
+    unfolding settle settleRead
     settle-gives = rw (good, le-leb _ _ room, dated, eq-eqb _ _ faultless, next) refl
 
     -- with code 0

@@ -28,10 +28,11 @@ use Rattle.table.specs.Table.{noRecord}
 use Rattle.ledger.specs.Plan.{isFull}
 use Rattle.gate_theorems.proofs.RowsLaws.{SameNames}
 use Rattle.gate_theorems.proofs.KeptLaws.{GateRep, GateBase, gate-facts, base-of, names-apart}
-use Rattle.settlement.specs.declared.verdict.Verdict.{Verdict}
-use Rattle.settlement.specs.declared.verdict.Verdict.the-variants.{Keeps, Restores, Posts, Unposted}
-use Rattle.settlement.specs.Settle.{matches, postVerdict, verdictOf, restored, postedRecord, Ledger, applied, settleLine, settleLines, sweptRecord, swept, Settlement, settleDay, settle}
-use Rattle.settlement.proofs.HeldLaws.{post-room, verdict-post}
+use Rattle.posting.specs.declared.verdict.Verdict.{Verdict}
+use Rattle.posting.specs.declared.verdict.Verdict.the-variants.{Keeps, Restores, Posts, Unposted}
+use Rattle.posting.specs.Posting.{matches, postVerdict, verdictOf, restored, postedRecord, Ledger, applied, settleLine}
+use Rattle.settlement.specs.Settle.{settleLines, sweptRecord, swept, Settlement, settleDay, settle}
+use Rattle.posting.proofs.HeldLaws.{post-room, verdict-post}
 use Rattle.settlement_theorems.proofs.SettleLaws.{line-onward, Passed, settle-elim, before, after, after-used}
 use Rattle.settlement_theorems.proofs.BalanceLaws.{sweep-names, settle-names}
 use Rattle.settlement_theorems.proofs.LedgerLaws.{LineOk, lines-ok, LedgerGood, lines-good, sweep-good}

@@ -36,11 +36,12 @@ use Rattle.table.specs.Table.{noRecord}
 use Rattle.ledger.specs.Plan.{isFull}
 use Rattle.ledger.specs.Change.{revoked, debitedAt}
 use Rattle.ledger.proofs.ChangeLaws.{debit-used}
-use Rattle.settlement.specs.declared.verdict.Verdict.{Verdict}
-use Rattle.settlement.specs.declared.verdict.Verdict.the-variants.{Keeps, Restores, Posts, Unposted}
-use Rattle.settlement.specs.Settle.{matches, isDone, postVerdict, matchVerdict, verdictOf, restored, postedRecord, Ledger, applied, settleLine, settleLines, anyMatches, isStray, sweptRecord, sweptGate, sweepGates, swept, anyDone, reportOf, Settlement, unsettled, reported, settleDay, settleText, settle}
+use Rattle.posting.specs.declared.verdict.Verdict.{Verdict}
+use Rattle.posting.specs.declared.verdict.Verdict.the-variants.{Keeps, Restores, Posts, Unposted}
+use Rattle.posting.specs.Posting.{matches, isDone, postVerdict, matchVerdict, verdictOf, restored, postedRecord, Ledger, applied, settleLine}
+use Rattle.settlement.specs.Settle.{settleLines, anyMatches, isStray, sweptRecord, sweptGate, sweepGates, swept, anyDone, reportOf, Settlement, unsettled, reported, settleDay, settleRead, settle}
 use Rattle.settlement.proofs.DayLaws.{report-length}
-use Rattle.settlement.proofs.HeldLaws.{credit-used}
+use Rattle.posting.proofs.HeldLaws.{credit-used}
 
 true-not-false : true ≡ false → ⊥
 true-not-false e = let z : _≡_ {A = ℕ} 0 1 = cc in absurd (omega arith)
@@ -231,7 +232,7 @@ module _ (g : Gate) (t : Rows) (clock : List ℕ) (day : Day) (text out : List �
       → (Passed g t day text out → onDay day (nextDay (g .closed)) ≡ false → dayBefore (g .closed) day ≡ false → P (reported g t (registryLines text) out))
       → (Passed g t day text out → isWritten clock ≡ true → onDay day (nextDay (g .closed)) ≡ true → P (settleDay g t clock day (registryLines text) out))
       → P (settle g t clock day text out)
-  unfolding settle settleText
+  unfolding settle settleRead
   settle-elim P keep report settles =
       cond-elim P (tableGood g t) _ _
       (λ good. cond-elim P (leb 512 (length out)) _ _

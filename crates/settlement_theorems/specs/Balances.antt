@@ -13,10 +13,11 @@ use Rattle.lists.specs.declared.Found.{Found}
 use Rattle.lists.specs.declared.Found.the-variants.{At, Nothing}
 use Rattle.table.specs.Table.{Rows}
 use Rattle.table.specs.Accounts.{accountsOf, findAccount}
-use Rattle.settlement.specs.declared.verdict.Verdict.{Verdict}
-use Rattle.settlement.specs.declared.verdict.Verdict.the-variants.{Keeps, Restores, Posts, Unposted}
-use Rattle.settlement.specs.Settle.{verdictOf, Ledger, settleLine, settleLines, isStray}
-use Rattle.settlement.specs.Steps.{ledgerOf}
+use Rattle.posting.specs.declared.verdict.Verdict.{Verdict}
+use Rattle.posting.specs.declared.verdict.Verdict.the-variants.{Keeps, Restores, Posts, Unposted}
+use Rattle.posting.specs.Posting.{verdictOf, Ledger, settleLine}
+use Rattle.settlement.specs.Settle.{settleLines, isStray}
+use Rattle.posting.specs.Steps.{ledgerOf}
 
 unfoldable pub isAt : ℕ → Found → Bool
 isAt a (At i) = eqb i a

@@ -1,6 +1,5 @@
 use native.Mathlib.Omega.{arith}
 use borrow.Author.Needs.{needs}
-use Rattle.table.specs.Table.{Rows}
 use Rattle.settlement.proofs.DayLaws.{day-settled}
 use Rattle.settlement.proofs.closing.settle_day.Statement.{statement}
 use Rattle.settlement.proofs.closing.settle_day.Tie as tie
@@ -9,17 +8,17 @@ write-report-requires : tie.Need-write-report-requires
 write-report-requires c κs =
     let w = c .before .before .before .before .before .before .before in
     let l = w .before .before .before .before .before .before .before in
-    let s = l .before .before .before .before .before .before in
+    let s = l .before .before .before .before .before in
     let h = w .sweep .ensures .1 .0 .whole in
-    (h .nums, h .numbers, h .dates, omega (arith, s .pre .1 .0, s .pre .1 .2))
+    ((h .nums, h .numbers, h .dates, omega (arith, s .pre .1 .0 .few, s .pre .1 .1)), s .pre .1 .0)
 
 returns : tie.Need-returns
 returns c =
     let r = c .before .before in
     let w = r .before .before .before .before .before .before .before .before in
     let l = w .before .before .before .before .before .before .before in
-    let s = l .before .before .before .before .before .before in
-    day-settled _ _ _ _ _ _ (s .pre .1 .1) (s .pre .1 .2) _ _ (l .settle-lines .ensures .0) (l .settle-lines .ensures .1 .1) _ _ (w .sweep .ensures .0) (w .sweep .ensures .1 .1) _ (r .write-report .ensures .1) _ (r .write-report .ensures .0)
+    let s = l .before .before .before .before .before in
+    day-settled _ _ _ _ _ _ _ (s .pre .1 .0) (s .pre .1 .1) _ _ (l .settle-lines .ensures .0) (l .settle-lines .ensures .1 .1) _ _ (w .sweep .ensures .0) (w .sweep .ensures .1 .1) _ (r .write-report .ensures)
 
 pub settle-day-spec : {M : Type 1} → statement M
 settle-day-spec =

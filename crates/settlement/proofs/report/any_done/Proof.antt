@@ -1,6 +1,6 @@
 use borrow.Author.Needs.{needs}
 use Rattle.settlement.proofs.ReportLaws.{done-here, done-pass, done-none}
-use Rattle.settlement.proofs.MatchLaws.{place-in}
+use Rattle.posting.proofs.MatchLaws.{place-in}
 use Prim.Native.Nat.{_≤_, _-_}
 use mathlib.Core.Path.{_≡_}
 use lib.ListN.{drop}

@@ -1,28 +1,27 @@
 use borrow.Author.Needs.{needs}
-use Rattle.settlement.proofs.ReportLaws.{report-end, report-rest, report-place, report-room, report-on, count-end, count-rest, count-on}
-use Rattle.settlement.proofs.LinesLaws.{next-in}
-use native.Mathlib.Nat.{zero-add}
-use Prim.Native.Nat.{_≤_, _-_, _+_}
+use Rattle.settlement.proofs.ReportLaws.{report-end, report-on, report-place}
+use Rattle.settlement.proofs.ReadLaws.{read-nums, read-numbers, read-dates}
+use Prim.Native.Nat.{_≤_, _-_}
 use mathlib.Core.Path.{_≡_}
 use lib.ListN.{length, drop}
 use Rattle.texts.specs.Lists.{over}
-use Rattle.registry.specs.Registry.{lineCount, registryLines}
-use Rattle.table.specs.Table.{Rows, recordsOf}
+use Rattle.table.specs.Table.{recordsOf}
 use Rattle.settlement.specs.Settle.{reportOf}
+use Rattle.settlement.specs.Lines.{LineRows, linesOf}
 use Rattle.settlement.proofs.report.write_report.Statement.{statement}
 use Rattle.settlement.proofs.report.write_report.Tie as tie
 
 abbrev Inv-loop : tie.InvT-loop
-Inv-loop nums numbers dates used s out₀ n₀ at₀ out n at =
+Inv-loop nums numbers dates used values holders days count out₀ i₀ out i =
     let rs = recordsOf (record { nums = nums; numbers = numbers; dates = dates }) used in
-    (at ≤ length s) × (length out ≡ length out₀) × (n + lineCount (drop at s) ≤ length out)
-    × (length (registryLines s) ≡ n + length (registryLines (drop at s)))
-    × (over out₀ 0 (reportOf (registryLines s) rs) ≡ over out n (reportOf (registryLines (drop at s)) rs))
+    let u : LineRows = record { nums = values; numbers = holders; dates = days } in
+    (i ≤ count) × (length out ≡ length out₀) × (count ≤ length out)
+    × (over out₀ 0 (reportOf (linesOf u count) rs) ≡ over out i (reportOf (drop i (linesOf u count)) rs))
 
 abbrev μ-loop : tie.MeasureT-loop
-μ-loop nums numbers dates used s out₀ n₀ at₀ out n at = length s - at
+μ-loop nums numbers dates used values holders days count out₀ i₀ out i = count - i
 
-ruleset laws = (report-end, report-rest, report-place, report-room, report-on, count-end, count-rest, count-on, next-in, zero-add, needs)
+ruleset laws = (report-end, report-on, report-place, read-nums, read-numbers, read-dates, needs)
 
 pub write-report-spec : {M : Type 1} → statement M
 write-report-spec =
@@ -32,12 +31,8 @@ write-report-spec =
     μ-loop
     (λ c. search laws)
     (λ c κs. search laws)
-    (λ c. search laws)
-    (λ c. search laws)
     (λ c κs. search laws)
     (λ c κs. search laws)
-    (λ c κs. search laws)
-    (λ c. search laws)
     (λ c. search laws)
     (λ c. search laws)
     (λ c. search laws)

@@ -1,0 +1,64 @@
+-- Laws of the record that a line matches.
+use Prim.Native.Nat.{ℕ, _+_, _≤_, _<_}
+use native.Mathlib.Omega.{arith}
+use mathlib.Core.Path.{_≡_, sym, ap, _∙_}
+use mathlib.Core.Bool.{Bool, true, false, not}
+use lib.ListN.{drop, getD}
+use borrow.Author.Tests.{eq-eqb, ne-eqb, not-true, not-false}
+use Rattle.texts.specs.Lists.{eqList}
+use Rattle.fields.specs.Number.{sameNumber}
+use Rattle.lines.specs.declared.line.Line.{Line}
+use Rattle.table.specs.declared.Record.{Record}
+use Rattle.lists.specs.declared.Found.{Found}
+use Rattle.lists.specs.declared.Found.the-variants.{At, Nothing}
+use Rattle.lists.specs.Lists.{firstFrom}
+use Rattle.table.specs.Table.{Rows, recordAt, recordsOf}
+use Rattle.lists.proofs.ListLaws.{search-hit, search-miss, search-end, search-within}
+use Rattle.table.proofs.TableLaws.{length-records, getD-records}
+use Rattle.posting.specs.Posting.{matches}
+
+-- ---- one record
+module _ (x : Line) (r : Record) where
+  pub other-receipt : (r .receipt ≡ x .receipt → ⊥) → false ≡ matches x r
+  unfolding matches
+  other-receipt d = rw (ne-eqb _ _ d)
+
+  module _ (er : r .receipt ≡ x .receipt) (s : Bool) (es : s ≡ sameNumber (r .number) (x .number)) where
+    pub other-number : not s ≡ true → false ≡ matches x r
+    unfolding matches
+    other-number h = rw (eq-eqb _ _ er, ← es, not-true s h)
+
+    module _ (n : not s ≡ false) where
+      pub other-kind : (r .kind ≡ x .kind → ⊥) → false ≡ matches x r
+      unfolding matches
+      other-kind d = rw (eq-eqb _ _ er, ← es, not-false s n, ne-eqb _ _ d)
+
+      pub other-amount : r .kind ≡ x .kind → (r .amount ≡ x .amount → ⊥) → false ≡ matches x r
+      unfolding matches
+      other-amount ek d = rw (eq-eqb _ _ er, ← es, not-false s n, eq-eqb _ _ ek, ne-eqb _ _ d)
+
+      pub same-date : r .kind ≡ x .kind → r .amount ≡ x .amount → (t : Bool) → t ≡ eqList (r .date) (x .date) → t ≡ matches x r
+      unfolding matches
+      same-date ek ea t e = e ∙ rw (eq-eqb _ _ er, ← es, not-false s n, eq-eqb _ _ ek, eq-eqb _ _ ea)
+
+-- ---- the first that matches: a loop that has passed i records
+module _ (t : Rows) (n : ℕ) (x : Line) (i : ℕ) (passed : firstFrom (matches x) 0 (recordsOf t n) ≡ firstFrom (matches x) i (drop i (recordsOf t n))) where
+  module _ (r : Record) (er : r ≡ recordAt t i) (b : Bool) (eb : b ≡ matches x r) (h : i < n) where
+    tested : matches x (getD (recordsOf t n) i (recordAt t i)) ≡ b
+    tested = ap (matches x) (getD-records t n i (recordAt t i) h ∙ sym er) ∙ sym eb
+
+    pub match-here : b ≡ true → At i ≡ firstFrom (matches x) 0 (recordsOf t n)
+    match-here e = sym (passed ∙ search-hit (matches x) i (recordsOf t n) (recordAt t i) (omega (arith, length-records t n)) (tested ∙ e))
+
+    pub match-pass : b ≡ false → firstFrom (matches x) 0 (recordsOf t n) ≡ firstFrom (matches x) (i + 1) (drop (i + 1) (recordsOf t n))
+    match-pass e = passed ∙ search-miss (matches x) i (recordsOf t n) (recordAt t i) (omega (arith, length-records t n)) (tested ∙ e)
+
+  pub match-none : n ≤ i → Nothing ≡ firstFrom (matches x) 0 (recordsOf t n)
+  match-none h = sym (passed ∙ search-end (matches x) i (recordsOf t n) (recordAt t i) (omega (arith, length-records t n)))
+
+pub match-within : (t : Rows) (n : ℕ) (x : Line) (i : ℕ) (f : Found) → f ≡ firstFrom (matches x) 0 (recordsOf t n) → f ≡ At i → i < n
+match-within t n x i f e h = omega (arith, search-within (matches x) 0 (recordsOf t n) i (sym e ∙ h), length-records t n)
+
+-- a place below all three lengths
+pub place-in : (i n m : ℕ) → i < n → n ≤ m → i < m
+place-in i n m a b = omega arith

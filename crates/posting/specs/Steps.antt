@@ -1,0 +1,24 @@
+-- What the functions behind the checks of a settlement start from and leave.
+use Prim.Native.Nat.{ℕ, _<_, _≤_}
+use mathlib.Core.Path.{_≡_}
+use lib.ListN.{length}
+use Rattle.table.specs.declared.Gate.{Gate}
+use Rattle.table.specs.Table.{Rows, recordAt, recordsOf, rowsFrom, Whole, SameLengths}
+use Rattle.table.specs.Accounts.{Funds}
+use Rattle.posting.specs.Posting.{Ledger}
+
+-- whole rows of one length with amounts in their range, and balances within a bound
+pub record Held (g : Gate) (t : Rows) (b : ℕ) : Type 0 where
+  pub whole : Whole t (g .used)
+  pub same : SameLengths t
+  pub size : length (t .nums) ≤ 4096
+  pub funds : Funds g b
+  pub small : (i : ℕ) → i < g .used → (recordAt t i) .amount < 1000000000
+
+abbrev pub ledgerOf : Gate → Rows → Ledger
+ledgerOf g t = record { gate = g; records = recordsOf t (g .used) }
+
+-- a gate and rows are what a ledger says
+pub record Left (t : Rows) (l : Ledger) (gate : Gate) (rows : Rows) : Type 0 where
+  pub gates : gate ≡ l .gate
+  pub left : rows ≡ rowsFrom t (l .records)

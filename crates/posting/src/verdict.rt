@@ -1,0 +1,75 @@
+// The verdict on one line of a registry: what it does to the table.
+use crate::matching;
+use lists::Found;
+use lines::line::Line;
+use table::Gate;
+use table::Record;
+use table::accounts;
+use table::rows;
+ghost use mathlib.Core.Path.{_≡_};
+ghost use mathlib.Core.Bool.{cond};
+ghost use lib.ListN.{length};
+ghost use Rattle.table.specs.Table.{recordsOf};
+ghost use Rattle.table.specs.Lent.{lent, before};
+ghost use Rattle.posting.specs.Posting.{isDone, postVerdict, verdictOf, Keeps, Restores};
+ghost use Rattle.posting.specs.Steps.{Held};
+
+// The record that it matches is done, or at a place to be done again; it is posted to an account; or none of these.
+pub enum Verdict {
+    Keeps,
+    Restores(usize),
+    Posts(usize),
+    Unposted,
+}
+
+// The verdict on a line that matches the record at i.
+fn judge_match(r: Record, i: usize) -> Verdict
+    ensures { λ v. ⌜ v ≡ cond (isDone r) Keeps (Restores i) ⌝ }
+{
+    if r.state == table::DONE {
+        Verdict::Keeps
+    } else {
+        Verdict::Restores(i)
+    }
+}
+
+// The verdict on a line that matches none, by the record of its receipt, its account, and whether the table is full.
+fn judge_new(recorded: Found, account: Found, full: bool) -> Verdict
+    ensures { λ v. ⌜ v ≡ postVerdict recorded account full ⌝ }
+{
+    let Found::Nothing = recorded else {
+        return Verdict::Unposted;
+    };
+    let Found::At(a) = account else {
+        return Verdict::Unposted;
+    };
+    if full {
+        Verdict::Unposted
+    } else {
+        Verdict::Posts(a)
+    }
+}
+
+// The verdict on a line; nothing is changed yet.
+pub(crate) fn judge(
+    nums: &[[u64; 6]],
+    numbers: &[[u8; 30]],
+    dates: &[[[u8; 19]; 3]],
+    g: Gate,
+    x: Line,
+) -> Verdict
+    requires { ⌜ Held g (lent nums numbers dates) 10000000000000000 ⌝ }
+    ensures { λ v. ⌜ v ≡ verdictOf g (recordsOf (before nums numbers dates) (g .used)) (length (now (nums .entry))) x ⌝ }
+{
+    let used = g.used;
+    let found = matching::find_match(nums, numbers, dates, used, x);
+    match found {
+        Found::At(i) => judge_match(rows::load(nums, numbers, dates, i), i),
+        Found::Nothing => {
+            let n = x.number;
+            let recorded = rows::find_record(nums, numbers, dates, used, x.receipt);
+            let account = accounts::find_account(g, n, x.kind);
+            judge_new(recorded, account, nums.len() <= used)
+        }
+    }
+}
