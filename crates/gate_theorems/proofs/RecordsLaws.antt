@@ -25,8 +25,8 @@ use Rattle.ledger.proofs.ChangeLaws.{debit-used}
 use Rattle.gate_theorems.proofs.OutcomeLaws.{Outcome, stays, appends, revokes, outcome}
 use Rattle.gate_theorems.proofs.KeepsLaws.{delivered-by}
 
--- what a record is known by, and a record that is not done is final
-pub record SameIdentity (r r′ : Record) : Type 0 where
+-- what a record is known by: receipt, account, amount, date, authcode and credit date
+pub record SameKey (r r′ : Record) : Type 0 where
   pub receipt : r′ .receipt ≡ r .receipt
   pub number : r′ .number ≡ r .number
   pub kind : r′ .kind ≡ r .kind
@@ -34,6 +34,26 @@ pub record SameIdentity (r r′ : Record) : Type 0 where
   pub date : r′ .date ≡ r .date
   pub authcode : r′ .authcode ≡ r .authcode
   pub credit : r′ .credit ≡ r .credit
+
+pub key-equal : (r r′ : Record) → r′ ≡ r → SameKey r r′
+key-equal r r′ e =
+    record {
+      receipt = ap (λ (x : Record). x .receipt) e;
+      number = ap (λ (x : Record). x .number) e;
+      kind = ap (λ (x : Record). x .kind) e;
+      amount = ap (λ (x : Record). x .amount) e;
+      date = ap (λ (x : Record). x .date) e;
+      authcode = ap (λ (x : Record). x .authcode) e;
+      credit = ap (λ (x : Record). x .credit) e;
+    }
+
+pub key-revoked : (clock : List ℕ) (r : Record) → SameKey r (revoked clock r)
+unfolding revoked
+key-revoked clock r = record { receipt = refl; number = refl; kind = refl; amount = refl; date = refl; authcode = refl; credit = refl }
+
+-- what a delivery keeps of it; a record that is not done is final
+pub record SameIdentity (r r′ : Record) : Type 0 where
+  pub key : SameKey r r′
   pub final : (r .state ≡ 1 → ⊥) → r′ ≡ r
 
 -- no record in use is lost, each keeps what it is known by, and one of a closed day keeps all
@@ -43,22 +63,10 @@ pub record Lasting (g : Gate) (t : Rows) (d : Delivery) : Type 0 where
   pub settled : (i : ℕ) → i < g .used → dateClosed g ((recordAt t i) .date) ≡ true → recordAt (d .rows) i ≡ recordAt t i
 
 same-identity : (r r′ : Record) → r′ ≡ r → SameIdentity r r′
-same-identity r r′ e =
-    record {
-      receipt = ap (λ (x : Record). x .receipt) e;
-      number = ap (λ (x : Record). x .number) e;
-      kind = ap (λ (x : Record). x .kind) e;
-      amount = ap (λ (x : Record). x .amount) e;
-      date = ap (λ (x : Record). x .date) e;
-      authcode = ap (λ (x : Record). x .authcode) e;
-      credit = ap (λ (x : Record). x .credit) e;
-      final = λ _. e;
-    }
+same-identity r r′ e = record { key = key-equal r r′ e; final = λ _. e }
 
 revoked-identity : (clock : List ℕ) (r : Record) → r .state ≡ 1 → SameIdentity r (revoked clock r)
-unfolding revoked
-revoked-identity clock r h =
-    record { receipt = refl; number = refl; kind = refl; amount = refl; date = refl; authcode = refl; credit = refl; final = λ n. absurd (n h) }
+revoked-identity clock r h = record { key = key-revoked clock r; final = λ n. absurd (n h) }
 
 -- the records after a delivery, place by place
 module _ (g : Gate) (t : Rows) (d : Delivery) where

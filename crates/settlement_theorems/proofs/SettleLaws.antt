@@ -39,6 +39,7 @@ use Rattle.ledger.proofs.ChangeLaws.{debit-used}
 use Rattle.posting.specs.declared.verdict.Verdict.{Verdict}
 use Rattle.posting.specs.declared.verdict.Verdict.the-variants.{Keeps, Restores, Posts, Unposted}
 use Rattle.posting.specs.Posting.{matches, isDone, postVerdict, matchVerdict, verdictOf, restored, postedRecord, Ledger, applied, settleLine}
+use Rattle.gate_theorems.proofs.RecordsLaws.{SameKey, key-equal, key-revoked}
 use Rattle.settlement.specs.Settle.{settleLines, anyMatches, isStray, sweptRecord, sweptGate, sweepGates, swept, anyDone, reportOf, Settlement, unsettled, reported, settleDay, settleRead, settle}
 use Rattle.settlement.proofs.DayLaws.{report-length}
 use Rattle.posting.proofs.HeldLaws.{credit-used}
@@ -92,28 +93,6 @@ swept-other clock day xs r h = go (isDone r) (onDay day (dateDay (r .date))) h
     go false u e = refl
 
 -- ---- what every used record keeps
--- receipt, account, amount, date, authcode and credit date
-pub record SameKey (r r′ : Record) : Type 0 where
-  pub receipt : r′ .receipt ≡ r .receipt
-  pub number : r′ .number ≡ r .number
-  pub kind : r′ .kind ≡ r .kind
-  pub amount : r′ .amount ≡ r .amount
-  pub date : r′ .date ≡ r .date
-  pub authcode : r′ .authcode ≡ r .authcode
-  pub credit : r′ .credit ≡ r .credit
-
-key-equal : (r r′ : Record) → r′ ≡ r → SameKey r r′
-key-equal r r′ e =
-    record {
-      receipt = ap (λ (x : Record). x .receipt) e;
-      number = ap (λ (x : Record). x .number) e;
-      kind = ap (λ (x : Record). x .kind) e;
-      amount = ap (λ (x : Record). x .amount) e;
-      date = ap (λ (x : Record). x .date) e;
-      authcode = ap (λ (x : Record). x .authcode) e;
-      credit = ap (λ (x : Record). x .credit) e;
-    }
-
 key-after : (r s t : Record) → SameKey r s → SameKey s t → SameKey r t
 key-after r s t a b =
     record {
@@ -129,10 +108,6 @@ key-after r s t a b =
 key-restored : (r : Record) → SameKey r (restored r)
 unfolding restored
 key-restored r = record { receipt = refl; number = refl; kind = refl; amount = refl; date = refl; authcode = refl; credit = refl }
-
-key-revoked : (clock : List ℕ) (r : Record) → SameKey r (revoked clock r)
-unfolding revoked
-key-revoked clock r = record { receipt = refl; number = refl; kind = refl; amount = refl; date = refl; authcode = refl; credit = refl }
 
 key-swept : (clock : List ℕ) (day : Day) (xs : List Line) (r : Record) → SameKey r (sweptRecord clock day xs r)
 unfolding sweptRecord
@@ -304,12 +279,12 @@ module _ (g : Gate) (t : Rows) (clock : List ℕ) (day : Day) (text out : List �
       (λ _ _ _. today-report)
 
 -- no used record is lost, and each keeps its key
-pub record Lasting (g : Gate) (t : Rows) (d : Settlement) : Type 0 where
+pub record KeysLast (g : Gate) (t : Rows) (d : Settlement) : Type 0 where
   pub used : g .used ≤ d .gate .used
   pub keys : (i : ℕ) → i < g .used → SameKey (recordAt t i) (recordAt (d .rows) i)
 
 module _ (g : Gate) (t : Rows) (clock : List ℕ) (day : Day) (text out : List ℕ) where
-  today-lasts : Lasting g t (settleDay g t clock day (registryLines text) out)
+  today-lasts : KeysLast g t (settleDay g t clock day (registryLines text) out)
   unfolding settleDay
   today-lasts =
       let o : Onward (before g t clock day text out) (after g t clock day text out) = after-onward g t clock day text out in
@@ -321,9 +296,9 @@ module _ (g : Gate) (t : Rows) (clock : List ℕ) (day : Day) (text out : List �
         keys = λ i h. rw (← (getD-records t (g .used) i noRecord h), from-at t ((after g t clock day text out) .records) i noRecord (omega (arith, n, k))) (o .keys i (omega (arith, n)));
       }
 
-  pub settle-lasts : Lasting g t (settle g t clock day text out)
+  pub settle-lasts : KeysLast g t (settle g t clock day text out)
   settle-lasts =
-      settled-by g t clock day text out (Lasting g t)
+      settled-by g t clock day text out (KeysLast g t)
       (λ code n. record { used = omega arith; keys = λ i h. key-equal _ _ refl })
       (λ _ _. record { used = omega arith; keys = λ i h. key-equal _ _ refl })
       (λ _ _. today-lasts)

@@ -1,2 +1,3 @@
 pub mod Balances
 pub mod Cases
+pub mod Claims
