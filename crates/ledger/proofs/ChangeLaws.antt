@@ -77,7 +77,7 @@ pub revoked-rows : (t : Rows) (used : ℕ) (f : Found) (r r′ : Record) → r �
     → t′ ≡ rowsFrom t (replacedAt (recordsOf t used) f r′)
 revoked-rows t used f r r′ e t′ q = q ∙ rw e
 
-pub used-more : (x y : Gate) (n : ℕ) → x ≡ y → record { accounts = x .accounts; count = x .count; closed = x .closed; used = n } ≡ withUsed y n
+pub used-more : (x y : Gate) (n : ℕ) → x ≡ y → withUsed x n ≡ withUsed y n
 used-more x y n e = ap (λ (z : Gate). withUsed z n) e
 
 -- ---- what a plan gives the change

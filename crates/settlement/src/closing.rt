@@ -1,5 +1,5 @@
 // A day that is settled and closed.
-use crate::lines;
+use crate::each_line;
 use crate::report;
 use crate::sweeping;
 use dates::calendar::Day;
@@ -32,7 +32,7 @@ pub(crate) fn settle_day(
     ensures { λ r. ⌜ settlementOf r (after nums numbers dates) (now (out .exit))
         ≡ settleDay g (before nums numbers dates) clock day (linesOf (linesBefore values holders days) count) (now (out .entry)) ⌝ }
 {
-    let a = lines::settle_lines(nums, numbers, dates, g, clock, values, holders, days, count);
+    let a = each_line::settle_lines(nums, numbers, dates, g, clock, values, holders, days, count);
     let b = sweeping::sweep(
         nums,
         numbers,

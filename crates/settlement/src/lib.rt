@@ -1,7 +1,7 @@
 // Settlement of the table by a day's registry.
-pub mod closing;
-pub mod lines;
-pub mod reading;
-pub mod report;
+mod closing;
+mod each_line;
+mod reading;
+mod report;
 pub mod settle;
-pub mod sweeping;
+mod sweeping;

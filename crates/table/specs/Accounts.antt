@@ -36,10 +36,23 @@ balanceAt g i = (getD (g .accounts) i noAccount) .balance
 abbrev pub withBalance : Account → ℤ → Account
 withBalance a z = record { number = a .number; kind = a .kind; balance = z }
 
+-- ---- the gate with one field anew
+abbrev pub withAccounts : Gate → List Account → Gate
+withAccounts g as = record { accounts = as; count = g .count; closed = g .closed; used = g .used }
+
+abbrev pub withCount : Gate → ℕ → Gate
+withCount g n = record { accounts = g .accounts; count = n; closed = g .closed; used = g .used }
+
+abbrev pub withUsed : Gate → ℕ → Gate
+withUsed g n = record { accounts = g .accounts; count = g .count; closed = g .closed; used = n }
+
+abbrev pub withClosed : Gate → Day → Gate
+withClosed g d = record { accounts = g .accounts; count = g .count; closed = d; used = g .used }
+
+-- ---- what is done to an account
 -- the gate with the balance z at account i
 abbrev pub gateBalance : Gate → ℕ → ℤ → Gate
-gateBalance g i z =
-    record { accounts = set (g .accounts) i (withBalance (getD (g .accounts) i noAccount) z); count = g .count; closed = g .closed; used = g .used }
+gateBalance g i z = withAccounts g (set (g .accounts) i (withBalance (getD (g .accounts) i noAccount) z))
 
 -- an amount added to the balance of account i, or taken from it
 unfoldable pub credited : Gate → ℕ → ℕ → Gate
@@ -48,16 +61,10 @@ credited g i n = gateBalance g i (balanceAt g i +ℤ pos n)
 unfoldable pub debited : Gate → ℕ → ℕ → Gate
 debited g i n = gateBalance g i (balanceAt g i -ℤ pos n)
 
-abbrev pub withUsed : Gate → ℕ → Gate
-withUsed g n = record { accounts = g .accounts; count = g .count; closed = g .closed; used = n }
-
-abbrev pub withClosed : Gate → Day → Gate
-withClosed g d = record { accounts = g .accounts; count = g .count; closed = d; used = g .used }
-
 -- one account more, with a balance of 0
 unfoldable pub opened : Gate → Number → ℕ → Gate
 opened g n k =
-    record { accounts = set (g .accounts) (g .count) (record { number = n; kind = k; balance = pos 0 }); count = g .count + 1; closed = g .closed; used = g .used }
+    withCount (withAccounts g (set (g .accounts) (g .count) (record { number = n; kind = k; balance = pos 0 }))) (g .count + 1)
 
 -- balances within a bound
 pub record Funds (g : Gate) (b : ℕ) : Type 0 where

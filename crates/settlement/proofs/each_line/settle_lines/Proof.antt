@@ -8,8 +8,8 @@ use Rattle.table.specs.Table.{Rows}
 use Rattle.settlement.specs.Settle.{settleLines}
 use Rattle.posting.specs.Steps.{ledgerOf}
 use Rattle.settlement.specs.Lines.{LineRows, linesOf}
-use Rattle.settlement.proofs.lines.settle_lines.Statement.{statement}
-use Rattle.settlement.proofs.lines.settle_lines.Tie as tie
+use Rattle.settlement.proofs.each_line.settle_lines.Statement.{statement}
+use Rattle.settlement.proofs.each_line.settle_lines.Tie as tie
 
 abbrev Inv-loop : tie.InvT-loop
 Inv-loop nums₀ numbers₀ dates₀ clock values holders days count gate₀ i₀ nums numbers dates gate i =
