@@ -38,7 +38,7 @@ withBalance a z = record { number = a .number; kind = a .kind; balance = z }
 
 -- ---- the gate with one field anew
 abbrev pub withAccounts : Gate → List Account → Gate
-withAccounts g as = record { accounts = as; count = g .count; closed = g .closed; used = g .used }
+withAccounts g l = record { accounts = l; count = g .count; closed = g .closed; used = g .used }
 
 abbrev pub withCount : Gate → ℕ → Gate
 withCount g n = record { accounts = g .accounts; count = n; closed = g .closed; used = g .used }
