@@ -1,7 +1,7 @@
 // What the vectors keep from line to line: the book, the gate, and how many entries and records are lent.
 use crate::given;
-use agent::answering;
-use agent::writing;
+use answering::answering;
+use writing::writing;
 use book::Book;
 use book::rows;
 use daybook::Writing;

@@ -2,7 +2,7 @@
 use crate::desk;
 use crate::desk::Desk;
 use crate::given;
-use agent::answering;
+use answering::answering;
 use dates::calendar::Day;
 use daybook::listing;
 use fields::number::Number;

@@ -17,9 +17,10 @@ use Rattle.book.proofs.EntryLaws.{EntryRoom, entries-set, getD-entries}
 use Rattle.daybook.specs.Acceptance.{isFrozen}
 use Rattle.daybook.specs.Freezing.{isListed, listed, registryOf, writeRegistry}
 use Rattle.daybook.proofs.ListedTheorems.{registry-same, writing-same, unfrozen-off, listed-set}
-use Rattle.agent.specs.Answering.{takeAnswer}
-use Rattle.agent.specs.Writing.{writeRequest}
-use Rattle.agent.proofs.MovedLaws.{placeOf, Left, kept, moved, room-at, good-kept}
+use Rattle.answering.specs.Answering.{takeAnswer}
+use Rattle.writing.specs.Writing.{writeRequest}
+use Rattle.book.proofs.PassedLaws.{room-at}
+use Rattle.agent_theorems.proofs.MovedLaws.{placeOf, Left, kept, moved, good-kept}
 use Rattle.agent_theorems.proofs.AnswerTheorems.{answer-left}
 use Rattle.agent_theorems.proofs.WritingTheorems.{write-left}
 

@@ -26,12 +26,12 @@ use Rattle.book.specs.BookValid.{entryFields, bookGood, ReadyBook}
 use Rattle.book.proofs.EntryLaws.{getD-entries, book-set}
 use Rattle.book.proofs.BookLaws.{entry-within, number-again}
 use Rattle.book.proofs.PaymentLaws.{entry-parts, SamePayment, fields-kept, state-range, waits}
-use Rattle.agent.specs.declared.meaning.Meaning.{Meaning}
-use Rattle.agent.specs.declared.meaning.Meaning.the-variants.{Paid, Revoked, Silent}
+use Rattle.answering.specs.declared.meaning.Meaning.{Meaning}
+use Rattle.answering.specs.declared.meaning.Meaning.the-variants.{Paid, Revoked, Silent}
 use Rattle.daybook.specs.Acceptance.{isFrozen}
-use Rattle.agent.specs.Answering.{Taking, meaning, credits, turned, authcodeAfter, answeredEntry, took, takeAt, takeReceipt, checkCode, takeFor, takeAnswer}
-use Rattle.agent.proofs.MeaningLaws.{payment-silent, cancel-silent}
-use Rattle.agent.proofs.MovedLaws.{placeOf, same-place, found-fields, put-same, Left, kept, moved, others-kept, payments-kept, frozen-kept, good-kept, ready-kept}
+use Rattle.answering.specs.Answering.{Taking, meaning, credits, turned, authcodeAfter, answeredEntry, took, takeAt, takeReceipt, isCheck, checkCode, takeAnswer}
+use Rattle.answering.proofs.MeaningLaws.{payment-silent, cancel-silent}
+use Rattle.agent_theorems.proofs.MovedLaws.{placeOf, same-place, found-fields, put-same, Left, kept, moved, others-kept, payments-kept, frozen-kept, good-kept, ready-kept}
 
 -- every code but 0 and 7 says nothing, whatever was asked
 silent-code : (a : Action) (code : ℕ) → (code ≡ 0 → ⊥) → (code ≡ 7 → ⊥) → meaning a code ≡ Silent
@@ -114,16 +114,9 @@ module _ (b : Book) (t : BookRows) (a : Action) (receipt : ℕ) (text : List ℕ
     unfolding takeReceipt
     receipt-cases good = cond-elim P (isReceipt receipt) _ _ (λ _. at-cases good (placeOf b t receipt) refl) (λ _. stays 60)
 
-    for-cases : (a′ : Action) → P (takeReceipt b t a′ receipt text) → P (takeFor b t a′ receipt text)
-    unfolding takeFor
-    for-cases Check h = stays (checkCode text)
-    for-cases Payment h = h
-    for-cases Status h = h
-    for-cases Cancel h = h
-
     pub take-cases : P (takeAnswer b t a receipt text)
     unfolding takeAnswer
-    take-cases = cond-elim P (bookGood b t) _ _ (λ good. for-cases a (receipt-cases good)) (λ _. stays 68)
+    take-cases = cond-elim P (bookGood b t) _ _ (λ good. cond-elim P (isCheck a) _ _ (λ _. stays (checkCode text)) (λ _. receipt-cases good)) (λ _. stays 68)
 
   -- a fault keeps the rows whole
   pub answer-fault : ((takeAnswer b t a receipt text) .code ≡ 0 → ⊥) → (takeAnswer b t a receipt text) .rows ≡ t

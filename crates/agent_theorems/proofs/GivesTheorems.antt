@@ -32,11 +32,11 @@ use Rattle.book.proofs.BookLaws.{good-book, entry-here}
 use Rattle.book.proofs.PaymentLaws.{EntryParts, entry-parts}
 use Rattle.daybook.specs.Acceptance.{isFrozen}
 use Rattle.daybook.proofs.GivesTheorems.{good-whole}
-use Rattle.agent.specs.declared.meaning.Meaning.{Meaning}
-use Rattle.agent.specs.declared.meaning.Meaning.the-variants.{Paid, Revoked}
-use Rattle.agent.specs.Writing.{Writing, wrote, mayWrite, withState, writtenEntry, requestOf, formsGood, isOpen, writeAt, writeRequest, checkOf, writeCheck}
-use Rattle.agent.specs.Answering.{paymentMeaning, cancelMeaning, meaning, credits, turned, authcodeAfter, answeredEntry, took, takeAt, takeReceipt, takeFor, takeAnswer}
-use Rattle.agent.proofs.MovedLaws.{placeOf}
+use Rattle.answering.specs.declared.meaning.Meaning.{Meaning}
+use Rattle.answering.specs.declared.meaning.Meaning.the-variants.{Paid, Revoked}
+use Rattle.writing.specs.Writing.{Writing, wrote, mayWrite, withState, writtenEntry, requestOf, formsGood, isOpen, writeAt, writeRequest, checkOf, writeCheck}
+use Rattle.answering.specs.Answering.{paymentMeaning, cancelMeaning, meaning, credits, turned, authcodeAfter, answeredEntry, took, takeAt, takeReceipt, isCheck, takeAnswer}
+use Rattle.agent_theorems.proofs.MovedLaws.{placeOf}
 
 -- ---- which writing is open on an unfrozen day
 module _ (b : Book) (e : Entry) (unfrozen : isFrozen b (e .date) ≡ false) where
@@ -153,19 +153,18 @@ module _ (b : Book) (t : BookRows) (good : bookGood b t ≡ true) (six : (j : �
     abbrev answer : Answer
     answer = (answerRead a text) .answer
 
-    for-is : (a′ : Action) → (a′ ≡ Check → ⊥) → takeFor b t a′ (entry .receipt) text ≡ takeReceipt b t a′ (entry .receipt) text
-    unfolding takeFor
-    for-is Check n = absurd (n refl)
-    for-is Payment n = refl
-    for-is Status n = refl
-    for-is Cancel n = refl
+    no-check-is : (a′ : Action) → (a′ ≡ Check → ⊥) → isCheck a′ ≡ false
+    no-check-is Check n = absurd (n refl)
+    no-check-is Payment n = refl
+    no-check-is Status n = refl
+    no-check-is Cancel n = refl
 
     module _ (receipted : a ≡ Check → ⊥) where
       -- replaces its entry, and only that, by the answered one
       pub answer-turns : takeAnswer b t a (entry .receipt) text ≡ took 0 (bookWith t i (answeredEntry (meaning a (answer .code)) answer entry))
       unfolding takeAnswer takeReceipt takeAt
       answer-turns =
-          rw (good, for-is a receipted, parts .receipt, place-here, getD-entries t (b .used) i noEntry used, ok, unfrozen, set-here (answeredEntry (meaning a (answer .code)) answer entry)) refl
+          rw (good, no-check-is a receipted, parts .receipt, place-here, getD-entries t (b .used) i noEntry used, ok, unfrozen, set-here (answeredEntry (meaning a (answer .code)) answer entry)) refl
 
       -- 7, or cancel's 0, turns asked and cancel-asked to cancelled
       pub revoked-cancels : (answer .code ≡ 7) ⊎ ((a ≡ Cancel) × (answer .code ≡ 0)) → (stateOf (entry .state) ≡ Asked) ⊎ (stateOf (entry .state) ≡ CancelAsked)

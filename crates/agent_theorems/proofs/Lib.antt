@@ -1,3 +1,4 @@
+pub mod MovedLaws
 pub mod AnswerTheorems
 pub mod WritingTheorems
 pub mod AlikeTheorems

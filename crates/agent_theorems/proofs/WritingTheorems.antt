@@ -34,9 +34,9 @@ use Rattle.book.proofs.EntryLaws.{getD-entries, length-entries, entry-from, boo
 use Rattle.book.proofs.BookLaws.{entry-within}
 use Rattle.book.proofs.PaymentLaws.{entry-parts, SamePayment, same-payment, fields-kept, state-range}
 use Rattle.daybook.specs.Acceptance.{isFrozen}
-use Rattle.agent.specs.Writing.{Writing, unwritten, wrote, mayWrite, writtenEntry, requestOf, formsGood, isOpen, writeAt, writeRequest, checkOf, writeCheck}
-use Rattle.agent.proofs.WritingLaws.{check-asked}
-use Rattle.agent.proofs.MovedLaws.{placeOf, same-place, found-fields, put-same, Left, kept, moved, others-kept, payments-kept, frozen-kept, good-kept, ready-kept}
+use Rattle.writing.specs.Writing.{Writing, unwritten, wrote, mayWrite, writtenEntry, requestOf, formsGood, isOpen, writeAt, writeRequest, checkOf, writeCheck}
+use Rattle.writing.proofs.WritingLaws.{check-asked}
+use Rattle.agent_theorems.proofs.MovedLaws.{placeOf, same-place, found-fields, put-same, Left, kept, moved, others-kept, payments-kept, frozen-kept, good-kept, ready-kept}
 
 -- ---- the entry that a writing leaves
 written-same : (a : Action) (e : Entry) → SamePayment e (writtenEntry a e)

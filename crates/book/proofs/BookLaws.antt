@@ -6,16 +6,16 @@ use mathlib.Core.List.{List}
 use Prim.Native.Nat.{ℕ, zero, suc, _+_, _-_, _<_, _≤_}
 use native.Mathlib.Decide.{ℕ-discrete}
 use native.Mathlib.Omega.{arith}
-use lib.Dec.{eqb, leb}
+use lib.Dec.{leb}
 use lib.ListN.{length, getD, length-set}
-use borrow.Author.Tests.{eq-eqb, ne-eqb, le-leb, eqb-true, leb-true}
+use borrow.Author.Tests.{eq-eqb, ne-eqb, eqb-true, leb-true}
 use Rattle.dates.specs.declared.calendar.Day.{Day}
 use Rattle.dates.specs.declared.calendar.DayRead.the-variants.{Good}
 use Rattle.dates.specs.Calendar.{isDay}
 use Rattle.fields.specs.Codes.{isReceipt}
 use Rattle.dates.specs.Date.{dateDay}
 use Rattle.texts.specs.Digits.{within}
-use Rattle.texts.proofs.Tests.{and-left, and-right, both, no-claim}
+use Rattle.texts.proofs.Tests.{and-left, and-right, no-claim}
 use Rattle.lists.specs.declared.Found.{Found}
 use Rattle.lists.specs.declared.Found.the-variants.{At, Nothing}
 use Rattle.lists.specs.Lists.{allFrom}

@@ -1,5 +1,5 @@
 -- Laws of the book's rows: what a store leaves is the list of entries with one of them set.
-use mathlib.Core.Path.{_≡_, refl, sym, ap, _∙_}
+use mathlib.Core.Path.{_≡_, sym, ap, _∙_}
 use mathlib.Core.Logic.{_≢_}
 use mathlib.Core.List.{List, [], _∷_, _++_, map}
 use Prim.Native.Nat.{ℕ, suc, _+_, _-_, _<_, _≤_}
@@ -8,9 +8,8 @@ use native.Mathlib.Omega.{arith}
 use borrow.Author.Count.{below-none, below-more}
 use lib.ListN.{length, take, drop, getD, set, length-set, length-append, take-append-drop}
 use lib.Seq.{drop-cons, getD-set-same, getD-set-other, ext-getD}
-use Rattle.lists.specs.Lists.{tab}
 use Rattle.lists.proofs.ListLaws.{length-tab, getD-tab, map-tab, tab-same, tab-take, list-six}
-use Rattle.lists.proofs.ColumnLaws.{tab-put, tab-add, column-back, column-more, column-set, column-next, column-at, column-size}
+use Rattle.lists.proofs.ColumnLaws.{tab-put, tab-add, column-back, column-more, column-at}
 use Rattle.book.specs.declared.Entry.{Entry}
 use Rattle.book.specs.Entries.{BookRows, entryAt, entriesOf, entryNums, bookWith, bookFrom, WholeBook}
 

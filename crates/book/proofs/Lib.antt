@@ -3,3 +3,4 @@ pub mod CountLaws
 pub mod ValidLaws
 pub mod BookLaws
 pub mod PaymentLaws
+pub mod PassedLaws

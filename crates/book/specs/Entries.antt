@@ -45,6 +45,9 @@ entryFrom w b d =
 abbrev pub entryAt : BookRows → ℕ → Entry
 entryAt t i = entryFrom (getD (t .nums) i []) (getD (t .numbers) i []) (getD (t .dates) i [])
 
+abbrev pub isCancelled : Entry → Bool
+isCancelled e = eqb (e .state) (stateNumber Cancelled)
+
 -- what a lookup past the entries gives
 abbrev pub noEntry : Entry
 noEntry =

@@ -1,12 +1,12 @@
 -- Laws of a payment that is accepted, at each way out of the call.
 use Prim.Native.Nat.{ℕ, _+_, _<_, _≤_}
 use native.Mathlib.Omega.{arith}
-use mathlib.Core.Path.{_≡_, sym, _∙_}
-use mathlib.Core.Bool.{Bool, true, false, not}
+use mathlib.Core.Path.{_≡_, refl, sym, _∙_}
+use mathlib.Core.Bool.{Bool, true, false, cond, not}
 use mathlib.Core.List.{List}
 use lib.Dec.{ltb}
 use lib.ListN.{length}
-use borrow.Author.Tests.{lt-ltb, le-ltb, ltb-true, not-true, not-false}
+use borrow.Author.Tests.{lt-ltb, le-ltb, ltb-true, eq-eqb, ne-eqb, not-true, not-false}
 use mir.Syntax.{w64}
 use mir.Val.{Fits}
 use Rattle.dates.specs.declared.calendar.Day.{Day}
@@ -21,11 +21,12 @@ use Rattle.texts.proofs.Tests.{and-left}
 use Rattle.texts.proofs.DigitLaws.{within-high}
 use Rattle.book.specs.declared.Book.{Book}
 use Rattle.book.specs.declared.Entry.{Entry}
-use Rattle.book.specs.Entries.{BookRows, entriesOf, bookWith}
+use Rattle.book.specs.declared.State.the-variants.{Asked}
+use Rattle.book.specs.Entries.{BookRows, stateNumber, entriesOf, bookWith}
 use Rattle.book.specs.BookValid.{dayCount, bookGood, ReadyBook}
 use Rattle.book.proofs.EntryLaws.{book-more}
 use Rattle.book.proofs.BookLaws.{good-book}
-use Rattle.daybook.specs.Acceptance.{Acceptance, isFrozen, nextReceipt, madeEntry, mayAccept, dayOpen, hasPlace, withEntry, acceptTo, accept}
+use Rattle.daybook.specs.Acceptance.{Acceptance, isFrozen, nextReceipt, madeEntry, mayAccept, dayOpen, hasPlace, withEntry, acceptFault, accept}
 
 -- ---- the fields, and the date that is not frozen
 module _ (b : Book) (n : Number) (kind amount : ℕ) (date : List ℕ) (m : Bool) (em : m ≡ isNumber n) where
@@ -76,9 +77,6 @@ module _ (b : Book) (t : BookRows) (date : List ℕ) where
     place-rest h r e = e ∙ rw (lt-ltb _ _ l, ← eo, not-false o h)
 
 -- ---- what a good book gives to the functions behind the check
-pub good-is : (b : Book) (t : BookRows) (g : Bool) → g ≡ bookGood b t → not g ≡ false → bookGood b t ≡ true
-good-is b t g e h = sym e ∙ not-false g h
-
 module _ (b : Book) (t : BookRows) (good : bookGood b t ≡ true) where
   pub first-below : b .first < 1000000000000000
   first-below = omega (arith, within-high 1 999999999999999 (b .first) (good-book b t good .first))
@@ -92,17 +90,17 @@ module _ (b : Book) (t : BookRows) (good : bookGood b t ≡ true) where
 pub made-fits : (b : Book) → b .first < 1000000000000000 → b .used ≤ 4096 → Fits w64 (b .first + b .used)
 made-fits b f u = record { fits = omega arith }
 
-pub made-is : (b : Book) (n : Number) (kind amount : ℕ) (date : List ℕ) (e : Entry)
-    → e ≡ record { receipt = b .first + b .used; number = n; kind = kind; amount = amount; date = date; state = 1; authcode = 0 }
+pub made-is : (b : Book) (n : Number) (kind amount : ℕ) (date : List ℕ) (e : Entry) (s : ℕ) → s ≡ stateNumber Asked
+    → e ≡ record { receipt = b .first + b .used; number = n; kind = kind; amount = amount; date = date; state = s; authcode = 0 }
     → e ≡ madeEntry b n kind amount date
 unfolding madeEntry nextReceipt
-made-is b n kind amount date e q = q
+made-is b n kind amount date e s es q = q ∙ rw es
 
 -- ---- a place that is there
-module _ (b : Book) (t : BookRows) (date : List ℕ) (p : Bool) (ep : p ≡ hasPlace b t date) (hp : not p ≡ false) where
+module _ (b : Book) (t : BookRows) (date : List ℕ) (place : hasPlace b t date ≡ true) where
   pub place-nums : b .used < length (t .nums)
   unfolding hasPlace
-  place-nums = ltb-true _ _ (and-left (ltb (b .used) (length (t .nums))) _ (sym ep ∙ not-false p hp))
+  place-nums = ltb-true _ _ (and-left (ltb (b .used) (length (t .nums))) _ place)
 
   pub place-numbers : ReadyBook b t → b .used < length (t .numbers)
   place-numbers y = omega (arith, place-nums, y .same .numbers)
@@ -110,35 +108,64 @@ module _ (b : Book) (t : BookRows) (date : List ℕ) (p : Bool) (ep : p ≡ hasP
   pub place-dates : ReadyBook b t → b .used < length (t .dates)
   place-dates y = omega (arith, place-nums, y .same .dates)
 
-  pub place-more : ReadyBook b t → Fits w64 (b .used + 1)
-  place-more y = record { fits = omega (arith, place-nums, y .size) }
+-- ---- the fault
+module _ (b : Book) (t : BookRows) (n : Number) (kind amount : ℕ) (date : List ℕ) (g : Bool) (eg : g ≡ bookGood b t) where
+  pub fault-book : not g ≡ true → 68 ≡ acceptFault b t n kind amount date
+  unfolding acceptFault
+  fault-book h = rw (← eg, not-true g h)
 
--- ---- the acceptance of a good book's payment; r is what is answered and left
-module _ (b : Book) (t : BookRows) (n : Number) (kind amount : ℕ) (date : List ℕ) (r : Acceptance) where
-  module _ (m : Bool) (em : m ≡ mayAccept b n kind amount date) where
-    pub accept-may-not : not m ≡ true → r ≡ record { code = 60; book = b; rows = t; receipt = 0 } → r ≡ acceptTo b t n kind amount date
-    unfolding acceptTo
-    accept-may-not h q = q ∙ rw (← em, not-true m h)
+  module _ (hg : not g ≡ false) (m : Bool) (em : m ≡ mayAccept b n kind amount date) where
+    pub fault-may : not m ≡ true → 60 ≡ acceptFault b t n kind amount date
+    unfolding acceptFault
+    fault-may h = rw (← eg, not-false g hg, ← em, not-true m h)
 
     module _ (hm : not m ≡ false) (p : Bool) (ep : p ≡ hasPlace b t date) where
-      pub accept-no-place : not p ≡ true → r ≡ record { code = 61; book = b; rows = t; receipt = 0 } → r ≡ acceptTo b t n kind amount date
-      unfolding acceptTo
-      accept-no-place h q = q ∙ rw (← em, not-false m hm, ← ep, not-true p h)
+      pub fault-place : not p ≡ true → 61 ≡ acceptFault b t n kind amount date
+      unfolding acceptFault
+      fault-place h = rw (← eg, not-false g hg, ← em, not-false m hm, ← ep, not-true p h)
 
-      pub accept-made : not p ≡ false → ReadyBook b t → (e : Entry) → e ≡ madeEntry b n kind amount date
-          → (rows : BookRows) → rows ≡ bookWith t (b .used) e
-          → r ≡ record { code = 0; book = withEntry b; rows = rows; receipt = e .receipt } → r ≡ acceptTo b t n kind amount date
-      unfolding acceptTo madeEntry
-      accept-made h y e ee rows er q =
-          let w = book-more t (b .used) (y .whole) e (place-nums b t date p ep h) (place-numbers b t date p ep h y) (place-dates b t date p ep h y) in
-          q ∙ rw (← em, not-false m hm, ← ep, not-false p h, er, ← w, ee)
+      pub fault-none : not p ≡ false → 0 ≡ acceptFault b t n kind amount date
+      unfolding acceptFault
+      fault-none h = rw (← eg, not-false g hg, ← em, not-false m hm, ← ep, not-false p h)
 
-  -- ---- the call
-  module _ (g : Bool) (eg : g ≡ bookGood b t) where
-    pub accept-not-book : not g ≡ true → r ≡ record { code = 68; book = b; rows = t; receipt = 0 } → r ≡ accept b t n kind amount date
-    unfolding accept
-    accept-not-book h q = q ∙ rw (← eg, not-true g h)
+-- ---- the call; r is what is answered and left
+module _ (b : Book) (t : BookRows) (n : Number) (kind amount : ℕ) (date : List ℕ) (code : ℕ) (ec : code ≡ acceptFault b t n kind amount date) where
+  pub accept-refused : (r : Acceptance) → (code ≡ 0 → ⊥) → r ≡ record { code = code; book = b; rows = t; receipt = 0 } → r ≡ accept b t n kind amount date
+  unfolding accept
+  accept-refused r h q = q ∙ rw (← ec, ne-eqb code 0 h)
 
-    pub accept-good : not g ≡ false → r ≡ acceptTo b t n kind amount date → r ≡ accept b t n kind amount date
-    unfolding accept
-    accept-good h q = q ∙ rw (← eg, not-false g h)
+  module _ (none : code ≡ 0) where
+    pub fault-good : bookGood b t ≡ true
+    unfolding acceptFault
+    fault-good = go (bookGood b t) (sym ec ∙ none)
+      where
+        go : (g : Bool) → _≡_ {A = ℕ} (cond g (cond (mayAccept b n kind amount date) (cond (hasPlace b t date) 0 61) 60) 68) 0 → g ≡ true
+        go true e = refl
+        go false e = absurd (omega (arith, e))
+
+    pub fault-room : hasPlace b t date ≡ true
+    unfolding acceptFault
+    fault-room = go (bookGood b t) (mayAccept b n kind amount date) (hasPlace b t date) (sym ec ∙ none)
+      where
+        go : (g m p : Bool) → _≡_ {A = ℕ} (cond g (cond m (cond p 0 61) 60) 68) 0 → p ≡ true
+        go true true true e = refl
+        go true true false e = absurd (omega (arith, e))
+        go true false p e = absurd (omega (arith, e))
+        go false m p e = absurd (omega (arith, e))
+
+    module _ (y : code ≡ 0 → ReadyBook b t) where
+      pub made-room : (b .first < 1000000000000000) × (b .used ≤ 4096)
+      made-room = (first-below b t fault-good, used-most b t fault-good (y none))
+
+      pub store-room : (b .used < length (t .nums)) × (b .used < length (t .numbers)) × (b .used < length (t .dates))
+      store-room = (place-nums b t date fault-room, place-numbers b t date fault-room (y none), place-dates b t date fault-room (y none))
+
+      pub store-more : Fits w64 (b .used + 1)
+      store-more = record { fits = omega (arith, place-nums b t date fault-room, y none .size) }
+
+      pub accept-made : (r : Acceptance) (e : Entry) → e ≡ madeEntry b n kind amount date → (rows : BookRows) → rows ≡ bookWith t (b .used) e
+          → r ≡ record { code = 0; book = withEntry b; rows = rows; receipt = e .receipt } → r ≡ accept b t n kind amount date
+      unfolding accept madeEntry
+      accept-made r e ee rows er q =
+          let w = book-more t (b .used) (y none .whole) e (store-room .0) (store-room .1) (store-room .2) in
+          q ∙ rw (← ec, eq-eqb code 0 none, er, ← w, ee)

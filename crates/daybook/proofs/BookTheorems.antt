@@ -4,7 +4,7 @@ use native.Mathlib.Omega.{arith}
 use mathlib.Core.Path.{_≡_, refl, sym, ap, _∙_}
 use mathlib.Core.Bool.{Bool, true, false, cond, not, _&&_}
 use mathlib.Core.List.{List, [], _∷_, _++_}
-use lib.Dec.{ltb}
+use lib.Dec.{eqb, ltb}
 use lib.ListN.{length, getD, length-append, List·getD-append}
 use lib.Seq.{getD-at}
 use borrow.Author.Tests.{ltb-true, not-true}
@@ -23,14 +23,14 @@ use Rattle.dates.proofs.DateLaws.{date-day}
 use Rattle.lists.proofs.ColumnLaws.{column-at, column-size}
 use Rattle.book.specs.declared.Book.{Book}
 use Rattle.book.specs.declared.Entry.{Entry}
-use Rattle.book.specs.Entries.{BookRows, entryAt, entriesOf, entryNums, bookWith, bookFrom}
+use Rattle.book.specs.Entries.{BookRows, stateNumber, entryAt, entriesOf, entryNums, bookWith, bookFrom}
 use Rattle.book.specs.BookValid.{entryFields, dayCount, bookLent, bookGood, ReadyBook}
 use Rattle.book.proofs.EntryLaws.{length-entries, getD-entries, entries-more, entry-from, entries-from}
 use Rattle.lists.specs.Lent.{Lent}
 use Rattle.lists.proofs.LentLaws.{lent-facts, facts-lent}
 use Rattle.book.proofs.BookLaws.{good-lent, good-book, good-room, added-good, frozen-good}
 use Rattle.daybook.specs.declared.freezing.Freezing.{Freezing}
-use Rattle.daybook.specs.Acceptance.{Acceptance, isFrozen, nextReceipt, madeEntry, mayAccept, dayOpen, hasPlace, withEntry, acceptTo, accept}
+use Rattle.daybook.specs.Acceptance.{Acceptance, isFrozen, nextReceipt, madeEntry, mayAccept, dayOpen, hasPlace, withEntry, acceptFault, accept}
 use Rattle.daybook.specs.Freezing.{froze, frozenOn, freezeOn, freeze, registryOf, writeRegistry}
 use Rattle.daybook.proofs.ListedTheorems.{registry-same, writing-same, unfrozen-off, listed-more}
 
@@ -129,14 +129,17 @@ module _ (b : Book) (t : BookRows) (n : Number) (kind amount : ℕ) (date : List
   -- a property of what is answered and left, which a fault has and a success has
   pub accept-elim : (P : Acceptance → Type 0) → ((c : ℕ) → 0 < c → P (fault c))
       → (bookGood b t ≡ true → mayAccept b n kind amount date ≡ true → hasPlace b t date ≡ true → P success) → P after
-  unfolding accept acceptTo
-  accept-elim P f s =
-      cond-elim P (bookGood b t) (cond (mayAccept b n kind amount date) (cond (hasPlace b t date) success (fault 61)) (fault 60)) (fault 68)
-      (λ g.
-      cond-elim P (mayAccept b n kind amount date) (cond (hasPlace b t date) success (fault 61)) (fault 60)
-      (λ m. cond-elim P (hasPlace b t date) success (fault 61) (λ h. s g m h) (λ _. f 61 (omega arith)))
-      (λ _. f 60 (omega arith)))
-      (λ _. f 68 (omega arith))
+  unfolding accept acceptFault
+  accept-elim P f s = go (bookGood b t) (mayAccept b n kind amount date) (hasPlace b t date) s
+    where
+      given : ℕ → Acceptance
+      given c = cond (eqb c 0) success (fault c)
+
+      go : (g m h : Bool) → (g ≡ true → m ≡ true → h ≡ true → P success) → P (given (cond g (cond m (cond h 0 61) 60) 68))
+      go true true true q = q refl refl refl
+      go true true false q = f 61 (omega arith)
+      go true false h q = f 60 (omega arith)
+      go false m h q = f 68 (omega arith)
 
   -- a fault keeps the book and its rows, and gives no receipt
   pub accept-fault : (after .code ≡ 0 → ⊥) → after ≡ record { code = after .code; book = b; rows = t; receipt = 0 }
@@ -217,7 +220,7 @@ module _ (b : Book) (t : BookRows) (n : Number) (kind amount : ℕ) (date : List
           ltb-true _ _ (ap (dayOpen (entriesOf t (b .used))) (sym q) ∙ and-left (dayOpen (entriesOf t (b .used)) (dateDay date)) (isReceipt (nextReceipt b)) place-rest)
 
       made-fields : entryFields made ≡ true
-      unfolding entryFields madeEntry
+      unfolding entryFields madeEntry stateNumber
       made-fields =
           rw (
             and-right (dayOpen (entriesOf t (b .used)) (dateDay date)) (isReceipt (nextReceipt b)) place-rest,

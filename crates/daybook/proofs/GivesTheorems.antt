@@ -2,7 +2,7 @@
 use Prim.Native.Nat.{ℕ, _+_, _<_, _≤_}
 use native.Mathlib.Omega.{arith}
 use mathlib.Core.Path.{_≡_, refl, ap, _∙_}
-use mathlib.Core.Bool.{true, false, not}
+use mathlib.Core.Bool.{true, false}
 use mathlib.Core.List.{List, [], _∷_, _++_, map}
 use lib.ListN.{length, getD, take}
 use borrow.Author.Tests.{lt-ltb, le-leb}
@@ -21,11 +21,12 @@ use Rattle.lines.specs.Line.{lineAgain}
 use Rattle.registry.specs.Registry.{registryFault, registryLines}
 use Rattle.book.specs.declared.Book.{Book}
 use Rattle.book.specs.declared.Entry.{Entry}
-use Rattle.book.specs.Entries.{BookRows, WholeBook, entriesOf, bookWith, bookFrom}
+use Rattle.book.specs.declared.State.the-variants.{Asked}
+use Rattle.book.specs.Entries.{BookRows, stateNumber, WholeBook, entriesOf, bookWith, bookFrom}
 use Rattle.book.specs.BookValid.{dayCount, bookGood}
 use Rattle.book.proofs.EntryLaws.{book-more}
 use Rattle.book.proofs.BookLaws.{good-lent}
-use Rattle.daybook.specs.Acceptance.{isFrozen, nextReceipt, madeEntry, mayAccept, hasPlace, acceptTo, accept}
+use Rattle.daybook.specs.Acceptance.{isFrozen, nextReceipt, madeEntry, mayAccept, hasPlace, acceptFault, accept}
 use Rattle.daybook.specs.Freezing.{freezeOn, freeze, listed, entryLine, registryOf, Listing, listOn, writeRegistry}
 use Rattle.daybook.proofs.RegistryLaws.{registry-few}
 use Rattle.daybook.proofs.ListedTheorems.{registry-reads, registry-holds, list-elim}
@@ -85,13 +86,13 @@ module _ (b : Book) (t : BookRows) (n : Number) (kind amount : ℕ) (date : List
       record {
         code = 0;
         book = record { first = b .first; used = b .used + 1; frozen = b .frozen; settled = b .settled };
-        rows = bookWith t (b .used) (record { receipt = b .first + b .used; number = n; kind = kind; amount = amount; date = date; state = 1; authcode = 0 });
+        rows = bookWith t (b .used) (record { receipt = b .first + b .used; number = n; kind = kind; amount = amount; date = date; state = stateNumber Asked; authcode = 0 });
         receipt = b .first + b .used;
       }
-  unfolding accept acceptTo mayAccept hasPlace isFrozen nextReceipt madeEntry
+  unfolding accept acceptFault mayAccept hasPlace isFrozen nextReceipt madeEntry
   accept-gives good six number kinds amounts written x day unfrozen room few receipt =
       let l = lent-facts _ _ _ _ (good-lent b t good) in
-      let e : Entry = record { receipt = b .first + b .used; number = n; kind = kind; amount = amount; date = date; state = 1; authcode = 0 } in
+      let e : Entry = record { receipt = b .first + b .used; number = n; kind = kind; amount = amount; date = date; state = stateNumber Asked; authcode = 0 } in
       let m : bookFrom t (entriesOf t (b .used) ++ (e ∷ [])) ≡ bookWith t (b .used) e =
       book-more t (b .used) (good-whole b t good six) e room (omega (arith, room, l .second)) (omega (arith, room, l .third)) in
       rw (good, number, kinds, amounts, written, day, unfrozen, lt-ltb _ _ room, lt-ltb _ _ few, receipt, m) refl

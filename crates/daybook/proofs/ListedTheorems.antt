@@ -24,7 +24,7 @@ use Rattle.registry.specs.Registry.{everyLine}
 use Rattle.registry.proofs.TextAgain.{on-line, lines-again, registry-again}
 use Rattle.book.specs.declared.Book.{Book}
 use Rattle.book.specs.declared.Entry.{Entry}
-use Rattle.book.specs.Entries.{BookRows, entriesOf}
+use Rattle.book.specs.Entries.{BookRows, isCancelled, entriesOf}
 use Rattle.book.specs.BookValid.{entryFields, inTurn, entryGood, dayCount, bookGood}
 use Rattle.book.proofs.BookLaws.{good-book}
 use Rattle.daybook.specs.Acceptance.{isFrozen}
@@ -38,7 +38,7 @@ module _ (b : Book) (day : Day) where
   lines-listed k [] h = refl
   lines-listed k (e ∷ es) h =
       let p = both (inTurn b k e && entryFields e) (allFrom (entryGood b) (k + 1) es) h in
-      go (onDay day (dateDay (e .date))) refl (not (eqb (e .state) 4))
+      go (onDay day (dateDay (e .date))) refl (not (isCancelled e))
       (entry-line e (and-right (inTurn b k e) (entryFields e) (p .0)))
       (lines-listed (k + 1) es (p .1))
     where
@@ -64,7 +64,7 @@ module _ (b : Book) (day : Day) where
 lines-count : (day : Day) (es : List Entry) → length (map entryLine (listed day es)) ≤ dayCount day es
 unfolding listed isListed dayCount
 lines-count day [] = omega arith
-lines-count day (e ∷ es) = go (onDay day (dateDay (e .date))) (not (eqb (e .state) 4)) (lines-count day es)
+lines-count day (e ∷ es) = go (onDay day (dateDay (e .date))) (not (isCancelled e)) (lines-count day es)
   where
     go : (o u : Bool) → length (map entryLine (listed day es)) ≤ dayCount day es
         → length (map entryLine (cond (o && u) (e ∷ listed day es) (listed day es))) ≤ cond o (suc (dayCount day es)) (dayCount day es)
@@ -130,7 +130,7 @@ writing-same b c t u day out g h f k r = rw (g, h, f, k, r)
 module _ (day : Day) (z : Entry) where
   pub registry-alike : (es xs : List Entry) → length es ≡ length xs
       → ((i : ℕ) → i < length es → entryLine (getD es i z) ≡ entryLine (getD xs i z))
-      → ((i : ℕ) → i < length es → onDay day (dateDay ((getD es i z) .date)) ≡ true → eqb ((getD es i z) .state) 4 ≡ eqb ((getD xs i z) .state) 4)
+      → ((i : ℕ) → i < length es → onDay day (dateDay ((getD es i z) .date)) ≡ true → isCancelled (getD es i z) ≡ isCancelled (getD xs i z))
       → registryOf day es ≡ registryOf day xs
   unfolding registryOf listed isListed registryBytes
   registry-alike [] [] n lines states = refl
@@ -138,7 +138,7 @@ module _ (day : Day) (z : Entry) where
   registry-alike (e ∷ es) [] n lines states = absurd (omega arith)
   registry-alike (e ∷ es) (x ∷ xs) n lines states =
       ap (λ (u : Bool). registryBytes (map entryLine (cond u (e ∷ listed day es) (listed day es)))) (test (onDay day (dateDay (e .date))) refl)
-      ∙ pick (onDay day (dateDay (x .date)) && not (eqb (x .state) 4))
+      ∙ pick (onDay day (dateDay (x .date)) && not (isCancelled x))
       (registry-alike es xs (omega arith) (λ i l. lines (suc i) (omega arith)) (λ i l. states (suc i) (omega arith)))
     where
       line : entryLine e ≡ entryLine x
@@ -153,7 +153,7 @@ module _ (day : Day) (z : Entry) where
       pick false m = m
 
       test : (o : Bool) → onDay day (dateDay (e .date)) ≡ o
-          → onDay day (dateDay (e .date)) && not (eqb (e .state) 4) ≡ onDay day (dateDay (x .date)) && not (eqb (x .state) 4)
+          → onDay day (dateDay (e .date)) && not (isCancelled e) ≡ onDay day (dateDay (x .date)) && not (isCancelled x)
       test true on = rw (← dates, on, states 0 (omega arith) on)
       test false on = rw (← dates, on)
 
@@ -162,11 +162,11 @@ pub unfrozen-off : (b : Book) (day : Day) (e : Entry) → dayBefore (b .frozen) 
 unfolding isFrozen isListed
 unfrozen-off b day e h f = go (dateDay (e .date)) f
   where
-    pick : (x : Day) (u : Bool) → sameDay x day ≡ u → not (dayBefore (b .frozen) x) ≡ false → u && not (eqb (e .state) 4) ≡ false
+    pick : (x : Day) (u : Bool) → sameDay x day ≡ u → not (dayBefore (b .frozen) x) ≡ false → u && not (isCancelled e) ≡ false
     pick x true q g = no-claim (sym g ∙ ap not (ap (dayBefore (b .frozen)) (same-day x day q) ∙ h))
     pick x false q g = refl
 
-    go : (r : DayRead) → upTo (b .frozen) r ≡ false → onDay day r && not (eqb (e .state) 4) ≡ false
+    go : (r : DayRead) → upTo (b .frozen) r ≡ false → onDay day r && not (isCancelled e) ≡ false
     go NoDate g = refl
     go (Good x) g = pick x (sameDay x day) refl g
 

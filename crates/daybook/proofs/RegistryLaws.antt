@@ -24,7 +24,8 @@ use Rattle.registry.specs.Registry.{registryBytes}
 use Rattle.lines.proofs.LineParts.{line-is, text-is, line-length}
 use Rattle.book.specs.declared.Book.{Book}
 use Rattle.book.specs.declared.Entry.{Entry}
-use Rattle.book.specs.Entries.{BookRows, entryAt, entriesOf}
+use Rattle.book.specs.declared.State.the-variants.{Cancelled}
+use Rattle.book.specs.Entries.{BookRows, stateNumber, isCancelled, entryAt, entriesOf}
 use Rattle.book.specs.BookValid.{entryFields, inTurn, entryGood, dayCount, daysGood, bookLent, bookHead, bookGood}
 use Rattle.book.proofs.EntryLaws.{length-entries, entries-rest}
 use Rattle.book.proofs.BookLaws.{good-book}
@@ -36,9 +37,9 @@ module _ (day : Day) (e : Entry) (o : Bool) (eo : o ≡ onDay day (dateDay (e .d
   unfolding isListed
   listed-other-day h = rw (← eo, not-true o h)
 
-  pub listed-uncancelled : not o ≡ false → not (eqb (e .state) 4) ≡ isListed day e
+  pub listed-uncancelled : (s : ℕ) → not o ≡ false → s ≡ stateNumber Cancelled → not (eqb (e .state) s) ≡ isListed day e
   unfolding isListed
-  listed-uncancelled h = rw (← eo, not-false o h)
+  listed-uncancelled s h es = rw (← eo, not-false o h, es)
 
 -- ---- one entry before others
 module _ (day : Day) (e : Entry) (es : List Entry) where
@@ -68,7 +69,7 @@ module _ (b : Book) (day : Day) where
   registry-size k [] h = omega arith
   registry-size k (e ∷ es) h =
       let p = both (inTurn b k e && entryFields e) (allFrom (entryGood b) (k + 1) es) h in
-      go (onDay day (dateDay (e .date))) (not (eqb (e .state) 4)) (line-length (entryLine e) (entry-line e (and-right (inTurn b k e) (entryFields e) (p .0)))) (registry-size (k + 1) es (p .1))
+      go (onDay day (dateDay (e .date))) (not (isCancelled e)) (line-length (entryLine e) (entry-line e (and-right (inTurn b k e) (entryFields e) (p .0)))) (registry-size (k + 1) es (p .1))
     where
       go : (o s : Bool) → length (lineBytes (entryLine e)) ≤ 83 → length (registryBytes (map entryLine (listed day es))) ≤ 83 * dayCount day es
           → length (registryBytes (map entryLine (cond (o && s) (e ∷ listed day es) (listed day es)))) ≤ 83 * cond o (suc (dayCount day es)) (dayCount day es)

@@ -1,10 +1,9 @@
 -- Document 01, "Agent" and the rows 68, 60 and 61: a payment is accepted at the counter.
 use Prim.Native.Nat.{ℕ, _+_}
 use mathlib.Core.List.{List, [], _∷_, _++_}
-use mathlib.Core.Bool.{Bool, true, false, cond, not, _&&_}
-use lib.Dec.{leb, ltb}
+use mathlib.Core.Bool.{Bool, false, cond, not, _&&_}
+use lib.Dec.{eqb, ltb}
 use lib.ListN.{length}
-use Rattle.dates.specs.declared.calendar.Day.{Day}
 use Rattle.dates.specs.declared.calendar.DayRead.{DayRead}
 use Rattle.dates.specs.declared.calendar.DayRead.the-variants.{Good, NoDate}
 use Rattle.fields.specs.declared.number.Number.{Number}
@@ -15,7 +14,8 @@ use Rattle.dates.specs.Date.{dateDay, isWritten}
 use Rattle.fields.specs.Number.{isNumber}
 use Rattle.book.specs.declared.Book.{Book}
 use Rattle.book.specs.declared.Entry.{Entry}
-use Rattle.book.specs.Entries.{BookRows, entriesOf, bookFrom}
+use Rattle.book.specs.declared.State.the-variants.{Asked}
+use Rattle.book.specs.Entries.{BookRows, stateNumber, entriesOf, bookFrom}
 use Rattle.book.specs.BookValid.{dayCount, bookGood}
 use Rattle.daybook.specs.declared.accepting.Acceptance.{Acceptance as Given}
 
@@ -39,7 +39,7 @@ nextReceipt b = b .first + b .used
 
 unfoldable pub madeEntry : Book → Number → ℕ → ℕ → List ℕ → Entry
 madeEntry b n k amount date =
-    record { receipt = nextReceipt b; number = n; kind = k; amount = amount; date = date; state = 1; authcode = 0 }
+    record { receipt = nextReceipt b; number = n; kind = k; amount = amount; date = date; state = stateNumber Asked; authcode = 0 }
 
 -- well formed fields, and an unfrozen date
 unfoldable pub mayAccept : Book → Number → ℕ → ℕ → List ℕ → Bool
@@ -58,18 +58,17 @@ hasPlace b t date =
 abbrev pub withEntry : Book → Book
 withEntry b = record { first = b .first; used = b .used + 1; frozen = b .frozen; settled = b .settled }
 
-unfoldable pub acceptTo : Book → BookRows → Number → ℕ → ℕ → List ℕ → Acceptance
-acceptTo b t n k amount date =
-    cond (mayAccept b n k amount date)
-    (cond (hasPlace b t date)
+-- the fault, 0 where there is none
+unfoldable pub acceptFault : Book → BookRows → Number → ℕ → ℕ → List ℕ → ℕ
+acceptFault b t n k amount date = cond (bookGood b t) (cond (mayAccept b n k amount date) (cond (hasPlace b t date) 0 61) 60) 68
+
+unfoldable pub accept : Book → BookRows → Number → ℕ → ℕ → List ℕ → Acceptance
+accept b t n k amount date =
+    cond (eqb (acceptFault b t n k amount date) 0)
     (record {
       code = 0;
       book = withEntry b;
       rows = bookFrom t (entriesOf t (b .used) ++ (madeEntry b n k amount date ∷ []));
       receipt = nextReceipt b;
     })
-    (record { code = 61; book = b; rows = t; receipt = 0 }))
-    (record { code = 60; book = b; rows = t; receipt = 0 })
-
-unfoldable pub accept : Book → BookRows → Number → ℕ → ℕ → List ℕ → Acceptance
-accept b t n k amount date = cond (bookGood b t) (acceptTo b t n k amount date) (record { code = 68; book = b; rows = t; receipt = 0 })
+    (record { code = acceptFault b t n k amount date; book = b; rows = t; receipt = 0 })

@@ -1,8 +1,8 @@
 -- Document 01, "Agent" and the rows 68, 50, 55 and 66: a day is frozen, and its registry written.
 use Prim.Native.Nat.{ℕ}
 use mathlib.Core.List.{List, [], _∷_, map}
-use mathlib.Core.Bool.{Bool, true, false, cond, not, _&&_}
-use lib.Dec.{eqb, leb}
+use mathlib.Core.Bool.{Bool, false, cond, not, _&&_}
+use lib.Dec.{leb}
 use lib.ListN.{length}
 use Rattle.dates.specs.declared.calendar.Day.{Day}
 use Rattle.texts.specs.Lists.{written, cursorAfter}
@@ -12,7 +12,7 @@ use Rattle.lines.specs.declared.line.Line.{Line}
 use Rattle.registry.specs.Registry.{registryBytes}
 use Rattle.book.specs.declared.Book.{Book}
 use Rattle.book.specs.declared.Entry.{Entry}
-use Rattle.book.specs.Entries.{BookRows, entriesOf}
+use Rattle.book.specs.Entries.{BookRows, isCancelled, entriesOf}
 use Rattle.book.specs.BookValid.{bookGood}
 use Rattle.daybook.specs.declared.freezing.Freezing.{Freezing}
 use Rattle.daybook.specs.declared.Writing.{Writing}
@@ -33,7 +33,7 @@ freeze b t day = cond (bookGood b t) (freezeOn b day) (froze 68 b)
 
 -- ---- the registry of a day: its entries that are not cancelled, in their order
 unfoldable pub isListed : Day → Entry → Bool
-isListed day e = onDay day (dateDay (e .date)) && not (eqb (e .state) 4)
+isListed day e = onDay day (dateDay (e .date)) && not (isCancelled e)
 
 unfoldable pub listed : Day → List Entry → List Entry
 listed day [] = []

@@ -2,7 +2,9 @@
 use crate::frozen;
 use book::Book;
 use book::Entry;
+use book::State;
 use book::days;
+use book::find;
 use book::rows;
 use book::valid;
 use dates::calendar::DayRead;
@@ -18,7 +20,7 @@ ghost use Rattle.dates.specs.Date.{dateDay};
 ghost use Rattle.book.specs.Entries.{entriesOf};
 ghost use Rattle.book.specs.Lent.{lentBook, bookBefore, bookAfter};
 ghost use Rattle.book.specs.BookValid.{bookGood, ReadyBook};
-ghost use Rattle.daybook.specs.Acceptance.{acceptanceOf, madeEntry, mayAccept, dayOpen, hasPlace, acceptTo, accept};
+ghost use Rattle.daybook.specs.Acceptance.{acceptanceOf, madeEntry, mayAccept, dayOpen, hasPlace, acceptFault, accept};
 
 // The receipt is 0 with a fault.
 pub struct Acceptance {
@@ -60,7 +62,7 @@ pub(crate) fn day_open(
     let DayRead::Good(day) = date::day_of_date(written) else {
         return false;
     };
-    days::count_day(nums, numbers, dates, used, day) < 512
+    days::count_day(nums, numbers, dates, used, day) < days::DAY_MOST
 }
 
 // Whether the book, the day and the receipts have a place left.
@@ -95,49 +97,35 @@ pub(crate) fn made_entry(b: Book, n: Number, kind: u64, kopecks: u64, written: [
         kind,
         amount: kopecks,
         date: written,
-        state: 1,
+        state: find::state_number(State::Asked),
         authcode: 0,
     }
 }
 
-// A book that has passed row 68.
-pub(crate) fn accept_to(
-    nums: &mut [[u64; 6]],
-    numbers: &mut [[u8; 30]],
-    dates: &mut [[u8; 19]],
+// The fault of an acceptance, or 0.
+pub(crate) fn accept_fault(
+    nums: &[[u64; 6]],
+    numbers: &[[u8; 30]],
+    dates: &[[u8; 19]],
     b: Book,
     n: Number,
     kind: u64,
     kopecks: u64,
     written: [u8; 19],
-) -> Acceptance
-    requires { ⌜ (bookGood b (lentBook nums numbers dates) ≡ true) × ReadyBook b (lentBook nums numbers dates) ⌝ }
-    ensures { λ r. ⌜ acceptanceOf r (bookAfter nums numbers dates) ≡ acceptTo b (bookBefore nums numbers dates) n kind kopecks written ⌝ }
+) -> u64
+    ensures { λ r. ⌜ r ≡ acceptFault b (bookBefore nums numbers dates) n kind kopecks written ⌝ }
+    ensures { λ r. ⌜ (r ≡ 0 → ReadyBook b (bookBefore nums numbers dates)) ⌝ }
 {
+    if !valid::book_good(nums, numbers, dates, b) {
+        return 68;
+    }
     if !may_accept(b, n, kind, kopecks, written) {
-        return Acceptance {
-            code: 60,
-            book: b,
-            receipt: 0,
-        };
+        return 60;
     }
     if !has_place(nums, numbers, dates, b, written) {
-        return Acceptance {
-            code: 61,
-            book: b,
-            receipt: 0,
-        };
+        return 61;
     }
-    let used = b.used;
-    let e = made_entry(b, n, kind, kopecks, written);
-    rows::store_entry(nums, numbers, dates, used, e);
-    let mut next = b;
-    next.used = used + 1;
-    Acceptance {
-        code: 0,
-        book: next,
-        receipt: e.receipt,
-    }
+    0
 }
 
 // Accepts a payment and gives its receipt; a fault keeps all.
@@ -153,12 +141,22 @@ pub fn accept(
 ) -> Acceptance
     ensures { λ r. ⌜ acceptanceOf r (bookAfter nums numbers dates) ≡ accept b (bookBefore nums numbers dates) n kind kopecks written ⌝ }
 {
-    if !valid::book_good(nums, numbers, dates, b) {
+    let code = accept_fault(nums, numbers, dates, b, n, kind, kopecks, written);
+    if code != 0 {
         return Acceptance {
-            code: 68,
+            code,
             book: b,
             receipt: 0,
         };
     }
-    accept_to(nums, numbers, dates, b, n, kind, kopecks, written)
+    let used = b.used;
+    let e = made_entry(b, n, kind, kopecks, written);
+    rows::store_entry(nums, numbers, dates, used, e);
+    let mut next = b;
+    next.used = used + 1;
+    Acceptance {
+        code: 0,
+        book: next,
+        receipt: e.receipt,
+    }
 }

@@ -2,6 +2,8 @@
 use crate::Writing;
 use book::Book;
 use book::Entry;
+use book::State;
+use book::find;
 use book::rows;
 use book::valid;
 use dates::calendar::Day;
@@ -17,6 +19,9 @@ ghost use Rattle.book.specs.Lent.{lentBook, bookBefore};
 ghost use Rattle.book.specs.BookValid.{bookGood, ReadyBook};
 ghost use Rattle.daybook.specs.Freezing.{isListed, entryLine, registryOf, listingOf, writeRegistry};
 
+// How many bytes a registry's buffer has at least.
+const REGISTRY_ROOM: usize = 65536;
+
 // Whether the day's registry lists the entry.
 pub fn is_listed(day: Day, e: Entry) -> bool
     ensures { λ r. ⌜ r ≡ isListed day e ⌝ }
@@ -25,7 +30,7 @@ pub fn is_listed(day: Day, e: Entry) -> bool
     if !date::is_on(day, written) {
         return false;
     }
-    e.state != 4
+    e.state != find::state_number(State::Cancelled)
 }
 
 // The line of an entry.
@@ -87,7 +92,7 @@ pub fn write_registry(
     if !valid::book_good(nums, numbers, dates, b) {
         return Writing { code: 68, size: 0 };
     }
-    if out.len() < 65536 {
+    if out.len() < REGISTRY_ROOM {
         return Writing { code: 50, size: 0 };
     }
     if !day.is_valid() {

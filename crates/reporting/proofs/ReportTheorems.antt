@@ -21,8 +21,8 @@ use Rattle.registry.specs.Report.{isMark, isReport}
 use Rattle.book.specs.declared.Book.{Book}
 use Rattle.book.specs.declared.Entry.{Entry}
 use Rattle.book.specs.declared.State.{State}
-use Rattle.book.specs.declared.State.the-variants.{Credited, Unposted}
-use Rattle.book.specs.Entries.{BookRows, stateOf, stateNumber, noEntry, entryAt, entryNums, entriesOf, bookFrom}
+use Rattle.book.specs.declared.State.the-variants.{Credited, Cancelled, Unposted}
+use Rattle.book.specs.Entries.{BookRows, stateOf, stateNumber, isCancelled, noEntry, entryAt, entryNums, entriesOf, bookFrom}
 use Rattle.book.specs.BookValid.{entryFields, dayCount, bookLent, bookGood, ReadyBook}
 use Rattle.book.proofs.EntryLaws.{length-entries, getD-entries, entry-from, entries-from}
 use Rattle.book.proofs.BookLaws.{good-book, good-lent, book-again, state-again}
@@ -40,11 +40,11 @@ mark-fields : (e : Entry) (m : ℕ) → entryFields e ≡ true → entryFields (
 mark-fields e m h = let p = entry-parts e h in fields-kept e (markedEntry e m) (mark-same e m) p (state-range (markedState m)) (p .authcode)
 
 -- it is not cancelled, and waits for nothing
-mark-uncancelled : (m : ℕ) → eqb (stateNumber (markedState m)) 4 ≡ false
+mark-uncancelled : (m : ℕ) → eqb (stateNumber (markedState m)) (stateNumber Cancelled) ≡ false
 unfolding markedState stateNumber
 mark-uncancelled m = go (eqb m 49)
   where
-    go : (z : Bool) → eqb (stateNumber (cond z Credited Unposted)) 4 ≡ false
+    go : (z : Bool) → eqb (stateNumber (cond z Credited Unposted)) (stateNumber Cancelled) ≡ false
     go true = refl
     go false = refl
 
@@ -57,20 +57,20 @@ mark-final m = ap waits (state-again (markedState m)) ∙ go (eqb m 49)
     go false = refl
 
 -- a listed entry is not cancelled; one of the day that is not listed is
-listed-uncancelled : (day : Day) (e : Entry) → isListed day e ≡ true → eqb (e .state) 4 ≡ false
+listed-uncancelled : (day : Day) (e : Entry) → isListed day e ≡ true → isCancelled e ≡ false
 unfolding isListed
-listed-uncancelled day e h = not-true (eqb (e .state) 4) (and-right (onDay day (dateDay (e .date))) (not (eqb (e .state) 4)) h)
+listed-uncancelled day e h = not-true (isCancelled e) (and-right (onDay day (dateDay (e .date))) (not (isCancelled e)) h)
 
 mark-listed : (day : Day) (e : Entry) (m : ℕ) → isListed day e ≡ true → isListed day (markedEntry e m) ≡ true
 unfolding isListed
-mark-listed day e m h = rw (and-left (onDay day (dateDay (e .date))) (not (eqb (e .state) 4)) h, mark-uncancelled m) refl
+mark-listed day e m h = rw (and-left (onDay day (dateDay (e .date))) (not (isCancelled e)) h, mark-uncancelled m) refl
 
 unlisted-final : (day : Day) (e : Entry) → onDay day (dateDay (e .date)) ≡ true → isListed day e ≡ false → waits (stateOf (e .state)) ≡ false
 unfolding isListed
-unlisted-final day e on off = go (eqb (e .state) 4) refl (ap (λ (z : Bool). z && not (eqb (e .state) 4)) (sym on) ∙ off)
+unlisted-final day e on off = go (isCancelled e) refl (ap (λ (z : Bool). z && not (isCancelled e)) (sym on) ∙ off)
   where
-    go : (z : Bool) → eqb (e .state) 4 ≡ z → not z ≡ false → waits (stateOf (e .state)) ≡ false
-    go true q n = rw (eqb-true (e .state) 4 q) (unfold stateOf in refl)
+    go : (z : Bool) → isCancelled e ≡ z → not z ≡ false → waits (stateOf (e .state)) ≡ false
+    go true q n = rw (eqb-true (e .state) (stateNumber Cancelled) q) (ap waits (state-again Cancelled))
     go false q n = no-claim (sym n)
 
 -- ---- the marks, place by place: an entry stays, or is listed and gets a mark
@@ -241,7 +241,7 @@ module _ (b : Book) (t : BookRows) (day : Day) (report : List ℕ) where
       ∙ sym (registry-alike d noEntry entries now (sym (marked-length day entries report))
       (λ i l. marked-at day (λ (x y : Entry). entryLine x ≡ entryLine y) (λ e. refl) (λ e m h. refl) entries report i)
       (λ i l on.
-      marked-at day (λ (x y : Entry). eqb (x .state) 4 ≡ eqb (y .state) 4) (λ e. refl)
+      marked-at day (λ (x y : Entry). isCancelled x ≡ isCancelled y) (λ e. refl)
       (λ e m h. listed-uncancelled day e h ∙ sym (mark-uncancelled m)) entries report i))
 
   lines-now : length (listed day (entriesOf rows (b .used))) ≡ length (listed day entries)

@@ -35,9 +35,9 @@ use Rattle.book.specs.Entries.{BookRows, entriesOf}
 use Rattle.book.specs.BookValid.{bookGood}
 use Rattle.book.proofs.BookLaws.{good-lent, good-book}
 use Rattle.daybook.specs.declared.freezing.Freezing.{Freezing}
-use Rattle.daybook.specs.Acceptance.{Acceptance, accept}
+use Rattle.daybook.specs.Acceptance.{Acceptance, acceptFault, accept}
 use Rattle.daybook.specs.Freezing.{Listing, froze, unlisted, freeze, writeRegistry}
-use Rattle.agent.specs.Writing.{Writing, unwritten, writeRequest, writeCheck}
+use Rattle.writing.specs.Writing.{Writing, unwritten, writeRequest, writeCheck}
 use Rattle.channel.specs.World.{World, Sent, sentRequest, sentAnswer, sentRegistry, sentReport, Step, opens, draws, accepts, writesCheck, writesPayment, writesStatus, writesCancel, freezes, writesRegistry, delivers, sentIf, atGate, atAgent, isAnswered, requestArrives, registryArrives, answerArrives, reportArrives, delivered, opening, drawing, accepting, checking, writing, freezing, listing, step, run}
 use Rattle.channel.specs.Claim.{Start, Lent, recordsIn, entryIn, entriesIn, stateIn, doneOn, creditedOn, byNumber, total, Says, DeliversReport, ReportDelivered, SettledDay, Safe}
 use Rattle.channel.proofs.words.Safety.{safe}
@@ -76,7 +76,7 @@ module _ (u : World) (bad : tableGood (u .gate) (u .table) ≡ false) where
 -- the agent's: a book that is not good
 module _ (u : World) (bad : bookGood (u .book) (u .bookRows) ≡ false) where
   accept-stays : (n : Number) (k kopecks : ℕ) (date : List ℕ) → (accepting u n k kopecks date) .world ≡ u
-  unfolding accepting accept
+  unfolding accepting accept acceptFault
   accept-stays n k kopecks date =
       let e : accept (u .book) (u .bookRows) n k kopecks date ≡ record { code = 68; book = u .book; rows = u .bookRows; receipt = 0 } = rw bad in
       ap (λ (d : Acceptance). atAgent u (d .book) (d .rows) (u .sent)) e

@@ -38,9 +38,9 @@ use Rattle.book.specs.Entries.{findEntry}
 use Rattle.book.specs.BookValid.{bookGood}
 use Rattle.daybook.specs.Freezing.{registryOf, Listing, listOn, writeRegistry}
 use Rattle.daybook.proofs.RegistryLaws.{registry-few}
-use Rattle.agent.specs.Writing.{Writing, requestOf, checkOf, writeCheck}
+use Rattle.writing.specs.Writing.{Writing, requestOf, checkOf, writeCheck}
 use Rattle.book.proofs.PaymentLaws.{entry-parts}
-use Rattle.agent.proofs.MovedLaws.{same-place, found-fields}
+use Rattle.agent_theorems.proofs.MovedLaws.{same-place, found-fields}
 use Rattle.agent_theorems.proofs.WritingTheorems.{write-cases}
 use Rattle.channel.specs.World.{Sent, sentRequest, sentAnswer, sentRegistry, sentReport, World, Step, opens, draws, accepts, writesCheck, writesPayment, writesStatus, writesCancel, freezes, writesRegistry, delivers, sentIf, atGate, isAnswered, requestArrives, registryArrives, answerArrives, reportArrives, delivered, opening, drawing, accepting, checking, writing, freezing, listing, step, codeOf}
 use Rattle.channel.specs.Claim.{recordsIn, entryIn, entriesIn}

@@ -1,20 +1,20 @@
-use borrow.Author.Tests.{not-false}
-use Rattle.daybook.proofs.AcceptLaws.{good-is, accept-not-book, accept-good}
-use Rattle.book.specs.Entries.{BookRows}
+use Rattle.daybook.proofs.AcceptLaws.{accept-refused, accept-made, made-room, store-room, store-more}
 use borrow.Author.Needs.{needs}
 use Rattle.daybook.proofs.accepting.accept.Statement.{statement}
 use Rattle.daybook.proofs.accepting.accept.Tie as tie
 
-accept-to-requires : tie.Need-accept-to-requires
-accept-to-requires c κs =
-    let e = c .before .before .before in
-    let k = e .before in
-    let s = k .before .before .before .before in
-    let t : BookRows = record { nums = s .args .nums .now; numbers = s .args .numbers .now; dates = s .args .dates .now } in
-    let y = not-false (k .book-good .result) (e .if1 .left) in
-    (good-is (s .args .b) t (k .book-good .result) (k .book-good .ensures .0) (e .if1 .left), k .book-good .ensures .1 y)
+made-entry-requires : tie.Need-made-entry-requires
+made-entry-requires c κs =
+    let k = c .before .accept-fault in
+    made-room _ _ _ _ _ _ _ (k .ensures .0) (c .if1 .left) (k .ensures .1)
 
-ruleset laws = (accept-not-book, accept-good, needs)
+store-entry-requires : tie.Need-store-entry-requires
+store-entry-requires c κs =
+    let e = c .before .before .before .before in
+    let k = e .before .accept-fault in
+    store-room _ _ _ _ _ _ _ (k .ensures .0) (e .if1 .left) (k .ensures .1)
+
+ruleset laws = (accept-refused, accept-made, store-more, needs)
 
 pub accept-spec : {M : Type 1} → statement M
 accept-spec =
@@ -25,7 +25,9 @@ accept-spec =
     (λ c. search laws)
     (λ c. search laws)
     (λ c. search laws)
-    accept-to-requires
+    made-entry-requires
+    store-entry-requires
+    (λ c. search laws)
     (λ c. search laws)
     (λ c. search laws)
     (λ c. search laws)

@@ -10,4 +10,5 @@ made-entry-spec =
     tie.close
     (tie.spec
     (λ c. search laws)
+    (λ c κs. search laws)
     (λ c. search laws))

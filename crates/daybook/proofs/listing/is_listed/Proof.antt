@@ -11,4 +11,5 @@ is-listed-spec =
     (tie.spec
     (λ c κs. search laws)
     (λ c. search laws)
+    (λ c κs. search laws)
     (λ c. search laws))

@@ -1,4 +1,0 @@
-pub mod MeaningLaws
-pub mod WritingLaws
-pub mod AnsweringLaws
-pub mod MovedLaws

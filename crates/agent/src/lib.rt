@@ -1,4 +1,0 @@
-// The agent on the net: requests written, answers taken.
-pub mod answering;
-pub mod meaning;
-pub mod writing;

@@ -1,0 +1,137 @@
+-- Laws of a request that the agent writes: its parts, and the ways out of a writing.
+use Prim.Native.Nat.{ℕ, _≤_, _<_}
+use mathlib.Core.Path.{_≡_, _∙_}
+use mathlib.Core.Bool.{Bool, true, false, not, _&&_, _||_, and-true}
+use mathlib.Core.List.{List}
+use lib.ListN.{length}
+use borrow.Author.Tests.{not-true, not-false, le-leb, lt-leb}
+use Rattle.fields.specs.declared.number.Number.{Number}
+use Rattle.texts.specs.Lists.{written, cursorAfter}
+use Rattle.fields.specs.Amount.{isAmount}
+use Rattle.fields.specs.Codes.{isReceipt, isKind, isReason}
+use Rattle.fields.specs.Number.{isNumber}
+use Rattle.payments.specs.declared.Action.{Action}
+use Rattle.payments.specs.declared.Action.the-variants.{Check, Payment, Status, Cancel}
+use Rattle.message.specs.declared.request.Asked.{Asked as Request}
+use Rattle.parameters.specs.Names.{hasReason}
+use Rattle.message.specs.RequestText.{isAsked, requestText}
+use Rattle.lists.specs.declared.Found.{Found}
+use Rattle.lists.specs.declared.Found.the-variants.{At, Nothing}
+use Rattle.book.specs.declared.Book.{Book}
+use Rattle.book.specs.declared.Entry.{Entry}
+use Rattle.book.specs.declared.State.{State}
+use Rattle.book.specs.declared.State.the-variants.{CancelAsked}
+use Rattle.book.specs.Entries.{BookRows, stateOf, stateNumber, noEntry, entryAt, entriesOf, bookWith, findEntry}
+use Rattle.book.specs.BookValid.{bookGood, ReadyBook}
+use Rattle.book.proofs.EntryLaws.{getD-entries, book-set}
+use Rattle.daybook.specs.Acceptance.{isFrozen}
+use Rattle.writing.specs.Writing.{Writing, mayWrite, writtenEntry, requestOf, formsGood, isOpen, writeAt, writeRequest, checkOf, writeCheck}
+
+-- ---- an action and a state that are known
+pub may-at : (a a′ : Action) (s s′ : State) (r : Bool) → a ≡ a′ → s ≡ s′ → r ≡ mayWrite a′ s′ → r ≡ mayWrite a s
+may-at a a′ s s′ r ea es q = q ∙ rw (ea, es)
+
+pub entry-at : (a a′ : Action) (e r : Entry) → a ≡ a′ → r ≡ writtenEntry a′ e → r ≡ writtenEntry a e
+entry-at a a′ e r ea q = q ∙ rw ea
+
+pub entry-cancel : (a : Action) (e r : Entry) (n : ℕ) → a ≡ Cancel → n ≡ stateNumber CancelAsked
+    → r ≡ record { receipt = e .receipt; number = e .number; kind = e .kind; amount = e .amount; date = e .date; state = n; authcode = e .authcode } → r ≡ writtenEntry a e
+unfolding writtenEntry
+entry-cancel a e r n ea en q = q ∙ rw (en, ea)
+
+-- ---- the forms of receipt and reason
+module _ (receipt reason : ℕ) (r : Bool) (er : r ≡ isReceipt receipt) where
+  pub forms-no : (a : Action) → not r ≡ true → false ≡ formsGood a receipt reason
+  unfolding formsGood
+  forms-no Check h = rw (← er, not-true r h)
+  forms-no Payment h = rw (← er, not-true r h)
+  forms-no Status h = rw (← er, not-true r h)
+  forms-no Cancel h = rw (← er, not-true r h)
+
+  forms-for : (a : Action) → not r ≡ false → not (hasReason a) || isReason reason ≡ formsGood a receipt reason
+  unfolding formsGood
+  forms-for Check h = rw (← er, not-false r h)
+  forms-for Payment h = rw (← er, not-false r h)
+  forms-for Status h = rw (← er, not-false r h)
+  forms-for Cancel h = rw (← er, not-false r h)
+
+  pub forms-yes : (a a′ : Action) (x : Bool) → not r ≡ false → a ≡ a′ → x ≡ not (hasReason a′) || isReason reason → x ≡ formsGood a receipt reason
+  forms-yes a a′ x h ea q = q ∙ rw (← ea) (forms-for a h)
+
+-- ---- a state and a day that allow it
+module _ (b : Book) (a : Action) (e : Entry) (s : State) (es : s ≡ stateOf (e .state)) (m : Bool) (em : m ≡ mayWrite a s) where
+  pub open-no : not m ≡ true → false ≡ isOpen b a e
+  unfolding isOpen
+  open-no h = rw (← es, ← em, not-true m h)
+
+  pub open-is : (f : Bool) → not m ≡ false → f ≡ isFrozen b (e .date) → not f ≡ isOpen b a e
+  unfolding isOpen
+  open-is f h ef = rw (← es, ← em, not-false m h, ef)
+
+-- ---- the entry at i
+module _ (b : Book) (t : BookRows) (i : ℕ) (a : Action) (reason : ℕ) (out : List ℕ) (e : Entry) (ee : e ≡ entryAt t i) (o : Bool) (eo : o ≡ isOpen b a e)
+    (ready : ReadyBook b t) (l : i < b .used) where
+  pub at-closed : (rows : BookRows) (left : List ℕ) → not o ≡ true → rows ≡ t → left ≡ out
+      → _≡_ {A = Writing} (record { code = 63; rows = rows; out = left; size = 0 }) (writeAt b t a reason out (At i))
+  unfolding writeAt
+  at-closed rows left h er el = rw (getD-entries t (b .used) i noEntry l, ← ee, ← eo, not-true o h, er, el)
+
+  pub at-open : (q : Request) (e′ : Entry) (rows : BookRows) (left : List ℕ) (size : ℕ) → not o ≡ false
+      → q ≡ requestOf a e reason → size ≡ cursorAfter out 0 (requestText q) → left ≡ written out 0 (requestText q)
+      → e′ ≡ writtenEntry a e → rows ≡ bookWith t i e′
+      → _≡_ {A = Writing} (record { code = 0; rows = rows; out = left; size = size }) (writeAt b t a reason out (At i))
+  unfolding writeAt
+  at-open q e′ rows left size h eq es el ew er =
+      rw (getD-entries t (b .used) i noEntry l, ← ee, ← eo, not-false o h, ← eq, ← ew, book-set t (b .used) (ready .whole) i e′ l, es, el, er)
+
+-- ---- the ways out of a writing
+module _ (b : Book) (t : BookRows) (a : Action) (receipt reason : ℕ) (out : List ℕ) (g : Bool) (eg : g ≡ bookGood b t) where
+  module _ (rows : BookRows) (left : List ℕ) (er : rows ≡ t) (el : left ≡ out) where
+    pub not-book : not g ≡ true → _≡_ {A = Writing} (record { code = 68; rows = rows; out = left; size = 0 }) (writeRequest b t a receipt reason out)
+    unfolding writeRequest
+    not-book h = rw (← eg, not-true g h, er, el)
+
+    module _ (h : not g ≡ false) where
+      pub no-room : length out < 512 → _≡_ {A = Writing} (record { code = 50; rows = rows; out = left; size = 0 }) (writeRequest b t a receipt reason out)
+      unfolding writeRequest
+      no-room l = rw (← eg, not-false g h, lt-leb _ _ l, er, el)
+
+      module _ (l : 512 ≤ length out) (f : Bool) (ef : f ≡ formsGood a receipt reason) where
+        pub no-forms : not f ≡ true → _≡_ {A = Writing} (record { code = 60; rows = rows; out = left; size = 0 }) (writeRequest b t a receipt reason out)
+        unfolding writeRequest
+        no-forms n = rw (← eg, not-false g h, le-leb _ _ l, ← ef, not-true f n, er, el)
+
+        pub no-entry : (p : Found) → not f ≡ false → p ≡ findEntry receipt (entriesOf t (b .used)) → p ≡ Nothing
+            → _≡_ {A = Writing} (record { code = 62; rows = rows; out = left; size = 0 }) (writeRequest b t a receipt reason out)
+        unfolding writeRequest writeAt
+        no-entry p n ep e = rw (← eg, not-false g h, le-leb _ _ l, ← ef, not-false f n, ← ep, e, er, el)
+
+  pub one-entry : (f : Bool) (p : Found) (i : ℕ) (w : Writing) → not g ≡ false → 512 ≤ length out → f ≡ formsGood a receipt reason → not f ≡ false
+      → p ≡ findEntry receipt (entriesOf t (b .used)) → p ≡ At i → w ≡ writeAt b t a reason out (At i) → w ≡ writeRequest b t a receipt reason out
+  unfolding writeRequest
+  one-entry f p i w h l ef n ep e q = q ∙ rw (← eg, not-false g h, le-leb _ _ l, ← ef, not-false f n, ← ep, e)
+
+-- ---- a check
+pub check-asked : (n : Number) (k amount : ℕ) → isAsked (checkOf n k amount) ≡ isNumber n && (isKind k && isAmount amount)
+unfolding isAsked checkOf
+check-asked n k amount = and-true (isNumber n && (isKind k && isAmount amount))
+
+module _ (b : Book) (t : BookRows) (n : Number) (k amount : ℕ) (out : List ℕ) (g : Bool) (eg : g ≡ bookGood b t) where
+  module _ (left : List ℕ) (el : left ≡ out) where
+    pub check-not-book : not g ≡ true → _≡_ {A = Writing} (record { code = 68; rows = t; out = left; size = 0 }) (writeCheck b t n k amount out)
+    unfolding writeCheck
+    check-not-book h = rw (← eg, not-true g h, el)
+
+    pub check-no-room : not g ≡ false → length out < 512 → _≡_ {A = Writing} (record { code = 50; rows = t; out = left; size = 0 }) (writeCheck b t n k amount out)
+    unfolding writeCheck
+    check-no-room h l = rw (← eg, not-false g h, lt-leb _ _ l, el)
+
+  module _ (h : not g ≡ false) (l : 512 ≤ length out) (q : Request) (eq : q ≡ checkOf n k amount) (f : Bool) (ef : f ≡ isAsked q) where
+    pub check-malformed : (left : List ℕ) → not f ≡ true → left ≡ out → _≡_ {A = Writing} (record { code = 60; rows = t; out = left; size = 0 }) (writeCheck b t n k amount out)
+    unfolding writeCheck
+    check-malformed left m el = rw (← eg, not-false g h, le-leb _ _ l, ← check-asked n k amount, ← eq, ← ef, not-true f m, el)
+
+    pub check-written : (left : List ℕ) (size : ℕ) → not f ≡ false → size ≡ cursorAfter out 0 (requestText q) → left ≡ written out 0 (requestText q)
+        → _≡_ {A = Writing} (record { code = 0; rows = t; out = left; size = size }) (writeCheck b t n k amount out)
+    unfolding writeCheck
+    check-written left size m es el = rw (← eg, not-false g h, le-leb _ _ l, ← check-asked n k amount, ← eq, ← ef, not-false f m, es, el)

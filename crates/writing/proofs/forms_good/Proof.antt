@@ -1,0 +1,22 @@
+use Rattle.writing.proofs.WritingLaws.{forms-no, forms-yes}
+use borrow.Author.Needs.{needs}
+use Rattle.writing.proofs.forms_good.Statement.{statement}
+use Rattle.writing.proofs.forms_good.Tie as tie
+
+ruleset laws = (forms-no, forms-yes, needs)
+
+pub forms-good-spec : {M : Type 1} → statement M
+forms-good-spec =
+    tie.close
+    (tie.spec
+    (λ c κs. search laws)
+    (λ c. search laws)
+    (λ c. search laws)
+    (λ c. search laws)
+    (λ c. search laws)
+    (λ c. search laws)
+    (λ c κs. search laws)
+    (λ c. search laws)
+    (λ c. search laws)
+    (λ c. search laws)
+    (λ c. search laws))

@@ -1,0 +1,254 @@
+// The agent writes a request.
+use book::Book;
+use book::Entry;
+use book::State;
+use book::find;
+use book::rows;
+use book::valid;
+use daybook::Writing;
+use daybook::frozen;
+use fields::codes;
+use fields::number::Number;
+use lists::Found;
+use message::request::Asked;
+use request_writer::write;
+use payments::Action;
+ghost use mathlib.Core.Path.{_≡_};
+ghost use Prim.Native.Nat.{_<_};
+ghost use Rattle.payments.specs.declared.Action.the-variants.{Payment, Status, Cancel};
+ghost use Rattle.lists.specs.declared.Found.the-variants.{At};
+ghost use Rattle.book.specs.BookValid.{ReadyBook};
+ghost use Rattle.writing.specs.Writing.{writingOf, mayWrite, writtenEntry, requestOf, checkOf, formsGood, isOpen, writeAt, writeRequest, writeCheck};
+ghost use Rattle.book.specs.Lent.{lentBook, bookBefore, bookAfter};
+
+// How many bytes a request's buffer has at least.
+const REQUEST_ROOM: usize = 512;
+
+// Whether the state allows the writing.
+pub fn may_write(a: Action, s: State) -> bool
+    ensures { λ r. ⌜ r ≡ mayWrite a s ⌝ }
+{
+    match a {
+        Action::Check => true,
+        Action::Payment => match s {
+            State::Asked => true,
+            State::Credited => false,
+            State::CancelAsked => false,
+            State::Cancelled => false,
+            State::Unposted => false,
+        },
+        Action::Status => true,
+        Action::Cancel => match s {
+            State::Asked => true,
+            State::Credited => true,
+            State::CancelAsked => true,
+            State::Cancelled => false,
+            State::Unposted => false,
+        },
+    }
+}
+
+// The entry that a writing leaves.
+pub(crate) fn written_entry(a: Action, e: Entry) -> Entry
+    ensures { λ r. ⌜ r ≡ writtenEntry a e ⌝ }
+{
+    let mut next = e;
+    match a {
+        Action::Check => e,
+        Action::Payment => e,
+        Action::Status => e,
+        Action::Cancel => {
+            next.state = find::state_number(State::CancelAsked);
+            next
+        }
+    }
+}
+
+// The request of an entry.
+pub(crate) fn request_of(a: Action, e: Entry, reason: u64) -> Asked
+    ensures { λ r. ⌜ r ≡ requestOf a e reason ⌝ }
+{
+    let number = e.number;
+    let date = e.date;
+    Asked {
+        action: a,
+        number,
+        kind: e.kind,
+        amount: e.amount,
+        receipt: e.receipt,
+        date,
+        reason,
+    }
+}
+
+// Whether a receipt, and a cancel's reason, are well formed.
+pub(crate) fn forms_good(a: Action, receipt: u64, reason: u64) -> bool
+    ensures { λ r. ⌜ r ≡ formsGood a receipt reason ⌝ }
+{
+    if !codes::is_receipt(receipt) {
+        return false;
+    }
+    match a {
+        Action::Check => true,
+        Action::Payment => true,
+        Action::Status => true,
+        Action::Cancel => codes::is_reason(reason),
+    }
+}
+
+// Whether the entry's state and day allow the writing.
+pub(crate) fn is_open(b: Book, a: Action, e: Entry) -> bool
+    ensures { λ r. ⌜ r ≡ isOpen b a e ⌝ }
+{
+    if !may_write(a, find::state_of(e.state)) {
+        return false;
+    }
+    let date = e.date;
+    !frozen::is_frozen(b, date)
+}
+
+// Writes the request of the entry at i.
+pub(crate) fn write_entry(
+    nums: &mut [[u64; 6]],
+    numbers: &mut [[u8; 30]],
+    dates: &mut [[u8; 19]],
+    b: Book,
+    i: usize,
+    a: Action,
+    reason: u64,
+    out: &mut [u8],
+) -> Writing
+    requires { ⌜ ReadyBook b (lentBook nums numbers dates) × (i < b .used) ⌝ }
+    ensures { λ r. ⌜ writingOf r (bookAfter nums numbers dates) (now (out .exit)) ≡ writeAt b (bookBefore nums numbers dates) a reason (now (out .entry)) (At i) ⌝ }
+{
+    let e = rows::load_entry(nums, numbers, dates, i);
+    if !is_open(b, a, e) {
+        return Writing { code: 63, size: 0 };
+    }
+    let size = write::write_request(request_of(a, e, reason), out, 0);
+    rows::store_entry(nums, numbers, dates, i, written_entry(a, e));
+    Writing { code: 0, size }
+}
+
+// A request of an entry, by its receipt.
+pub(crate) fn write_for(
+    nums: &mut [[u64; 6]],
+    numbers: &mut [[u8; 30]],
+    dates: &mut [[u8; 19]],
+    b: Book,
+    a: Action,
+    receipt: u64,
+    reason: u64,
+    out: &mut [u8],
+) -> Writing
+    ensures { λ r. ⌜ writingOf r (bookAfter nums numbers dates) (now (out .exit)) ≡ writeRequest b (bookBefore nums numbers dates) a receipt reason (now (out .entry)) ⌝ }
+{
+    if !valid::book_good(nums, numbers, dates, b) {
+        return Writing { code: 68, size: 0 };
+    }
+    if out.len() < REQUEST_ROOM {
+        return Writing { code: 50, size: 0 };
+    }
+    if !forms_good(a, receipt, reason) {
+        return Writing { code: 60, size: 0 };
+    }
+    let found = find::find_entry(nums, numbers, dates, b, receipt);
+    match found {
+        Found::Nothing => Writing { code: 62, size: 0 },
+        Found::At(i) => write_entry(nums, numbers, dates, b, i, a, reason, out),
+    }
+}
+
+// Writes the payment of a receipt.
+pub fn write_payment(
+    nums: &mut [[u64; 6]],
+    numbers: &mut [[u8; 30]],
+    dates: &mut [[u8; 19]],
+    b: Book,
+    receipt: u64,
+    out: &mut [u8],
+) -> Writing
+    ensures { λ r. ⌜ writingOf r (bookAfter nums numbers dates) (now (out .exit)) ≡ writeRequest b (bookBefore nums numbers dates) Payment receipt 0 (now (out .entry)) ⌝ }
+{
+    write_for(nums, numbers, dates, b, Action::Payment, receipt, 0, out)
+}
+
+// Writes the status of a receipt.
+pub fn write_status(
+    nums: &mut [[u64; 6]],
+    numbers: &mut [[u8; 30]],
+    dates: &mut [[u8; 19]],
+    b: Book,
+    receipt: u64,
+    out: &mut [u8],
+) -> Writing
+    ensures { λ r. ⌜ writingOf r (bookAfter nums numbers dates) (now (out .exit)) ≡ writeRequest b (bookBefore nums numbers dates) Status receipt 0 (now (out .entry)) ⌝ }
+{
+    write_for(nums, numbers, dates, b, Action::Status, receipt, 0, out)
+}
+
+// Writes the cancel of a receipt, for a reason; its entry is cancel-asked from then on.
+pub fn write_cancel(
+    nums: &mut [[u64; 6]],
+    numbers: &mut [[u8; 30]],
+    dates: &mut [[u8; 19]],
+    b: Book,
+    receipt: u64,
+    reason: u64,
+    out: &mut [u8],
+) -> Writing
+    ensures { λ r. ⌜ writingOf r (bookAfter nums numbers dates) (now (out .exit)) ≡ writeRequest b (bookBefore nums numbers dates) Cancel receipt reason (now (out .entry)) ⌝ }
+{
+    write_for(
+        nums,
+        numbers,
+        dates,
+        b,
+        Action::Cancel,
+        receipt,
+        reason,
+        out,
+    )
+}
+
+// The request of a check.
+pub(crate) fn check_of(n: Number, kind: u64, kopecks: u64) -> Asked
+    ensures { λ r. ⌜ r ≡ checkOf n kind kopecks ⌝ }
+{
+    Asked {
+        action: Action::Check,
+        number: n,
+        kind,
+        amount: kopecks,
+        receipt: 0,
+        date: [0u8; 19],
+        reason: 0,
+    }
+}
+
+// Writes a check of an account and an amount.
+pub fn write_check(
+    nums: &[[u64; 6]],
+    numbers: &[[u8; 30]],
+    dates: &[[u8; 19]],
+    b: Book,
+    n: Number,
+    kind: u64,
+    kopecks: u64,
+    out: &mut [u8],
+) -> Writing
+    ensures { λ r. ⌜ writingOf r (bookBefore nums numbers dates) (now (out .exit)) ≡ writeCheck b (bookBefore nums numbers dates) n kind kopecks (now (out .entry)) ⌝ }
+{
+    if !valid::book_good(nums, numbers, dates, b) {
+        return Writing { code: 68, size: 0 };
+    }
+    if out.len() < REQUEST_ROOM {
+        return Writing { code: 50, size: 0 };
+    }
+    let q = check_of(n, kind, kopecks);
+    if !write::is_asked(q) {
+        return Writing { code: 60, size: 0 };
+    }
+    let size = write::write_request(q, out, 0);
+    Writing { code: 0, size }
+}
