@@ -16,6 +16,9 @@ ghost use Rattle.book.specs.BookWalk.{daySlot};
 // How many entries one day has at most.
 pub const DAY_MOST: usize = 512;
 
+// The same as a counter holds it.
+const COUNT_MOST: u16 = 512;
+
 // How many of the first `used` entries are on the day.
 pub fn count_day(
     nums: &[[u64; 6]],
@@ -81,7 +84,7 @@ pub(crate) fn days_good(
         };
         let s = day_slot(day);
         let before = counts[s];
-        if DAY_MOST <= before {
+        if COUNT_MOST <= before {
             return false;
         }
         counts[s] = before + 1;
