@@ -148,7 +148,7 @@ module _ (g : Gate) (t : Rows) (once : Distinct g t) (d : Delivery) (last : Last
   receipt-kept i h =
       let more = last .used in
       ap (λ (x : Record). x .receipt) (sym (getD-records (d .rows) (d .gate .used) i noRecord (omega arith)))
-      ∙ last .identity i noRecord h .receipt
+      ∙ last .identity i noRecord h .key .receipt
       ∙ ap (λ (x : Record). x .receipt) (getD-records t (g .used) i noRecord h)
 
   distinct-same : d .gate .used ≡ g .used → Distinct (d .gate) (d .rows)
