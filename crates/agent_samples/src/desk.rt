@@ -1,7 +1,4 @@
-// What the vectors keep from line to line: the book, the gate, and how many entries and records are lent.
-use crate::given;
-use answering::answering;
-use writing::writing;
+// What the vectors keep from line to line: the book, the gate, and how many entries and records are lent. What the agent does.
 use book::Book;
 use book::rows;
 use daybook::Writing;
@@ -10,10 +7,14 @@ use daybook::freezing;
 use daybook::listing;
 use texts::scan;
 use parameters::action;
-use payments::Action;
 use parameters::action::ActionRead;
+use payments::Action;
 use reporting::taking;
+use reporting::taking::Reporting;
 use table::Gate;
+use vectors::given;
+use vectors::line;
+use vectors::show;
 ghost use mathlib.Core.Path.{_≡_};
 ghost use Prim.Native.Nat.{_<_};
 ghost use lib.ListN.{length};
@@ -25,9 +26,26 @@ pub struct Desk {
     pub places: usize,
 }
 
+// What the agent sends.
+pub enum Sent {
+    Request(Action),
+    Registry,
+}
+
+// A request by its action's word, with or without more behind a hyphen, or else a registry.
+pub fn sent_of(s: &[u8]) -> Sent {
+    let word = scan::before_byte(scan::before_byte(s, 32), 45);
+    let r = action::read_action(word);
+    match r {
+        ActionRead::Known(a) => Sent::Request(a),
+        ActionRead::Unknown => Sent::Registry,
+    }
+}
+
 // A book from its first receipt, its frozen day and the number of entries lent; at the start it is settled. The gate stays.
 pub fn start(s: &[u8], g: Gate) -> Desk {
-    let frozen = given::day(given::second(s));
+    let rest = scan::after_byte(s, 32);
+    let frozen = given::day(rest);
     Desk {
         book: Book {
             first: given::value(s),
@@ -35,7 +53,7 @@ pub fn start(s: &[u8], g: Gate) -> Desk {
             frozen,
             settled: true,
         },
-        lent: given::value(given::third(s)) as usize,
+        lent: given::value(scan::after_byte(rest, 32)) as usize,
         gate: g,
         places: 0,
     }
@@ -52,10 +70,6 @@ pub fn with_book(d: Desk, b: Book) -> Desk {
     }
 }
 
-fn show(n: u64) {
-    io::print_decimal(1, n);
-}
-
 // A payment, from number, type, kopecks and date: code, receipt and entries used.
 pub fn accept(
     s: &[u8],
@@ -64,52 +78,47 @@ pub fn accept(
     dates: &mut [[u8; 19]],
     d: Desk,
 ) -> Desk {
+    let second = scan::after_byte(s, 32);
+    let third = scan::after_byte(second, 32);
     let r = accepting::accept(
         nums,
         numbers,
         dates,
         d.book,
-        given::account(s),
-        given::value(given::second(s)),
-        given::value(given::third(s)),
-        given::written(given::fourth(s)),
+        given::number(s),
+        given::value(second),
+        given::value(third),
+        given::date(scan::after_byte(third, 32)),
     );
     let b = r.book;
-    show(r.code);
-    io::write_all(1, b" ");
-    show(r.receipt);
-    io::write_all(1, b" ");
-    show(b.used as u64);
+    show::number(r.code);
+    show::named(b" ", r.receipt);
+    show::named(b" ", b.used as u64);
     with_book(d, b)
 }
 
-// The code, and what was written.
-fn show_sent(r: Writing, out: &[u8]) {
-    show(r.code);
-    if 0 < r.size {
-        io::write_all(1, b" ");
-        io::write_all(1, scan::first_bytes(out, r.size));
+// So many acceptances of what follows.
+pub fn accept_many(
+    s: &[u8],
+    nums: &mut [[u64; 6]],
+    numbers: &mut [[u8; 30]],
+    dates: &mut [[u8; 19]],
+    d: Desk,
+) -> Desk {
+    let n = given::value(s);
+    let rest = scan::after_byte(s, 32);
+    let mut next = d;
+    let mut i: u64 = 0;
+    while i < n {
+        next = accept(rest, nums, numbers, dates, next);
+        show::text(b";");
+        i += 1;
     }
+    next
 }
 
-// A check, from number, type and kopecks.
-pub fn check(s: &[u8], nums: &[[u64; 6]], numbers: &[[u8; 30]], dates: &[[u8; 19]], d: Desk) {
-    let mut out = [0u8; 512];
-    let r = writing::write_check(
-        nums,
-        numbers,
-        dates,
-        d.book,
-        given::account(s),
-        given::value(given::second(s)),
-        given::value(given::third(s)),
-        &mut out,
-    );
-    show_sent(r, &out);
-}
-
-// A writing into `out`, from a receipt and for a cancel its reason.
-pub fn write_into(
+// A request into `out`, from a receipt and for a cancel its reason, for a check from number, type and kopecks.
+fn write_request(
     a: Action,
     s: &[u8],
     nums: &mut [[u64; 6]],
@@ -119,63 +128,159 @@ pub fn write_into(
     out: &mut [u8],
 ) -> Writing {
     let receipt = given::value(s);
-    let reason = given::value(given::second(s));
+    let rest = scan::after_byte(s, 32);
+    let second = given::value(rest);
     match a {
-        Action::Check => Writing { code: 99, size: 0 },
+        Action::Check => {
+            let kopecks = given::value(scan::after_byte(rest, 32));
+            writing::write_check(
+                nums,
+                numbers,
+                dates,
+                b,
+                given::number(s),
+                second,
+                kopecks,
+                out,
+            )
+        }
         Action::Payment => writing::write_payment(nums, numbers, dates, b, receipt, out),
         Action::Status => writing::write_status(nums, numbers, dates, b, receipt, out),
-        Action::Cancel => writing::write_cancel(nums, numbers, dates, b, receipt, reason, out),
+        Action::Cancel => writing::write_cancel(nums, numbers, dates, b, receipt, second, out),
     }
 }
 
-// A writing into 512 bytes.
+// A request, or the registry of a day, into `out`, of which so many bytes are lent.
+pub fn write_into(
+    what: Sent,
+    most: usize,
+    s: &[u8],
+    nums: &mut [[u64; 6]],
+    numbers: &mut [[u8; 30]],
+    dates: &mut [[u8; 19]],
+    b: Book,
+    out: &mut [u8],
+) -> Writing {
+    let n = line::least(most, out.len());
+    match what {
+        Sent::Request(a) => write_request(a, s, nums, numbers, dates, b, &mut out[..n]),
+        Sent::Registry => listing::write_registry(
+            nums,
+            numbers,
+            dates,
+            b,
+            given::day(s),
+            &mut out[..n],
+        ),
+    }
+}
+
+// A buffer of points, as long as a registry asks for.
+pub fn points() -> [u8; 65536]
+    ensures { λ r. ⌜ 65536 ≡ length r ⌝ }
+{
+    [46u8; 65536]
+}
+
+// How many bytes are lent for a writing, by the place of its word: what is asked for, or one less.
+fn room(k: usize) -> usize {
+    match k {
+        8 => 511,
+        9 => 65536,
+        10 => 65535,
+        _ => 512,
+    }
+}
+
+// A writing: its code, and what was written.
 pub fn write(
-    a: Action,
+    k: usize,
+    word: &[u8],
     s: &[u8],
     nums: &mut [[u64; 6]],
     numbers: &mut [[u8; 30]],
     dates: &mut [[u8; 19]],
     d: Desk,
-) {
-    let mut out = [0u8; 512];
-    let r = write_into(a, s, nums, numbers, dates, d.book, &mut out);
-    show_sent(r, &out);
-}
-
-// A payment's writing into 511 bytes.
-pub fn write_small(
-    s: &[u8],
-    nums: &mut [[u64; 6]],
-    numbers: &mut [[u8; 30]],
-    dates: &mut [[u8; 19]],
-    d: Desk,
-) {
-    let mut out = [0u8; 511];
-    let r = write_into(Action::Payment, s, nums, numbers, dates, d.book, &mut out);
-    show_sent(r, &out);
-}
-
-// An answer, from action, receipt and text.
-pub fn answer(
-    s: &[u8],
-    nums: &mut [[u64; 6]],
-    numbers: &mut [[u8; 30]],
-    dates: &mut [[u8; 19]],
-    d: Desk,
-) {
-    let ActionRead::Known(a) = action::read_action(scan::before_byte(s, 32)) else {
-        io::write_all(1, b"unknown action");
-        return;
-    };
-    show(answering::take_answer(
+) -> Desk {
+    let mut out = points();
+    let r = write_into(
+        sent_of(word),
+        room(k),
+        s,
         nums,
         numbers,
         dates,
         d.book,
-        a,
-        given::value(given::second(s)),
-        given::third(s),
-    ));
+        &mut out,
+    );
+    show::number(r.code);
+    show_behind(scan::first_bytes(&out, r.size));
+    d
+}
+
+// A text behind a space, if it has bytes.
+fn show_behind(s: &[u8]) {
+    if 0 < s.len() {
+        show::text(b" ");
+        show::text(s);
+    }
+}
+
+// The answer to a request by its receipt, or the report of a day.
+pub fn take(
+    what: Sent,
+    s: &[u8],
+    text: &[u8],
+    nums: &mut [[u64; 6]],
+    numbers: &mut [[u8; 30]],
+    dates: &mut [[u8; 19]],
+    b: Book,
+) -> Reporting {
+    match what {
+        Sent::Request(a) => {
+            let code = answering::take_answer(nums, numbers, dates, b, a, given::value(s), text);
+            Reporting { code, book: b }
+        }
+        Sent::Registry => taking::take_report(nums, numbers, dates, b, given::day(s), text),
+    }
+}
+
+// Whether the frozen day has its report, where one was taken.
+fn show_settled(what: Sent, b: Book) {
+    match what {
+        Sent::Request(_) => {}
+        Sent::Registry => {
+            if b.settled {
+                show::text(b" settled");
+            } else {
+                show::text(b" unsettled");
+            }
+        }
+    }
+}
+
+// An answer, from receipt and text, or a report, from day and text.
+pub fn taken(
+    what: Sent,
+    s: &[u8],
+    nums: &mut [[u64; 6]],
+    numbers: &mut [[u8; 30]],
+    dates: &mut [[u8; 19]],
+    d: Desk,
+) -> Desk {
+    let r = take(
+        what,
+        s,
+        scan::after_byte(s, 32),
+        nums,
+        numbers,
+        dates,
+        d.book,
+    );
+    let b = r.book;
+    show::number(r.code);
+    show_settled(what, b);
+    with_book(d, b)
 }
 
 // A day to be frozen.
@@ -188,102 +293,49 @@ pub fn freeze(
 ) -> Desk {
     let r = freezing::freeze(nums, numbers, dates, d.book, given::day(s));
     let b = r.book;
-    show(r.code);
+    show::number(r.code);
     with_book(d, b)
 }
 
-// Whether the frozen day has its report.
-fn show_settled(b: Book) {
-    if b.settled {
-        io::write_all(1, b" settled");
-        return;
-    }
-    io::write_all(1, b" unsettled");
-}
-
-// The report of a day, from the day and its bytes, which may be none.
-pub fn report(
-    s: &[u8],
-    nums: &mut [[u64; 6]],
-    numbers: &mut [[u8; 30]],
-    dates: &mut [[u8; 19]],
-    d: Desk,
-) -> Desk {
-    let r = taking::take_report(
-        nums,
-        numbers,
-        dates,
-        d.book,
-        given::day(s),
-        given::second(s),
-    );
-    let b = r.book;
-    show(r.code);
-    show_settled(b);
-    with_book(d, b)
-}
-
-// The registry of a day, into 65,536 bytes.
-pub fn registry(s: &[u8], nums: &[[u64; 6]], numbers: &[[u8; 30]], dates: &[[u8; 19]], d: Desk) {
-    let mut out = io::large_buffer();
-    let r = listing::write_registry(nums, numbers, dates, d.book, given::day(s), &mut out);
-    show_sent(r, &out);
-}
-
-// One byte less than a registry asks for.
-fn small_buffer() -> [u8; 65535]
-    ensures { λ r. ⌜ 65535 ≡ length r ⌝ }
-{
-    [0u8; 65535]
-}
-
-// The registry of a day, into 65,535 bytes.
-pub fn registry_small(
+// An entry's receipt, state and authcode.
+pub fn entry(
     s: &[u8],
     nums: &[[u64; 6]],
     numbers: &[[u8; 30]],
     dates: &[[u8; 19]],
     d: Desk,
-) {
-    let mut out = small_buffer();
-    let r = listing::write_registry(nums, numbers, dates, d.book, given::day(s), &mut out);
-    show_sent(r, &out);
-}
-
-// An entry's receipt, state and authcode.
-pub fn entry(s: &[u8], nums: &[[u64; 6]], numbers: &[[u8; 30]], dates: &[[u8; 19]]) {
+) -> Desk {
     let i = given::value(s) as usize;
     if nums.len() <= i || numbers.len() <= i || dates.len() <= i {
-        return;
+        return d;
     }
     let e = rows::load_entry(nums, numbers, dates, i);
-    show(e.receipt);
-    io::write_all(1, b" ");
-    show(e.state);
-    io::write_all(1, b" ");
-    show(e.authcode);
+    show::number(e.receipt);
+    show::named(b" ", e.state);
+    show::named(b" ", e.authcode);
+    d
 }
 
 // Where a named number of an entry stands.
 fn place_of(name: &[u8]) -> usize
     ensures { λ r. ⌜ r < 6 ⌝ }
 {
-    if scan::same_bytes(name, b"receipt") {
-        return 0;
+    let k = line::place(name, b"receipt state");
+    match k {
+        0 => 0,
+        1 => 4,
+        _ => 5,
     }
-    if scan::same_bytes(name, b"state") {
-        return 4;
-    }
-    5
 }
 
 // The first entry's receipt, state or authcode, spoilt.
-pub fn spoil(s: &[u8], nums: &mut [[u64; 6]]) {
+pub fn spoil(s: &[u8], nums: &mut [[u64; 6]], d: Desk) -> Desk {
     if nums.len() == 0 {
-        return;
+        return d;
     }
-    let v = given::value(given::second(s));
+    let v = given::value(scan::after_byte(s, 32));
     let mut w = nums[0];
     w[place_of(scan::before_byte(s, 32))] = v;
     nums[0] = w;
+    d
 }

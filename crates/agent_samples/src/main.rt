@@ -1,51 +1,36 @@
 // Runs days at the agent, and at both ends, from standard input: prints each line, `: ` and what is answered.
 mod desk;
 mod ends;
-mod given;
 mod words;
 
 use desk::Desk;
 use texts::scan;
+use vectors::given;
+use vectors::line;
+use vectors::show;
 ghost use mathlib.Core.Path.{_≡_};
-ghost use Prim.Native.Nat.{_≤_, _<_, _+_};
-ghost use lib.ListN.{length, take, drop};
-ghost use Rattle.texts.specs.Lists.{find};
+ghost use lib.ListN.{length};
 
-// The rows that are lent at most: 600 entries.
-fn empty_nums() -> [[u64; 6]; 600]
-    ensures { λ r. ⌜ 600 ≡ length r ⌝ }
+// The rows that are lent at most: one entry more than a book may have.
+fn empty_nums() -> [[u64; 6]; 4097]
+    ensures { λ r. ⌜ 4097 ≡ length r ⌝ }
 {
-    [[0u64; 6]; 600]
+    [[0u64; 6]; 4097]
 }
 
-fn empty_numbers() -> [[u8; 30]; 600]
-    ensures { λ r. ⌜ 600 ≡ length r ⌝ }
+fn empty_numbers() -> [[u8; 30]; 4097]
+    ensures { λ r. ⌜ 4097 ≡ length r ⌝ }
 {
-    [[0u8; 30]; 600]
+    [[0u8; 30]; 4097]
 }
 
-fn empty_dates() -> [[u8; 19]; 600]
-    ensures { λ r. ⌜ 600 ≡ length r ⌝ }
+fn empty_dates() -> [[u8; 19]; 4097]
+    ensures { λ r. ⌜ 4097 ≡ length r ⌝ }
 {
-    [[0u8; 19]; 600]
+    [[0u8; 19]; 4097]
 }
 
-// Whether a line is a heading or empty: it is printed as it is.
-fn is_heading(line: &[u8]) -> bool {
-    if line.len() == 0 {
-        return true;
-    }
-    line[0] == b'#'
-}
-
-// The lesser of two numbers.
-fn least(a: usize, b: usize) -> usize
-    ensures { λ r. ⌜ r ≤ b ⌝ }
-{
-    if a < b { a } else { b }
-}
-
-// Prints a line and what it gives, and hands the desk back.
+// Prints a line and what it gives over what is lent, and hands the desk back.
 fn answer_line(
     line: &[u8],
     nums: &mut [[u64; 6]],
@@ -56,19 +41,19 @@ fn answer_line(
     times: &mut [[[u8; 19]; 3]],
     d: Desk,
 ) -> Desk {
-    io::write_all(1, line);
-    if is_heading(line) {
-        io::write_all(1, b"\n");
+    show::text(line);
+    if line::is_heading(line) {
+        show::text(b"\n");
         return d;
     }
-    io::write_all(1, b": ");
-    let n = least(d.lent, nums.len());
-    let m = least(d.lent, numbers.len());
-    let k = least(d.lent, dates.len());
-    let o = least(d.places, table.len());
-    let p = least(d.places, owners.len());
-    let q = least(d.places, times.len());
-    let next = words::answer_both(
+    show::text(b": ");
+    let n = line::least(d.lent, nums.len());
+    let m = line::least(d.lent, numbers.len());
+    let k = line::least(d.lent, dates.len());
+    let o = line::least(d.places, table.len());
+    let p = line::least(d.places, owners.len());
+    let q = line::least(d.places, times.len());
+    let next = words::answer(
         scan::before_byte(line, 32),
         scan::after_byte(line, 32),
         &mut nums[..n],
@@ -79,23 +64,8 @@ fn answer_line(
         &mut times[..q],
         d,
     );
-    io::write_all(1, b"\n");
+    show::text(b"\n");
     next
-}
-
-// The line that begins at a place.
-fn line_at(s: &[u8], at: usize) -> &[u8]
-    ensures { λ r. ⌜ now r ≡ take (find 10 (drop at (now (s .entry)))) (drop at (now (s .entry))) ⌝ }
-{
-    scan::before_byte(scan::bytes_from(s, at), 10)
-}
-
-// Where the next line begins.
-fn next_line(s: &[u8], at: usize) -> usize
-    requires { ⌜ at < length (now s) ⌝ }
-    ensures { λ r. ⌜ (at < r) × (r ≤ length (now (s .entry)) + 1) ⌝ }
-{
-    at + (line_at(s, at).len() + 1)
 }
 
 // Answers each line.
@@ -108,11 +78,11 @@ fn lines(
     owners: &mut [[u8; 30]],
     times: &mut [[[u8; 19]; 3]],
 ) {
-    let mut d = desk::start(b"", ends::no_gate(given::day(b"")));
+    let mut d = desk::start(b"", given::no_gate(given::day(b"")));
     let mut at: usize = 0;
     while at < s.len() {
-        let next = next_line(s, at);
-        let line = line_at(s, at);
+        let next = line::next_line(s, at);
+        let line = line::line_at(s, at);
         d = answer_line(line, nums, numbers, dates, table, owners, times, d);
         at = next;
     }
@@ -128,7 +98,7 @@ fn main() {
     let mut times = [[[0u8; 19]; 3]; 8];
     let n = io::read_full(0, &mut buffer);
     if n == buffer.len() {
-        io::write_all(1, b"the input is too long\n");
+        show::text(b"the input is too long\n");
         return;
     }
     lines(

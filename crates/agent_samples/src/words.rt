@@ -1,124 +1,14 @@
 // The words of the vectors: the one place that says what each runs.
 use crate::desk;
 use crate::desk::Desk;
+use crate::desk::Sent;
 use crate::ends;
-use crate::given;
 use texts::scan;
-use payments::Action;
-
-// So many acceptances of what follows.
-fn accept_many(
-    s: &[u8],
-    nums: &mut [[u64; 6]],
-    numbers: &mut [[u8; 30]],
-    dates: &mut [[u8; 19]],
-    d: Desk,
-) -> Desk {
-    let n = given::value(s);
-    let mut next = d;
-    let mut i: u64 = 0;
-    while i < n {
-        next = desk::accept(given::second(s), nums, numbers, dates, next);
-        io::write_all(1, b";");
-        i += 1;
-    }
-    next
-}
-
-// Runs a word that keeps the book's head as it is.
-fn answer_there(
-    word: &[u8],
-    text: &[u8],
-    nums: &mut [[u64; 6]],
-    numbers: &mut [[u8; 30]],
-    dates: &mut [[u8; 19]],
-    d: Desk,
-) {
-    if scan::same_bytes(word, b"payment") {
-        desk::write(Action::Payment, text, nums, numbers, dates, d);
-        return;
-    }
-    if scan::same_bytes(word, b"status") {
-        desk::write(Action::Status, text, nums, numbers, dates, d);
-        return;
-    }
-    if scan::same_bytes(word, b"cancel") {
-        desk::write(Action::Cancel, text, nums, numbers, dates, d);
-        return;
-    }
-    if scan::same_bytes(word, b"payment-small") {
-        desk::write_small(text, nums, numbers, dates, d);
-        return;
-    }
-    if scan::same_bytes(word, b"answer") {
-        desk::answer(text, nums, numbers, dates, d);
-        return;
-    }
-    if scan::same_bytes(word, b"spoil") {
-        desk::spoil(text, nums);
-        return;
-    }
-    look(word, text, nums, numbers, dates, d);
-}
-
-// Runs a word that only looks at the book.
-fn look(
-    word: &[u8],
-    text: &[u8],
-    nums: &[[u64; 6]],
-    numbers: &[[u8; 30]],
-    dates: &[[u8; 19]],
-    d: Desk,
-) {
-    if scan::same_bytes(word, b"check") {
-        desk::check(text, nums, numbers, dates, d);
-        return;
-    }
-    if scan::same_bytes(word, b"registry") {
-        desk::registry(text, nums, numbers, dates, d);
-        return;
-    }
-    if scan::same_bytes(word, b"registry-small") {
-        desk::registry_small(text, nums, numbers, dates, d);
-        return;
-    }
-    if scan::same_bytes(word, b"entry") {
-        desk::entry(text, nums, numbers, dates);
-        return;
-    }
-    io::write_all(1, b"unknown word");
-}
-
-// Runs the word on its text, and hands the desk back.
-fn answer(
-    word: &[u8],
-    text: &[u8],
-    nums: &mut [[u64; 6]],
-    numbers: &mut [[u8; 30]],
-    dates: &mut [[u8; 19]],
-    d: Desk,
-) -> Desk {
-    if scan::same_bytes(word, b"book") {
-        return desk::start(text, d.gate);
-    }
-    if scan::same_bytes(word, b"accept") {
-        return desk::accept(text, nums, numbers, dates, d);
-    }
-    if scan::same_bytes(word, b"accept-many") {
-        return accept_many(text, nums, numbers, dates, d);
-    }
-    if scan::same_bytes(word, b"freeze") {
-        return desk::freeze(text, nums, numbers, dates, d);
-    }
-    if scan::same_bytes(word, b"report") {
-        return desk::report(text, nums, numbers, dates, d);
-    }
-    answer_there(word, text, nums, numbers, dates, d);
-    d
-}
+use vectors::line;
+use vectors::show;
 
 // Runs a word that the gate takes part in, or else one of the agent's.
-pub fn answer_both(
+pub fn answer(
     word: &[u8],
     text: &[u8],
     nums: &mut [[u64; 6]],
@@ -129,27 +19,83 @@ pub fn answer_both(
     times: &mut [[[u8; 19]; 3]],
     d: Desk,
 ) -> Desk {
-    if scan::same_bytes(word, b"gate") {
-        return ends::start(text, d);
+    let k = line::place(word, b"ask lose settle gate open draw record");
+    if k < 3 {
+        return ends::exchange(k, text, nums, numbers, dates, table, owners, times, d);
     }
-    if scan::same_bytes(word, b"open") {
-        return ends::open(text, table, owners, times, d);
+    if k < 7 {
+        return at_gate(k, text, table, owners, times, d);
     }
-    if scan::same_bytes(word, b"draw") {
-        return ends::draw(text, table, owners, times, d);
+    at_agent(word, text, nums, numbers, dates, d)
+}
+
+// Runs a word of the gate's alone, by its place.
+fn at_gate(
+    k: usize,
+    text: &[u8],
+    table: &[[u64; 6]],
+    owners: &[[u8; 30]],
+    times: &[[[u8; 19]; 3]],
+    d: Desk,
+) -> Desk {
+    match k {
+        3 => ends::start(text, d),
+        4 => ends::open(text, table, owners, times, d),
+        5 => ends::draw(text, table, owners, times, d),
+        _ => {
+            ends::record(text, table, owners, times);
+            d
+        }
     }
-    if scan::same_bytes(word, b"ask") {
-        return ends::exchange(true, text, nums, numbers, dates, table, owners, times, d);
+}
+
+// Runs a word of the agent's.
+fn at_agent(
+    word: &[u8],
+    text: &[u8],
+    nums: &mut [[u64; 6]],
+    numbers: &mut [[u8; 30]],
+    dates: &mut [[u8; 19]],
+    d: Desk,
+) -> Desk {
+    let k = line::place(
+        word,
+        b"accept accept-many answer report payment status cancel check payment-small registry registry-small spoil book freeze entry",
+    );
+    match k {
+        0 => desk::accept(text, nums, numbers, dates, d),
+        1 => desk::accept_many(text, nums, numbers, dates, d),
+        2 => desk::taken(
+            desk::sent_of(text),
+            scan::after_byte(text, 32),
+            nums,
+            numbers,
+            dates,
+            d,
+        ),
+        3 => desk::taken(Sent::Registry, text, nums, numbers, dates, d),
+        4..=10 => desk::write(k, word, text, nums, numbers, dates, d),
+        11 => desk::spoil(text, nums, d),
+        _ => look(k, text, nums, numbers, dates, d),
     }
-    if scan::same_bytes(word, b"lose") {
-        return ends::exchange(false, text, nums, numbers, dates, table, owners, times, d);
+}
+
+// Runs a word that leaves the entries as they are.
+fn look(
+    k: usize,
+    text: &[u8],
+    nums: &[[u64; 6]],
+    numbers: &[[u8; 30]],
+    dates: &[[u8; 19]],
+    d: Desk,
+) -> Desk {
+    match k {
+        12 => desk::start(text, d.gate),
+        13 => desk::freeze(text, nums, numbers, dates, d),
+        14 => desk::entry(text, nums, numbers, dates, d),
+        _ => {
+            show::text(b"unknown word");
+            d
+        }
     }
-    if scan::same_bytes(word, b"settle") {
-        return ends::settle_day(text, nums, numbers, dates, table, owners, times, d);
-    }
-    if scan::same_bytes(word, b"record") {
-        ends::record(text, table, owners, times);
-        return d;
-    }
-    answer(word, text, nums, numbers, dates, d)
 }

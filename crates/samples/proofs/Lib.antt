@@ -1,3 +1,3 @@
-mod LineLaws
+mod PartLaws
 mod EscapeLaws
 mod BalanceLaws

@@ -1,8 +1,5 @@
 // Answers.
-use crate::given;
-use crate::show;
-use crate::split;
-use payments::Answer;
+use crate::print;
 use answer_reader::answer::AnswerRead;
 use answer_reader::read;
 use answers::write;
@@ -11,26 +8,29 @@ use texts::digits::Digits;
 use texts::out;
 use texts::scan;
 use parameters::action;
-use payments::Action;
 use parameters::action::ActionRead;
+use payments::Action;
+use payments::Answer;
+use vectors::given;
+use vectors::show;
 
 // The answer to an action.
 pub fn answer(s: &[u8]) {
-    let ActionRead::Known(a) = action::read_action(split::head(s)) else {
+    let ActionRead::Known(a) = action::read_action(scan::before_byte(s, 32)) else {
         show::text(b"unknown action");
         return;
     };
-    show_read(read::read_answer(a, split::tail(s)));
+    show_read(read::read_answer(a, scan::after_byte(s, 32)));
 }
 
 // A check's answer with a message of so many bytes; 78 bytes stand before it.
 pub fn long_answer(s: &[u8]) {
     let Digits::Value(n) = digits::read_digits(s, 3) else {
-        show::text(b"malformed");
+        print::malformed();
         return;
     };
     if 600 < n {
-        show::text(b"malformed");
+        print::malformed();
         return;
     }
     let head =
@@ -64,13 +64,13 @@ fn show_answer(x: Answer) {
 
 // The bytes of an answer from code, authcode and date; `-` gives none.
 pub fn write_answer(s: &[u8]) {
-    let rest = split::tail(s);
-    let date = given::date(split::tail(rest));
+    let rest = scan::after_byte(s, 32);
+    let date = given::date(scan::after_byte(rest, 32));
     let x = Answer {
         code: given::value(s),
-        authorized: is_given(split::head(rest)),
+        authorized: is_given(scan::before_byte(rest, 32)),
         authcode: given::value(rest),
-        dated: is_given(split::tail(rest)),
+        dated: is_given(scan::after_byte(rest, 32)),
         date,
     };
     let mut space = [0u8; 512];

@@ -1,24 +1,24 @@
 // Requests, written.
-use crate::given;
-use crate::show;
-use crate::split;
+use crate::print;
 use texts::digits;
 use texts::digits::Digits;
 use texts::scan;
 use parameters::action;
-use payments::Action;
 use parameters::action::ActionRead;
 use message::request::Asked;
 use request_writer::write;
+use payments::Action;
+use vectors::given;
+use vectors::show;
 
 // The fields of a request, split by spaces: number, type, kopecks, receipt, date and reason.
 fn fields_of(action: Action, s: &[u8]) -> Asked {
-    let s1 = split::tail(s);
-    let s2 = split::tail(s1);
-    let s3 = split::tail(s2);
-    let s4 = split::tail(s3);
-    let number = given::number(split::head(s));
-    let date = given::date(split::head(s4));
+    let s1 = scan::after_byte(s, 32);
+    let s2 = scan::after_byte(s1, 32);
+    let s3 = scan::after_byte(s2, 32);
+    let s4 = scan::after_byte(s3, 32);
+    let number = given::number(s);
+    let date = given::date(s4);
     Asked {
         action,
         number,
@@ -26,17 +26,17 @@ fn fields_of(action: Action, s: &[u8]) -> Asked {
         amount: given::value(s2),
         receipt: given::value(s3),
         date,
-        reason: given::value(split::tail(s4)),
+        reason: given::value(scan::after_byte(s4, 32)),
     }
 }
 
 // The text of a request.
 pub fn write_request(s: &[u8]) {
-    let ActionRead::Known(a) = action::read_action(split::head(s)) else {
+    let ActionRead::Known(a) = action::read_action(scan::before_byte(s, 32)) else {
         show::text(b"unknown action");
         return;
     };
-    let q = fields_of(a, split::tail(s));
+    let q = fields_of(a, scan::after_byte(s, 32));
     let mut space = [0u8; 512];
     let n = write::write_request(q, &mut space, 0);
     if n == 0 {
@@ -48,25 +48,29 @@ pub fn write_request(s: &[u8]) {
 
 // The cursor that is handed back, from a cursor, a buffer's size and a request.
 pub fn write_request_at(s: &[u8]) {
-    let rest = split::tail(s);
-    let Digits::Value(size) = digits::read_digits(split::head(rest), 3) else {
-        show::text(b"malformed");
+    let rest = scan::after_byte(s, 32);
+    let Digits::Value(size) = digits::read_digits(scan::before_byte(rest, 32), 3) else {
+        print::malformed();
         return;
     };
     if 512 < size {
-        show::text(b"malformed");
+        print::malformed();
         return;
     }
     let mut space = [0u8; 512];
     let n = size as usize;
-    show_cursor(split::tail(rest), &mut space[..n], given::value(s) as usize);
+    show_cursor(
+        scan::after_byte(rest, 32),
+        &mut space[..n],
+        given::value(s) as usize,
+    );
 }
 
 fn show_cursor(s: &[u8], dst: &mut [u8], at: usize) {
-    let ActionRead::Known(a) = action::read_action(split::head(s)) else {
+    let ActionRead::Known(a) = action::read_action(scan::before_byte(s, 32)) else {
         show::text(b"unknown action");
         return;
     };
-    let q = fields_of(a, split::tail(s));
+    let q = fields_of(a, scan::after_byte(s, 32));
     show::number(write::write_request(q, dst, at) as u64);
 }

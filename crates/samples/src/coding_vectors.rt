@@ -1,23 +1,23 @@
 // Url coding, and where the parameters of a request stand.
-use crate::show;
-use crate::split;
+use crate::print;
 use coding::params;
 use coding::params::Method;
 use coding::url;
 use texts::scan;
+use vectors::show;
 
 // The parameters of `GET` and a target, or of `POST` and a body, in brackets.
 pub fn parameters(s: &[u8]) {
-    let rest = split::tail(s);
-    if scan::same_bytes(split::head(s), b"GET") {
+    let rest = scan::after_byte(s, 32);
+    if scan::same_bytes(scan::before_byte(s, 32), b"GET") {
         bracketed(params::parameters(Method::Get, rest, b""));
         return;
     }
-    if scan::same_bytes(split::head(s), b"POST") {
+    if scan::same_bytes(scan::before_byte(s, 32), b"POST") {
         bracketed(params::parameters(Method::Post, b"/x?y", rest));
         return;
     }
-    show::text(b"malformed");
+    print::malformed();
 }
 
 fn bracketed(s: &[u8]) {
@@ -38,7 +38,7 @@ pub fn decoded(s: &[u8]) {
     if url::well_coded(s) {
         let mut space = io::buffer();
         let n = url::decode(s, &mut space);
-        show::bytes(scan::first_bytes(&space, n));
+        print::bytes(scan::first_bytes(&space, n));
     } else {
         show::text(b"bad escape");
     }

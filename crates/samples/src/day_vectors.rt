@@ -1,15 +1,15 @@
 // Days and written dates.
-use crate::show;
-use crate::split;
+use crate::print;
 use dates::calendar;
 use dates::calendar::DayRead;
 use dates::date;
 use texts::scan;
+use vectors::show;
 
 // A day, or the words for none.
 fn show_day(r: DayRead, none: &[u8]) {
     match r {
-        DayRead::Good(d) => show::day(d),
+        DayRead::Good(d) => print::day(d),
         DayRead::NoDate => show::text(none),
     }
 }
@@ -25,7 +25,7 @@ pub fn written_date(s: &[u8]) {
         show::text(b" ");
         show_day(date::day_of_date(d), b"no date");
     } else {
-        show::fault(5);
+        print::fault(5);
     }
 }
 
@@ -45,11 +45,11 @@ pub fn next(s: &[u8]) {
 
 // Whether the first of two days, split by a space, comes before the second.
 pub fn before(s: &[u8]) {
-    let DayRead::Good(a) = calendar::read_day(split::head(s)) else {
+    let DayRead::Good(a) = calendar::read_day(scan::before_byte(s, 32)) else {
         show::text(b"no date");
         return;
     };
-    let DayRead::Good(b) = calendar::read_day(split::tail(s)) else {
+    let DayRead::Good(b) = calendar::read_day(scan::after_byte(s, 32)) else {
         show::text(b"no date");
         return;
     };

@@ -1,50 +1,62 @@
-// The gate online.
-use crate::given;
-use crate::show;
-use crate::split;
+// The gate: openings and draws, requests, and registries.
+use crate::print;
 use crate::world;
 use crate::world::World;
 use texts::digits;
+use texts::digits::Digits;
 use fields::number::Number;
 use texts::scan;
 use ledger::Reply;
 use gate::deliver;
+use settlement::settle;
+use table::Gate;
 use table::Record;
 use table::rows;
+use vectors::given;
+use vectors::line;
+use vectors::show;
 
 // Shows what a call answered, and hands back the world that it left.
-pub fn answered(w: World, r: Reply) -> World {
+fn answered(w: World, r: Reply) -> World {
     let g = r.gate;
     world::show_state(r.code, g);
     world::with_gate(w, g)
 }
 
-fn open_one(
-    nums: &[[u64; 6]],
-    numbers: &[[u8; 30]],
-    dates: &[[[u8; 19]; 3]],
-    w: World,
-    number: Number,
-    kind: u64,
-) -> Reply {
-    let n = world::least(w.lent, nums.len());
-    let m = world::least(w.lent, numbers.len());
-    let d = world::least(w.lent_dates, dates.len());
-    let g = w.gate;
-    opening::open_account(&nums[..n], &numbers[..m], &dates[..d], g, number, kind)
+// The type before the first space; 1000 where there is none.
+fn kind(s: &[u8]) -> u64 {
+    let d = digits::read_digits(scan::before_byte(s, 32), 3);
+    match d {
+        Digits::Value(v) => v,
+        Digits::Malformed => 1000,
+    }
 }
 
-// An opening, from number and type.
-pub fn open(
+// A clock of nineteen bytes; nineteen zeros for any other text.
+fn clock(s: &[u8]) -> [u8; 19] {
+    if scan::find_byte(s, 32) == 19 {
+        given::date(s)
+    } else {
+        [0u8; 19]
+    }
+}
+
+// An opening or a draw, from number, type and for a draw kopecks.
+fn account_call(
+    opening: bool,
     s: &[u8],
     nums: &[[u64; 6]],
     numbers: &[[u8; 30]],
     dates: &[[[u8; 19]; 3]],
-    w: World,
-) -> World {
-    let number = given::number(split::head(s));
-    let kind = given::kind(split::tail(s));
-    answered(w, open_one(nums, numbers, dates, w, number, kind))
+    g: Gate,
+) -> Reply {
+    let number = given::number(s);
+    let rest = scan::after_byte(s, 32);
+    if opening {
+        return opening::open_account(nums, numbers, dates, g, number, kind(rest));
+    }
+    let kopecks = given::value(scan::after_byte(rest, 32));
+    opening::draw_funds(nums, numbers, dates, g, number, kind(rest), kopecks)
 }
 
 // `a` and the digits of i.
@@ -55,7 +67,7 @@ fn named(i: u64) -> Number {
 }
 
 // So many openings: the last one's code.
-pub fn open_many(
+fn open_many(
     s: &[u8],
     nums: &[[u64; 6]],
     numbers: &[[u8; 30]],
@@ -64,121 +76,107 @@ pub fn open_many(
 ) -> World {
     let n = given::value(s);
     let mut code: u64 = 0;
-    let mut next = w;
+    let mut g = w.gate;
     let mut i: u64 = 0;
     while i < n {
-        let r = open_one(nums, numbers, dates, next, named(i), 1);
-        let g = r.gate;
+        let r = opening::open_account(nums, numbers, dates, g, named(i), 1);
         code = r.code;
-        next = world::with_gate(next, g);
+        g = r.gate;
         i += 1;
     }
     show::number(code);
-    next
+    world::with_gate(w, g)
 }
 
-fn draw_one(
-    nums: &[[u64; 6]],
-    numbers: &[[u8; 30]],
-    dates: &[[[u8; 19]; 3]],
-    w: World,
-    s: &[u8],
-) -> Reply {
-    let n = world::least(w.lent, nums.len());
-    let m = world::least(w.lent, numbers.len());
-    let d = world::least(w.lent_dates, dates.len());
-    let g = w.gate;
-    let number = given::number(split::head(s));
-    let rest = split::tail(s);
-    let kind = given::kind(rest);
-    let kopecks = given::value(split::tail(rest));
-    opening::draw_funds(
-        &nums[..n],
-        &numbers[..m],
-        &dates[..d],
-        g,
-        number,
-        kind,
-        kopecks,
-    )
-}
-
-// A draw, from number, type and kopecks.
-pub fn draw(
+// An opening, a draw or many openings, over what is lent.
+pub fn accounts(
+    k: usize,
     s: &[u8],
     nums: &[[u64; 6]],
     numbers: &[[u8; 30]],
     dates: &[[[u8; 19]; 3]],
     w: World,
 ) -> World {
-    answered(w, draw_one(nums, numbers, dates, w, s))
+    let n = line::least(w.lent, nums.len());
+    let m = line::least(w.lent, numbers.len());
+    let d = line::least(w.lent_dates, dates.len());
+    if k == 2 {
+        return open_many(s, &nums[..n], &numbers[..m], &dates[..d], w);
+    }
+    answered(
+        w,
+        account_call(k == 0, s, &nums[..n], &numbers[..m], &dates[..d], w.gate),
+    )
 }
 
-// A request, from clock and parameters, with its answer in `out`.
-fn deliver_one(
+// How many bytes are lent for what is written: one less than asked for at odd places.
+fn room(k: usize) -> usize {
+    if k % 2 == 0 { 512 } else { 511 }
+}
+
+// A request, from clock and parameters, or a registry, from day, clock and text, with what is written in `out`.
+fn send_into(
+    k: usize,
+    s: &[u8],
+    nums: &mut [[u64; 6]],
+    numbers: &mut [[u8; 30]],
+    dates: &mut [[[u8; 19]; 3]],
+    g: Gate,
+    out: &mut [u8],
+) -> Reply {
+    let rest = scan::after_byte(s, 32);
+    let n = line::least(room(k), out.len());
+    if 2 <= k {
+        let text = scan::after_byte(rest, 32);
+        return settle::settle(
+            nums,
+            numbers,
+            dates,
+            g,
+            clock(rest),
+            given::day(s),
+            text,
+            &mut out[..n],
+        );
+    }
+    deliver::deliver(nums, numbers, dates, g, clock(s), rest, &mut out[..n])
+}
+
+// A request or a registry, at its place among deliver, deliver-small, settle and settle-small, over what is lent.
+pub fn send(
+    k: usize,
     s: &[u8],
     nums: &mut [[u64; 6]],
     numbers: &mut [[u8; 30]],
     dates: &mut [[[u8; 19]; 3]],
     w: World,
-    out: &mut [u8],
-) -> Reply {
-    let n = world::least(w.lent, nums.len());
-    let m = world::least(w.lent, numbers.len());
-    let d = world::least(w.lent_dates, dates.len());
-    let g = w.gate;
-    let clock = given::clock(split::head(s));
-    let params = split::tail(s);
-    deliver::deliver(
+) -> World {
+    let n = line::least(w.lent, nums.len());
+    let m = line::least(w.lent, numbers.len());
+    let d = line::least(w.lent_dates, dates.len());
+    let mut out = [46u8; 512];
+    let r = send_into(
+        k,
+        s,
         &mut nums[..n],
         &mut numbers[..m],
         &mut dates[..d],
-        g,
-        clock,
-        params,
-        out,
-    )
-}
-
-// A request whose answer has 512 bytes.
-pub fn deliver(
-    s: &[u8],
-    nums: &mut [[u64; 6]],
-    numbers: &mut [[u8; 30]],
-    dates: &mut [[[u8; 19]; 3]],
-    w: World,
-) -> World {
-    let mut out = [46u8; 512];
-    let r = deliver_one(s, nums, numbers, dates, w, &mut out);
-    let next = answered(w, r);
-    show_written(&out, r.size);
-    next
-}
-
-// A request whose answer has 511 bytes.
-pub fn deliver_small(
-    s: &[u8],
-    nums: &mut [[u64; 6]],
-    numbers: &mut [[u8; 30]],
-    dates: &mut [[[u8; 19]; 3]],
-    w: World,
-) -> World {
-    let mut out = [46u8; 511];
-    let r = deliver_one(s, nums, numbers, dates, w, &mut out);
+        w.gate,
+        &mut out,
+    );
     let next = answered(w, r);
     show_written(&out, r.size);
     next
 }
 
 // The bytes that were written into a buffer of points, and a word where another byte is no point any more.
-pub fn show_written(out: &[u8], size: usize) {
+fn show_written(out: &[u8], size: usize) {
     if 0 < size {
         show::text(b" ");
         show::text(scan::first_bytes(out, size));
     }
     let points = [46u8; 512];
-    let lent = scan::first_bytes(&points, out.len());
-    if !scan::same_bytes(scan::bytes_from(out, size), scan::bytes_from(lent, size)) {
+    if !scan::same_bytes(scan::bytes_from(out, size), scan::bytes_from(&points, size)) {
         show::text(b" and more");
     }
 }
@@ -209,7 +207,7 @@ fn show_record(r: Record) {
     let number = r.number;
     show::number(r.receipt);
     show::text(b" ");
-    show::account(number);
+    print::account(number);
     show::named(b" ", r.kind);
     show::named(b" ", r.amount);
     let date = r.date;

@@ -6,30 +6,19 @@ mod day_vectors;
 mod digit_vectors;
 mod escape;
 mod gate_vectors;
-mod given;
 mod number_vectors;
+mod print;
 mod registry_vectors;
 mod request_vectors;
-mod settle_vectors;
-mod show;
-mod split;
 mod spoil;
 mod words;
 mod world;
 mod write_vectors;
 
 use texts::scan;
+use vectors::line;
+use vectors::show;
 use world::World;
-ghost use Prim.Native.Nat.{_<_, _≤_};
-ghost use lib.ListN.{length};
-
-// Whether a line is a heading or empty: it is printed as it is.
-fn is_heading(line: &[u8]) -> bool {
-    if line.len() == 0 {
-        return true;
-    }
-    line[0] == b'#'
-}
 
 // Prints a line and its answer, and hands back the world; the decoded text goes into `space`.
 fn answer_line(
@@ -41,24 +30,13 @@ fn answer_line(
     w: World,
 ) -> World {
     show::text(line);
-    if is_heading(line) {
-        show::text(b"\n");
+    if line::is_heading(line) {
         return w;
     }
     show::text(b": ");
-    let n = escape::unescape(split::tail(line), space);
+    let n = escape::unescape(scan::after_byte(line, 32), space);
     let text = scan::first_bytes(space, n);
-    let next = words::answer(split::head(line), text, nums, numbers, dates, w);
-    show::text(b"\n");
-    next
-}
-
-// Where the line that starts at `at` ends.
-fn line_end(s: &[u8], at: usize) -> usize
-    requires { ⌜ at < length (now s) ⌝ }
-    ensures { λ r. ⌜ (at ≤ r) × (r ≤ length (now (s .entry))) ⌝ }
-{
-    at + scan::find_byte(&s[at..], 10)
+    words::answer(scan::before_byte(line, 32), text, nums, numbers, dates, w)
 }
 
 // Answers each line of s; a last line without its end is a line too.
@@ -72,9 +50,10 @@ fn lines(
     let mut w = world::start(b"");
     let mut at: usize = 0;
     while at < s.len() {
-        let e = line_end(s, at);
-        w = answer_line(&s[at..e], space, nums, numbers, dates, w);
-        at = e + 1;
+        let next = line::next_line(s, at);
+        w = answer_line(line::line_at(s, at), space, nums, numbers, dates, w);
+        show::text(b"\n");
+        at = next;
     }
 }
 

@@ -1,8 +1,8 @@
 // Numbers of accounts.
-use crate::show;
-use crate::split;
+use crate::print;
 use fields::number::read_number;
 use texts::scan;
+use vectors::show;
 
 // The length, and the number written back.
 pub fn number(s: &[u8]) {
@@ -15,20 +15,20 @@ pub fn number(s: &[u8]) {
         show::text(b" bytes ");
         show::text(scan::first_bytes(&space, n));
     } else {
-        show::fault(2);
+        print::fault(2);
     }
 }
 
 // Whether two numbers, split by a space, are equal.
 pub fn same(s: &[u8]) {
-    let a = read_number(split::head(s));
-    let b = read_number(split::tail(s));
+    let a = read_number(scan::before_byte(s, 32));
+    let b = read_number(scan::after_byte(s, 32));
     if !a.ok {
-        show::fault(2);
+        print::fault(2);
         return;
     }
     if !b.ok {
-        show::fault(2);
+        print::fault(2);
         return;
     }
     let x = a.number;

@@ -1,7 +1,5 @@
 // Registries and reports.
-use crate::given;
-use crate::show;
-use crate::split;
+use crate::print;
 use texts::digits;
 use texts::digits::Digits;
 use texts::out;
@@ -9,12 +7,14 @@ use texts::scan;
 use lines::line::Line;
 use registry::report;
 use registry::text;
+use vectors::given;
+use vectors::show;
 
 // The fault of a registry of a day, and the lines of one without.
 pub fn check(s: &[u8]) {
-    let rest = split::tail(s);
-    let fault = text::check_registry(given::day(split::head(s)), rest);
-    show::fault(fault);
+    let rest = scan::after_byte(s, 32);
+    let fault = text::check_registry(given::day(s), rest);
+    print::fault(fault);
     if fault == 0 {
         show_lines(rest);
     }
@@ -40,7 +40,7 @@ fn show_line(x: Line) {
     show::named(b"; ", x.receipt);
     show::named(b" ", x.amount);
     show::text(b" ");
-    show::account(number);
+    print::account(number);
     show::named(b" ", x.kind);
 }
 
@@ -71,15 +71,15 @@ fn write_lines(n: u64, dst: &mut [u8]) -> usize {
 
 // The fault of so many lines, `ended` or with a `rest` behind them.
 pub fn many_lines(s: &[u8]) {
-    let Digits::Value(n) = digits::read_digits(split::head(s), 3) else {
-        show::text(b"malformed");
+    let Digits::Value(n) = digits::read_digits(scan::before_byte(s, 32), 3) else {
+        print::malformed();
         return;
     };
     let mut space = io::large_buffer();
     let at = write_lines(n, &mut space);
-    let e = add_rest(split::tail(s), &mut space, at);
+    let e = add_rest(scan::after_byte(s, 32), &mut space, at);
     let day = given::day(b"2005-09-20");
-    show::fault(text::check_registry(day, scan::first_bytes(&space, e)));
+    print::fault(text::check_registry(day, scan::first_bytes(&space, e)));
 }
 
 fn add_rest(word: &[u8], dst: &mut [u8], at: usize) -> usize {
@@ -92,9 +92,9 @@ fn add_rest(word: &[u8], dst: &mut [u8], at: usize) -> usize {
 
 // Whether a text is a report of so many lines.
 pub fn is_report(s: &[u8]) {
-    if report::is_report(split::tail(s), given::value(s) as usize) {
+    if report::is_report(scan::after_byte(s, 32), given::value(s) as usize) {
         show::text(b"good");
     } else {
-        show::fault(65);
+        print::fault(65);
     }
 }

@@ -1,16 +1,16 @@
 // Requests, read.
-use crate::show;
-use crate::split;
+use crate::print;
 use texts::digits;
 use texts::digits::Digits;
 use fields::number::Number;
 use texts::out;
 use texts::scan;
 use parameters::action;
-use payments::Action;
 use message::request::Asked;
 use message::request::RequestRead;
 use message::request::read_request;
+use payments::Action;
+use vectors::show;
 
 // What a request asks, or its fault.
 pub fn request(s: &[u8]) {
@@ -19,16 +19,16 @@ pub fn request(s: &[u8]) {
 
 // The same of a text with `&` behind it, up to so many bytes in all.
 pub fn long_request(s: &[u8]) {
-    let Digits::Value(n) = digits::read_digits(split::head(s), 4) else {
-        show::text(b"malformed");
+    let Digits::Value(n) = digits::read_digits(scan::before_byte(s, 32), 4) else {
+        print::malformed();
         return;
     };
     if 4096 < n {
-        show::text(b"malformed");
+        print::malformed();
         return;
     }
     let mut space = [b'&'; 4096];
-    out::put_bytes(split::tail(s), &mut space, 0);
+    out::put_bytes(scan::after_byte(s, 32), &mut space, 0);
     request(scan::first_bytes(&space, n as usize));
 }
 
@@ -44,7 +44,7 @@ fn show_read(r: RequestRead) {
 
 // A fault, and the action's word where one is known.
 fn show_fault(fault: u64, a: Action) {
-    show::fault(fault);
+    print::fault(fault);
     match fault {
         1 | 31 => {}
         _ => {
@@ -86,7 +86,7 @@ fn show_asked(q: Asked) {
 
 fn show_account(number: Number, kind: u64, amount: u64) {
     show::text(b" number=");
-    show::account(number);
+    print::account(number);
     show::named(b" type=", kind);
     show::named(b" amount=", amount);
 }

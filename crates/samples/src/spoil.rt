@@ -1,11 +1,13 @@
 // Values of the first record, the first account, the gate and what is lent, set to any.
-use crate::given;
-use crate::split;
+use crate::world;
 use crate::world::World;
 use texts::scan;
 use table::Gate;
 use table::Record;
 use table::rows;
+use vectors::given;
+use vectors::line;
+use vectors::show;
 
 // Sets what the first word names to the value behind it.
 pub fn spoil(
@@ -15,26 +17,21 @@ pub fn spoil(
     dates: &mut [[[u8; 19]; 3]],
     w: World,
 ) -> World {
-    let what = split::head(s);
-    let value = split::tail(s);
-    spoil_record(what, value, nums, numbers, dates);
-    let gate = spoiled_gate(what, value, w.gate);
-    if scan::same_bytes(what, b"lengths") {
-        return World {
-            gate,
-            lent: w.lent,
-            lent_dates: given::value(value) as usize,
-        };
+    show::text(b"ok");
+    let value = scan::after_byte(s, 32);
+    let k = line::place(
+        scan::before_byte(s, 32),
+        b"receipt amount state authcode account date credit cancel used count closed holder holder-type balance debt lengths",
+    );
+    if k < 8 {
+        spoil_record(k, value, nums, numbers, dates);
+        return w;
     }
-    World {
-        gate,
-        lent: w.lent,
-        lent_dates: w.lent_dates,
-    }
+    spoiled_world(k, value, w)
 }
 
 fn spoil_record(
-    what: &[u8],
+    k: usize,
     value: &[u8],
     nums: &mut [[u64; 6]],
     numbers: &mut [[u8; 30]],
@@ -49,117 +46,67 @@ fn spoil_record(
     if dates.len() < 1 {
         return;
     }
-    let r = rows::load(nums, numbers, dates, 0);
-    let x = spoiled_numbers(what, given::value(value), r);
-    put_first(nums, numbers, dates, spoiled_bytes(what, value, x));
-}
-
-// Puts r in the first place, if there is one.
-fn put_first(
-    nums: &mut [[u64; 6]],
-    numbers: &mut [[u8; 30]],
-    dates: &mut [[[u8; 19]; 3]],
-    r: Record,
-) {
-    if nums.len() < 1 {
-        return;
-    }
-    if numbers.len() < 1 {
-        return;
-    }
-    if dates.len() < 1 {
-        return;
-    }
+    let r = spoiled_record(k, value, rows::load(nums, numbers, dates, 0));
     rows::store(nums, numbers, dates, 0, r);
 }
 
-fn spoiled_numbers(what: &[u8], v: u64, r: Record) -> Record {
-    let mut x = r;
-    if scan::same_bytes(what, b"receipt") {
-        x.receipt = v;
-        return x;
-    }
-    if scan::same_bytes(what, b"amount") {
-        x.amount = v;
-        return x;
-    }
-    if scan::same_bytes(what, b"state") {
-        x.state = v;
-        return x;
-    }
-    if scan::same_bytes(what, b"authcode") {
-        x.authcode = v;
-        return x;
-    }
-    x
-}
-
-fn spoiled_bytes(what: &[u8], value: &[u8], r: Record) -> Record {
-    let mut x = r;
-    if scan::same_bytes(what, b"account") {
-        let number = given::number(value);
-        x.number = number;
-        return x;
-    }
+// Receipt, amount, state, authcode, number, date, credit date or cancel date.
+fn spoiled_record(k: usize, value: &[u8], r: Record) -> Record {
+    let v = given::value(value);
     let d = given::date(value);
-    if scan::same_bytes(what, b"date") {
-        x.date = d;
-        return x;
-    }
-    if scan::same_bytes(what, b"credit") {
-        x.credit = d;
-        return x;
-    }
-    if scan::same_bytes(what, b"cancel") {
-        x.cancel = d;
-        return x;
+    let number = given::number(value);
+    let mut x = r;
+    match k {
+        0 => x.receipt = v,
+        1 => x.amount = v,
+        2 => x.state = v,
+        3 => x.authcode = v,
+        4 => x.number = number,
+        5 => x.date = d,
+        6 => x.credit = d,
+        _ => x.cancel = d,
     }
     x
 }
 
-fn spoiled_gate(what: &[u8], value: &[u8], g: Gate) -> Gate {
-    let mut x = g;
-    if scan::same_bytes(what, b"used") {
-        x.used = given::value(value) as usize;
-        return x;
+// The records used, the accounts, the closed day; the first account; or the dates that are lent.
+fn spoiled_world(k: usize, value: &[u8], w: World) -> World {
+    let v = given::value(value);
+    let mut x = w.gate;
+    match k {
+        8 => x.used = v as usize,
+        9 => x.count = v as usize,
+        10 => {
+            let closed = given::day(value);
+            x.closed = closed;
+        }
+        11 | 12 | 13 | 14 => return world::with_gate(w, spoiled_account(k, value, x)),
+        _ => {
+            return World {
+                gate: x,
+                lent: w.lent,
+                lent_dates: v as usize,
+            };
+        }
     }
-    if scan::same_bytes(what, b"count") {
-        x.count = given::value(value) as usize;
-        return x;
-    }
-    if scan::same_bytes(what, b"closed") {
-        let closed = given::day(value);
-        x.closed = closed;
-        return x;
-    }
-    spoiled_account(what, value, g)
+    world::with_gate(w, x)
 }
 
 // The first account: its number, its type, its balance, or a debt.
-fn spoiled_account(what: &[u8], value: &[u8], g: Gate) -> Gate {
+fn spoiled_account(k: usize, value: &[u8], g: Gate) -> Gate {
+    let v = given::value(value);
     let mut x = g;
     let mut a = x.accounts[0];
-    if scan::same_bytes(what, b"holder") {
-        let number = given::number(value);
-        a.number = number;
-        x.accounts[0] = a;
-        return x;
+    match k {
+        11 => {
+            let number = given::number(value);
+            a.number = number;
+        }
+        12 => a.kind = v,
+        13 => a.balance = signed(v),
+        _ => a.balance = debt(v),
     }
-    if scan::same_bytes(what, b"holder-type") {
-        a.kind = given::value(value);
-        x.accounts[0] = a;
-        return x;
-    }
-    if scan::same_bytes(what, b"balance") {
-        a.balance = signed(given::value(value));
-        x.accounts[0] = a;
-        return x;
-    }
-    if scan::same_bytes(what, b"debt") {
-        a.balance = debt(given::value(value));
-        x.accounts[0] = a;
-        return x;
-    }
+    x.accounts[0] = a;
     x
 }
 

@@ -6,44 +6,17 @@ use crate::day_vectors;
 use crate::digit_vectors;
 use crate::gate_vectors;
 use crate::number_vectors;
+use crate::print;
 use crate::registry_vectors;
 use crate::request_vectors;
-use crate::settle_vectors;
-use crate::show;
 use crate::spoil;
 use crate::world;
 use crate::world::World;
 use crate::write_vectors;
-use texts::scan;
-
-// Runs a word that keeps no state.
-fn answer_alone(word: &[u8], text: &[u8]) {
-    if digit_words(word, text) {
-        return;
-    }
-    if number_words(word, text) {
-        return;
-    }
-    if day_words(word, text) {
-        return;
-    }
-    if write_words(word, text) {
-        return;
-    }
-    if coding_words(word, text) {
-        return;
-    }
-    if request_words(word, text) {
-        return;
-    }
-    if answer_words(word, text) {
-        return;
-    }
-    if registry_words(word, text) {
-        return;
-    }
-    show::text(b"unknown word");
-}
+use fields::amount::read_amount;
+use fields::codes;
+use vectors::line;
+use vectors::show;
 
 // Runs the word on its text, and hands back the world.
 pub fn answer(
@@ -54,35 +27,18 @@ pub fn answer(
     dates: &mut [[[u8; 19]; 3]],
     w: World,
 ) -> World {
-    if scan::same_bytes(word, b"gate") {
-        show::text(b"ok");
-        return world::start(text);
+    let k = line::place(word, b"deliver deliver-small settle settle-small spoil");
+    if k < 4 {
+        return gate_vectors::send(k, text, nums, numbers, dates, w);
     }
-    if scan::same_bytes(word, b"deliver") {
-        return gate_vectors::deliver(text, nums, numbers, dates, w);
-    }
-    if scan::same_bytes(word, b"deliver-small") {
-        return gate_vectors::deliver_small(text, nums, numbers, dates, w);
-    }
-    if scan::same_bytes(word, b"settle") {
-        return settle_vectors::settle(text, nums, numbers, dates, w);
-    }
-    if scan::same_bytes(word, b"settle-small") {
-        return settle_vectors::settle_small(text, nums, numbers, dates, w);
-    }
-    if scan::same_bytes(word, b"spoil") {
-        show::text(b"ok");
+    if k == 4 {
         return spoil::spoil(text, nums, numbers, dates, w);
     }
-    if scan::same_bytes(word, b"record") {
-        gate_vectors::record(text, nums, numbers, dates, w);
-        return w;
-    }
-    account_words(word, text, nums, numbers, dates, w)
+    look(word, text, nums, numbers, dates, w)
 }
 
-// Openings and draws, or a word that keeps no state.
-fn account_words(
+// Runs a word that leaves the table as it is.
+fn look(
     word: &[u8],
     text: &[u8],
     nums: &[[u64; 6]],
@@ -90,163 +46,66 @@ fn account_words(
     dates: &[[[u8; 19]; 3]],
     w: World,
 ) -> World {
-    if scan::same_bytes(word, b"open") {
-        return gate_vectors::open(text, nums, numbers, dates, w);
+    let k = line::place(word, b"open draw open-many record gate");
+    match k {
+        0 | 1 | 2 => gate_vectors::accounts(k, text, nums, numbers, dates, w),
+        3 => {
+            gate_vectors::record(text, nums, numbers, dates, w);
+            w
+        }
+        4 => world::started(text),
+        _ => {
+            answer_field(word, text);
+            w
+        }
     }
-    if scan::same_bytes(word, b"draw") {
-        return gate_vectors::draw(text, nums, numbers, dates, w);
-    }
-    if scan::same_bytes(word, b"open-many") {
-        return gate_vectors::open_many(text, nums, numbers, dates, w);
-    }
-    answer_alone(word, text);
-    w
 }
 
-// Digit fields. Each of these functions says whether the word is one of its own.
-fn digit_words(word: &[u8], text: &[u8]) -> bool {
-    if scan::same_bytes(word, b"digits20") {
-        digit_vectors::digits20(text);
-        return true;
+// Fields, days, and writers into a lent buffer.
+fn answer_field(word: &[u8], text: &[u8]) {
+    let k = line::place(
+        word,
+        b"digits20 amount receipt type reason number same date day next before write-amount write-digits put",
+    );
+    match k {
+        0 => digit_vectors::digits20(text),
+        1 => print::value_or_fault(read_amount(text), 3),
+        2 => print::value_or_fault(codes::read_receipt(text), 4),
+        3 => print::value_or_fault(codes::read_kind(text), 2),
+        4 => print::value_or_fault(codes::read_reason(text), 32),
+        5 => number_vectors::number(text),
+        6 => number_vectors::same(text),
+        7 => day_vectors::written_date(text),
+        8 => day_vectors::day(text),
+        9 => day_vectors::next(text),
+        10 => day_vectors::before(text),
+        11 => write_vectors::write_value(true, text),
+        12 => write_vectors::write_value(false, text),
+        13 => write_vectors::put(text),
+        _ => answer_message(word, text),
     }
-    if scan::same_bytes(word, b"amount") {
-        digit_vectors::amount(text);
-        return true;
-    }
-    if scan::same_bytes(word, b"receipt") {
-        digit_vectors::receipt(text);
-        return true;
-    }
-    if scan::same_bytes(word, b"type") {
-        digit_vectors::kind(text);
-        return true;
-    }
-    if scan::same_bytes(word, b"reason") {
-        digit_vectors::reason(text);
-        return true;
-    }
-    false
 }
 
-// Numbers of accounts.
-fn number_words(word: &[u8], text: &[u8]) -> bool {
-    if scan::same_bytes(word, b"number") {
-        number_vectors::number(text);
-        return true;
+// Parameters, requests, answers, registries and reports.
+fn answer_message(word: &[u8], text: &[u8]) {
+    let k = line::place(
+        word,
+        b"parameters coded decoded request long-request write-request write-request-at answer long-answer write-answer registry many-lines report",
+    );
+    match k {
+        0 => coding_vectors::parameters(text),
+        1 => coding_vectors::coded(text),
+        2 => coding_vectors::decoded(text),
+        3 => request_vectors::request(text),
+        4 => request_vectors::long_request(text),
+        5 => asked_vectors::write_request(text),
+        6 => asked_vectors::write_request_at(text),
+        7 => answer_vectors::answer(text),
+        8 => answer_vectors::long_answer(text),
+        9 => answer_vectors::write_answer(text),
+        10 => registry_vectors::check(text),
+        11 => registry_vectors::many_lines(text),
+        12 => registry_vectors::is_report(text),
+        _ => show::text(b"unknown word"),
     }
-    if scan::same_bytes(word, b"same") {
-        number_vectors::same(text);
-        return true;
-    }
-    false
-}
-
-// Days and written dates.
-fn day_words(word: &[u8], text: &[u8]) -> bool {
-    if scan::same_bytes(word, b"date") {
-        day_vectors::written_date(text);
-        return true;
-    }
-    if scan::same_bytes(word, b"day") {
-        day_vectors::day(text);
-        return true;
-    }
-    if scan::same_bytes(word, b"next") {
-        day_vectors::next(text);
-        return true;
-    }
-    if scan::same_bytes(word, b"before") {
-        day_vectors::before(text);
-        return true;
-    }
-    false
-}
-
-// Writers into a lent buffer.
-fn write_words(word: &[u8], text: &[u8]) -> bool {
-    if scan::same_bytes(word, b"write-amount") {
-        write_vectors::write_amount(text);
-        return true;
-    }
-    if scan::same_bytes(word, b"write-digits") {
-        write_vectors::write_digits(text);
-        return true;
-    }
-    if scan::same_bytes(word, b"put") {
-        write_vectors::put(text);
-        return true;
-    }
-    false
-}
-
-// Url coding, and parameters.
-fn coding_words(word: &[u8], text: &[u8]) -> bool {
-    if scan::same_bytes(word, b"parameters") {
-        coding_vectors::parameters(text);
-        return true;
-    }
-    if scan::same_bytes(word, b"coded") {
-        coding_vectors::coded(text);
-        return true;
-    }
-    if scan::same_bytes(word, b"decoded") {
-        coding_vectors::decoded(text);
-        return true;
-    }
-    false
-}
-
-// Requests, read and written.
-fn request_words(word: &[u8], text: &[u8]) -> bool {
-    if scan::same_bytes(word, b"request") {
-        request_vectors::request(text);
-        return true;
-    }
-    if scan::same_bytes(word, b"long-request") {
-        request_vectors::long_request(text);
-        return true;
-    }
-    if scan::same_bytes(word, b"write-request") {
-        asked_vectors::write_request(text);
-        return true;
-    }
-    if scan::same_bytes(word, b"write-request-at") {
-        asked_vectors::write_request_at(text);
-        return true;
-    }
-    false
-}
-
-// Answers.
-fn answer_words(word: &[u8], text: &[u8]) -> bool {
-    if scan::same_bytes(word, b"answer") {
-        answer_vectors::answer(text);
-        return true;
-    }
-    if scan::same_bytes(word, b"long-answer") {
-        answer_vectors::long_answer(text);
-        return true;
-    }
-    if scan::same_bytes(word, b"write-answer") {
-        answer_vectors::write_answer(text);
-        return true;
-    }
-    false
-}
-
-// Registries and reports.
-fn registry_words(word: &[u8], text: &[u8]) -> bool {
-    if scan::same_bytes(word, b"registry") {
-        registry_vectors::check(text);
-        return true;
-    }
-    if scan::same_bytes(word, b"many-lines") {
-        registry_vectors::many_lines(text);
-        return true;
-    }
-    if scan::same_bytes(word, b"report") {
-        registry_vectors::is_report(text);
-        return true;
-    }
-    false
 }

@@ -1,10 +1,9 @@
 // What the vectors of the gate keep from line to line: the gate, and how many records are lent.
-use crate::given;
-use crate::show;
-use crate::split;
-use table::Account;
+use texts::scan;
 use table::Gate;
-ghost use Prim.Native.Nat.{_≤_};
+use vectors::given;
+use vectors::line;
+use vectors::show;
 
 // The dates may be lent at a length of their own.
 pub struct World {
@@ -13,35 +12,20 @@ pub struct World {
     pub lent_dates: usize,
 }
 
-// The lesser of two numbers.
-pub fn least(a: usize, b: usize) -> usize
-    ensures { λ r. ⌜ r ≤ b ⌝ }
-{
-    if a < b { a } else { b }
-}
-
 // A new world from a closed day and the number of records lent.
 pub fn start(s: &[u8]) -> World {
-    let closed = given::day(split::head(s));
-    let lent = given::value(split::tail(s)) as usize;
-    let number = given::number(b"");
-    let a = Account {
-        number,
-        kind: 0,
-        balance: 0,
-    };
-    let accounts = [a; 256];
-    let gate = Gate {
-        accounts,
-        count: 0,
-        closed,
-        used: 0,
-    };
+    let lent = given::value(scan::after_byte(s, 32)) as usize;
     World {
-        gate,
+        gate: given::no_gate(given::day(s)),
         lent,
         lent_dates: lent,
     }
+}
+
+// The same, and it says so.
+pub fn started(s: &[u8]) -> World {
+    show::text(b"ok");
+    start(s)
 }
 
 // The world with another gate.
@@ -52,7 +36,6 @@ pub fn with_gate(w: World, gate: Gate) -> World {
         lent_dates: w.lent_dates,
     }
 }
-
 // A balance, or 0 where it is below.
 fn positive(b: i64) -> u64 {
     if b < 0 {
@@ -80,7 +63,7 @@ fn show_difference(a: u64, b: u64) {
 
 // The sum of the balances in use.
 fn show_total(g: Gate) {
-    let count = least(g.count, 256);
+    let count = line::least(g.count, 256);
     let mut over: u64 = 0;
     let mut under: u64 = 0;
     let mut i: usize = 0;

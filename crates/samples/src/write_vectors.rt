@@ -1,58 +1,56 @@
 // Writers into a lent buffer.
-use crate::show;
-use crate::split;
+use crate::print;
 use fields::amount;
 use texts::digits;
 use texts::digits::Digits;
 use texts::out;
 use texts::scan;
+use vectors::show;
 
-// The kopecks in s, written as an amount.
-pub fn write_amount(s: &[u8]) {
-    let Digits::Value(v) = digits::read_digits(s, 20) else {
-        show::text(b"malformed");
-        return;
-    };
-    let mut space = [0u8; 64];
-    let n = amount::write_amount(v, &mut space, 0);
-    show::text(scan::first_bytes(&space, n));
+fn write_into(as_amount: bool, v: u64, dst: &mut [u8]) -> usize {
+    if as_amount {
+        return amount::write_amount(v, dst, 0);
+    }
+    digits::write_digits(v, dst, 0)
 }
 
-// The value in s, written without leading zeros.
-pub fn write_digits(s: &[u8]) {
+// The value in s, written as an amount in kopecks or as it is, without leading zeros.
+pub fn write_value(as_amount: bool, s: &[u8]) {
     let Digits::Value(v) = digits::read_digits(s, 20) else {
-        show::text(b"malformed");
+        print::malformed();
         return;
     };
     let mut space = [0u8; 64];
-    let n = digits::write_digits(v, &mut space, 0);
+    let n = write_into(as_amount, v, &mut space);
     show::text(scan::first_bytes(&space, n));
 }
 
 // Writes the text behind a cursor and a size into so many points.
 pub fn put(s: &[u8]) {
-    let rest = split::tail(s);
-    let Digits::Value(at) = digits::read_digits(split::head(s), 20) else {
-        show::text(b"malformed");
+    let Digits::Value(at) = digits::read_digits(scan::before_byte(s, 32), 20) else {
+        print::malformed();
         return;
     };
-    let Digits::Value(size) = digits::read_digits(split::head(rest), 2) else {
-        show::text(b"malformed");
+    put_at(scan::after_byte(s, 32), at as usize);
+}
+
+fn put_at(s: &[u8], at: usize) {
+    let Digits::Value(size) = digits::read_digits(scan::before_byte(s, 32), 2) else {
+        print::malformed();
         return;
     };
     if 64 < size {
-        show::text(b"malformed");
+        print::malformed();
         return;
     }
     let mut space = [b'.'; 64];
     let n = size as usize;
-    put_into(split::tail(rest), &mut space[..n], at as usize);
+    put_into(scan::after_byte(s, 32), &mut space[..n], at);
 }
 
 // Prints the cursor that is handed back, and the whole buffer.
 fn put_into(src: &[u8], dst: &mut [u8], at: usize) {
-    let n = out::put_bytes(src, dst, at);
-    show::number(n as u64);
+    show::number(out::put_bytes(src, dst, at) as u64);
     show::text(b" ");
     show::text(dst);
 }

@@ -1,4 +1,4 @@
-use Rattle.agent_samples.proofs.PartLaws.{rows-size}
+use Rattle.vectors.proofs.LineLaws.{rows-size}
 use borrow.Author.Needs.{needs}
 use Rattle.agent_samples.proofs.answer_line.Statement.{statement}
 use Rattle.agent_samples.proofs.answer_line.Tie as tie

@@ -15,10 +15,10 @@ abbrev μ-loop : tie.MeasureT-loop
 μ-loop s nums₀ numbers₀ dates₀ table₀ owners₀ times₀ d₀ at₀ nums numbers dates table owners times d at = length s + 1 - at
 
 loop-less : tie.Need-loop-less Inv-loop μ-loop
-loop-less c = let n = c .before .before .before .before .before .before .before .before .before .before .before .before .before .before .next-line .ensures in omega (arith, n .0, n .1)
+loop-less c = let n = c .before .before .before .before .before .before .before .before .before .before .before .before .before .before .next-line .ensures in omega (arith, n .1, n .2)
 
 loop-again : tie.Need-loop-again Inv-loop μ-loop
-loop-again c = (c .before .before .before .before .before .before .before .before .before .before .before .before .before .before .next-line .ensures .1, search needs, search needs, search needs, search needs, search needs, search needs)
+loop-again c = (c .before .before .before .before .before .before .before .before .before .before .before .before .before .before .next-line .ensures .2, search needs, search needs, search needs, search needs, search needs, search needs)
 
 pub lines-spec : {M : Type 1} → statement M
 lines-spec =

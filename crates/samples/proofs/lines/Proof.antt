@@ -1,19 +1,18 @@
--- The invariant: a line starts at most one byte past the end.
-use borrow.Author.Needs.{needs}
-use Rattle.samples.proofs.LineLaws.{next-fits, next-falls, next-inside}
 use Prim.Native.Nat.{_≤_, _-_, _+_}
 use mathlib.Core.Path.{_≡_}
 use lib.ListN.{length}
+use Rattle.vectors.proofs.LineLaws.{line-falls}
+use borrow.Author.Needs.{needs}
 use Rattle.samples.proofs.lines.Statement.{statement}
 use Rattle.samples.proofs.lines.Tie as tie
 
 abbrev Inv-loop : tie.InvT-loop
-Inv-loop s space₀ nums₀ numbers₀ dates₀ w₀ at₀ space nums numbers dates w at = (at ≤ length s + 1) × (length space ≡ length space₀) × (length nums ≡ length nums₀) × (length numbers ≡ length numbers₀) × (length dates ≡ length dates₀)
+Inv-loop s space₀ nums₀ numbers₀ dates₀ w₀ at₀ t10 space nums numbers dates w at = (at ≤ length s + 1) × (length space ≡ length space₀) × (length nums ≡ length nums₀) × (length numbers ≡ length numbers₀) × (length dates ≡ length dates₀)
 
 abbrev μ-loop : tie.MeasureT-loop
-μ-loop s space₀ nums₀ numbers₀ dates₀ w₀ at₀ space nums numbers dates w at = (length s + 1) - at
+μ-loop s space₀ nums₀ numbers₀ dates₀ w₀ at₀ t10 space nums numbers dates w at = (length s + 1) - at
 
-ruleset laws = (next-fits, next-falls, next-inside, needs)
+ruleset laws = (line-falls, needs)
 
 pub lines-spec : {M : Type 1} → statement M
 lines-spec =
@@ -25,11 +24,10 @@ lines-spec =
     (λ c κs. search laws)
     (λ c. search laws)
     (λ c κs. search laws)
-    (λ c. search laws)
-    (λ c. search laws)
-    (λ c. search laws)
+    (λ c κs. search laws)
     (λ c κs. search laws)
     (λ c. search laws)
+    (λ c κs. search laws)
     (λ c. search laws)
     (λ c. search laws)
     (λ c. search laws)

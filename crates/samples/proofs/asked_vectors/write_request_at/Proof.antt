@@ -1,5 +1,5 @@
+use Rattle.samples.proofs.PartLaws.{part-size}
 use borrow.Author.Needs.{needs}
-use Rattle.samples.proofs.LineLaws.{part-size}
 use Rattle.samples.proofs.asked_vectors.write_request_at.Statement.{statement}
 use Rattle.samples.proofs.asked_vectors.write_request_at.Tie as tie
 
@@ -14,9 +14,7 @@ write-request-at-spec =
     (λ c κs. search laws)
     (λ c. search laws)
     (λ c. search laws)
-    (λ c. search laws)
     (λ c κs. search laws)
-    (λ c. search laws)
     (λ c. search laws)
     (λ c κs. search laws)
     (λ c. search laws)

@@ -1,9 +1,0 @@
-use Rattle.agent_samples.proofs.PartLaws.{line-is}
-use borrow.Author.Needs.{needs}
-use Rattle.agent_samples.proofs.line_at.Statement.{statement}
-use Rattle.agent_samples.proofs.line_at.Tie as tie
-
-ruleset laws = (line-is, needs)
-
-pub line-at-spec : {M : Type 1} → statement M
-line-at-spec = tie.close (tie.spec (λ c κs. search laws) (λ c κs. search laws) (λ c. search laws))

@@ -1,0 +1,34 @@
+use Rattle.vectors.proofs.LineLaws.{rows-size}
+use borrow.Author.Needs.{needs}
+use Rattle.samples.proofs.gate_vectors.send_into.Statement.{statement}
+use Rattle.samples.proofs.gate_vectors.send_into.Tie as tie
+
+ruleset laws = (rows-size, needs)
+
+pub send-into-spec : {M : Type 1} → statement M
+send-into-spec =
+    tie.close
+    (tie.spec
+    (λ c κs. search laws)
+    (λ c κs. search laws)
+    (λ c κs. search laws)
+    (λ c κs. search laws)
+    (λ c κs. search laws)
+    (λ c κs. search laws)
+    (λ c. search laws)
+    (λ c. search laws)
+    (λ c κs. search laws)
+    (λ c. search laws)
+    (λ c. search laws)
+    (λ c. search laws)
+    (λ c. search laws)
+    (λ c. search laws)
+    (λ c κs. search laws)
+    (λ c. search laws)
+    (λ c. search laws)
+    (λ c κs. search laws)
+    (λ c. search laws)
+    (λ c. search laws)
+    (λ c. search laws)
+    (λ c. search laws)
+    (λ c. search laws))

@@ -1,0 +1,58 @@
+// Answers that only these vectors have, printed.
+use dates::calendar::Day;
+use texts::digits::Digits;
+use fields::number::Number;
+use texts::scan;
+use vectors::show;
+
+// A fault and its number.
+pub fn fault(code: u64) {
+    show::named(b"fault ", code);
+}
+
+// The value of a digit field, or its fault.
+pub fn value_or_fault(d: Digits, code: u64) {
+    match d {
+        Digits::Value(v) => show::number(v),
+        Digits::Malformed => fault(code),
+    }
+}
+
+// What a vector itself gives in another form than its word asks.
+pub fn malformed() {
+    show::text(b"malformed");
+}
+
+// Year, month and day.
+pub fn day(d: Day) {
+    show::number(d.year as u64);
+    show::named(b" ", d.month as u64);
+    show::named(b" ", d.day as u64);
+}
+
+// The bytes of an account's number.
+pub fn account(x: Number) {
+    let n = x.len;
+    let bytes = x.bytes;
+    show::text(scan::first_bytes(&bytes, n));
+}
+
+// A byte, or \x and its digits where it does not print.
+fn byte(b: u8) {
+    match b {
+        32..=126 => show::text(&[b]),
+        _ => {
+            show::text(b"\\x");
+            io::print_hex(1, b as u64, 2);
+        }
+    }
+}
+
+// Bytes of any value.
+pub fn bytes(s: &[u8]) {
+    let mut i: usize = 0;
+    while i < s.len() {
+        byte(s[i]);
+        i += 1;
+    }
+}

@@ -1,0 +1,26 @@
+-- The input of a program of vectors: lines, headings, and words by their place.
+use Prim.Native.Nat.{ℕ, suc}
+use mathlib.Core.List.{List, [], _∷_}
+use mathlib.Core.Bool.{Bool, true, cond}
+use lib.ListN.{take, drop}
+use lib.Dec.{eqb}
+use Rattle.texts.specs.Lists.{find, eqList}
+use Rattle.coding.specs.Params.{splitAt}
+
+-- the line that begins at a place ends before the next 0A
+unfoldable pub lineAt : ℕ → List ℕ → List ℕ
+lineAt at s = take (find 10 (drop at s)) (drop at s)
+
+-- a line that is empty, or begins with # (35)
+unfoldable pub isHeading : List ℕ → Bool
+isHeading [] = true
+isHeading (b ∷ s) = eqb b 35
+
+-- words that one space splits
+abbrev pub spaced : List ℕ → List (List ℕ)
+spaced s = splitAt 32 s
+
+-- the place of the first that is w, or their number
+unfoldable pub placeOf : List ℕ → List (List ℕ) → ℕ
+placeOf w [] = 0
+placeOf w (x ∷ xs) = cond (eqList x w) 0 (suc (placeOf w xs))
