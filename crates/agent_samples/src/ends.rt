@@ -2,12 +2,12 @@
 use crate::desk;
 use crate::desk::Desk;
 use crate::desk::Sent;
-use texts::scan;
-use ledger::Reply;
 use gate::deliver;
+use ledger::Reply;
 use settlement::settle;
 use table::Gate;
 use table::rows;
+use texts::scan;
 use vectors::given;
 use vectors::show;
 

@@ -1,8 +1,8 @@
 // Answers written: piece by piece into a local text, and that at once into the lent buffer.
+use payments::Answer;
 use texts::digits;
 use texts::out;
 use texts::scan;
-use payments::Answer;
 ghost use mathlib.Core.Path.{_≡_};
 ghost use Rattle.texts.specs.Digits.{decimal};
 ghost use Rattle.texts.specs.Lists.{written, cursorAfter};

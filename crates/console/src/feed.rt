@@ -1,10 +1,10 @@
 // A session's input, fed in parts, or whole.
 use crate::Held;
 use crate::gather;
-use texts::scan;
 use orders::Console;
 use orders::print;
 use orders::turn;
+use texts::scan;
 ghost use mathlib.Core.Path.{_≡_};
 ghost use Prim.Native.Nat.{_+_, _*_, _≤_};
 ghost use lib.ListN.{length};

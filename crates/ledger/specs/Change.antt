@@ -89,4 +89,3 @@ pub record Made (t : Rows) (c : Changed) (gate : Gate) (subject : Record) (rows 
   pub gates : gate ≡ c .gate
   pub subjects : subject ≡ c .subject
   pub left : rows ≡ rowsFrom t (c .records)
-

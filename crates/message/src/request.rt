@@ -1,17 +1,17 @@
 // Requests: what they ask, or their first fault.
-use parameters::action;
-use payments::Action;
-use parameters::action::ActionRead;
-use parameters::slots;
-use parameters::slots::Slots;
 use dates::date;
 use dates::date::DateRead;
 use fields::amount;
 use fields::codes;
-use texts::digits::Digits;
 use fields::number;
 use fields::number::Number;
 use fields::number::NumberRead;
+use parameters::action;
+use parameters::action::ActionRead;
+use parameters::slots;
+use parameters::slots::Slots;
+use payments::Action;
+use texts::digits::Digits;
 use texts::scan;
 ghost use mathlib.Core.Path.{_≡_};
 ghost use Prim.Native.Nat.{_<_};

@@ -1,9 +1,9 @@
 // What a line prints.
 use crate::sums;
+use table::Gate;
 use texts::digits;
 use texts::out;
 use texts::scan;
-use table::Gate;
 ghost use mathlib.Core.Path.{_≡_};
 ghost use mathlib.Core.List.{[], _∷_};
 ghost use mathlib.Core.Bool.{cond};

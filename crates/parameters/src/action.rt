@@ -1,18 +1,25 @@
 // The actions of a request, and the fields that each has.
-use texts::scan;
 use payments::Action;
+use texts::scan;
 ghost use mathlib.Core.Path.{_≡_};
 ghost use Rattle.parameters.specs.SlotWalk.{laterIndex};
 ghost use Rattle.parameters.specs.Names.{nameIndex, actionOf, hasAccount, hasReceipt, hasDate, hasReason};
 
 // The places of the seven names; of any other name the place is NO_NAME.
 pub const ACTION: usize = 0;
+
 pub const NUMBER: usize = 1;
+
 pub const KIND: usize = 2;
+
 pub const AMOUNT: usize = 3;
+
 pub const RECEIPT: usize = 4;
+
 pub const DATE: usize = 5;
+
 pub const REASON: usize = 6;
+
 pub const NO_NAME: usize = 7;
 
 pub enum ActionRead {

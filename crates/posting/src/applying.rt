@@ -2,8 +2,8 @@
 use crate::verdict;
 use crate::verdict::Verdict;
 use ledger::change;
-use payments::Details;
 use lines::line::Line;
+use payments::Details;
 use table::Gate;
 use table::Record;
 use table::accounts;

@@ -1,7 +1,7 @@
 // Which record a line of a registry matches.
 use dates::date;
-use lists::Found;
 use lines::line::Line;
+use lists::Found;
 use table::Record;
 use table::rows;
 ghost use mathlib.Core.Path.{_≡_};

@@ -1,7 +1,7 @@
 // The verdict on one line of a registry: what it does to the table.
 use crate::matching;
-use lists::Found;
 use lines::line::Line;
+use lists::Found;
 use table::Gate;
 use table::Record;
 use table::accounts;

@@ -1,8 +1,8 @@
 // The text of a registry: lines ended by 0D 0A.
-use lines::line;
-use lines::line::LineRead;
 use dates::calendar::Day;
 use dates::date;
+use lines::line;
+use lines::line::LineRead;
 use texts::scan;
 ghost use Prim.Native.Nat.{_+_};
 ghost use mathlib.Core.Path.{_≡_};

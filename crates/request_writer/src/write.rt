@@ -1,13 +1,13 @@
 // The text of a request, written into a lent buffer.
-use parameters::action;
-use payments::Action;
-use message::request::Asked;
 use coding::url;
 use dates::date;
 use fields::amount;
 use fields::codes;
-use texts::digits;
 use fields::number::Number;
+use message::request::Asked;
+use parameters::action;
+use payments::Action;
+use texts::digits;
 use texts::out;
 use texts::scan;
 ghost use mathlib.Core.Path.{_≡_};

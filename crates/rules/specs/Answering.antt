@@ -46,4 +46,3 @@ answerOf a code r clock =
       dated = answersDate a code;
       date = cond (answersDate a code) (answerDate a code r clock) emptyDate;
     }
-

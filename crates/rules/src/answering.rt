@@ -1,6 +1,6 @@
 // The answer that a decision gives.
-use payments::Answer;
 use payments::Action;
+use payments::Answer;
 use table::Record;
 ghost use mathlib.Core.Path.{_≡_};
 ghost use mathlib.Core.Bool.{cond};

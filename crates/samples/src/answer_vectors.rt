@@ -3,14 +3,14 @@ use crate::print;
 use answer_reader::answer::AnswerRead;
 use answer_reader::read;
 use answers::write;
-use texts::digits;
-use texts::digits::Digits;
-use texts::out;
-use texts::scan;
 use parameters::action;
 use parameters::action::ActionRead;
 use payments::Action;
 use payments::Answer;
+use texts::digits;
+use texts::digits::Digits;
+use texts::out;
+use texts::scan;
 use vectors::given;
 use vectors::show;
 

@@ -1,13 +1,13 @@
 // Requests, written.
 use crate::print;
+use message::request::Asked;
+use parameters::action;
+use parameters::action::ActionRead;
+use payments::Action;
+use request_writer::write;
 use texts::digits;
 use texts::digits::Digits;
 use texts::scan;
-use parameters::action;
-use parameters::action::ActionRead;
-use message::request::Asked;
-use request_writer::write;
-use payments::Action;
 use vectors::given;
 use vectors::show;
 

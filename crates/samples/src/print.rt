@@ -1,7 +1,7 @@
 // Answers that only these vectors have, printed.
 use dates::calendar::Day;
-use texts::digits::Digits;
 use fields::number::Number;
+use texts::digits::Digits;
 use texts::scan;
 use vectors::show;
 

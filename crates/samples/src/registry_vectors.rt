@@ -1,12 +1,12 @@
 // Registries and reports.
 use crate::print;
+use lines::line::Line;
+use registry::report;
+use registry::text;
 use texts::digits;
 use texts::digits::Digits;
 use texts::out;
 use texts::scan;
-use lines::line::Line;
-use registry::report;
-use registry::text;
 use vectors::given;
 use vectors::show;
 

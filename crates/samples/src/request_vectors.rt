@@ -1,15 +1,15 @@
 // Requests, read.
 use crate::print;
-use texts::digits;
-use texts::digits::Digits;
 use fields::number::Number;
-use texts::out;
-use texts::scan;
-use parameters::action;
 use message::request::Asked;
 use message::request::RequestRead;
 use message::request::read_request;
+use parameters::action;
 use payments::Action;
+use texts::digits;
+use texts::digits::Digits;
+use texts::out;
+use texts::scan;
 use vectors::show;
 
 // What a request asks, or its fault.

@@ -1,10 +1,10 @@
 // Values of the first record, the first account, the gate and what is lent, set to any.
 use crate::world;
 use crate::world::World;
-use texts::scan;
 use table::Gate;
 use table::Record;
 use table::rows;
+use texts::scan;
 use vectors::given;
 use vectors::line;
 use vectors::show;

@@ -1,6 +1,6 @@
 // What the vectors of the gate keep from line to line: the gate, and how many records are lent.
-use texts::scan;
 use table::Gate;
+use texts::scan;
 use vectors::given;
 use vectors::line;
 use vectors::show;

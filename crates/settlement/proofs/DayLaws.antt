@@ -13,7 +13,7 @@ use Rattle.table.specs.declared.Record.{Record}
 use Rattle.table.specs.Table.{Rows, recordsOf, rowsFrom}
 use Rattle.table.specs.Accounts.{withClosed}
 use Rattle.posting.specs.Posting.{Ledger}
-use Rattle.settlement.specs.Settle.{settleLines, sweptRecord, swept, reportOf, Settlement, settleDay}
+use Rattle.settlement.specs.Settle.{settleLines, sweptRecord, swept, reportOf, Settlement, settleDay, reported}
 use Rattle.posting.specs.Steps.{Left, ledgerOf}
 use Rattle.settlement.specs.Lines.{LineRows, linesOf, Read}
 use Rattle.settlement.proofs.LinesLaws.{from-from}
@@ -54,6 +54,10 @@ module _ (g : Gate) (t : Rows) (clock : List ℕ) (day : Day) (u : LineRows) (n 
       ∙ ap (λ (y : List ℕ). record { code = 0; gate = withClosed b day; rows = rowsFrom t (recordsOf t₂ (b .used)); report = y; size = length (linesOf u n) })
       (e ∙ report-written (linesOf u n) (recordsOf t₂ (b .used)) out few room))
 
--- what the report needs of the table that the sweep left, and of the buffer
-pub report-room : (u : LineRows) (n : ℕ) (out : List ℕ) → Read u n → 512 ≤ length out → n ≤ length out
-report-room u n out read room = omega (arith, read .few)
+-- ---- a day that is only reported
+module _ (g : Gate) (t : Rows) (u : LineRows) (n : ℕ) (out : List ℕ) (read : Read u n) (room : 512 ≤ length out) where
+  pub day-reported : (out′ : List ℕ) → out′ ≡ over out 0 (reportOf (linesOf u n) (recordsOf t (g .used)))
+      → _≡_ {A = Settlement} (record { code = 0; gate = g; rows = t; report = out′; size = n }) (reported g t (linesOf u n) out)
+  day-reported out′ e =
+      let few : length (linesOf u n) ≤ 512 = omega (arith, read .few, length-lines u n) in
+      rw (length-lines u n, e ∙ report-written (linesOf u n) (recordsOf t (g .used)) out few room)

@@ -7,7 +7,6 @@ use mathlib.Core.List.{List}
 use lib.ListN.{length}
 use borrow.Author.Tests.{le-leb, lt-leb, eq-eqb, ne-eqb, not-true, not-false}
 use Rattle.dates.specs.declared.calendar.Day.{Day}
-use Rattle.texts.specs.Lists.{over}
 use Rattle.dates.specs.Calendar.{isDay, dayBefore, nextDay, onDay}
 use Rattle.fields.specs.Amount.{isAmount}
 use Rattle.fields.specs.Codes.{isReceipt}
@@ -19,14 +18,12 @@ use Rattle.registry.specs.Registry.{registryLines, registryFault, lineCount}
 use Rattle.registry.proofs.LinesGood.{lines-good}
 use Rattle.table.specs.declared.Gate.{Gate}
 use Rattle.table.specs.declared.Record.{Record}
-use Rattle.table.specs.Table.{Rows, recordAt, recordsOf}
+use Rattle.table.specs.Table.{Rows, recordAt}
 use Rattle.validity.specs.Valid.{rangesGood, recordGood, authcodeGood, tableGood, Ready}
 use Rattle.validity.proofs.GoodLaws.{good-table}
-use Rattle.settlement.specs.Settle.{Settlement, reportOf, settleDay, settleRead, settle}
+use Rattle.settlement.specs.Settle.{Settlement, reported, settleDay, settleRead, settle}
 use Rattle.posting.specs.Steps.{Held}
-use Rattle.settlement.specs.Lines.{LineRows, linesOf, Read}
-use Rattle.settlement.proofs.DayLaws.{report-written}
-use Rattle.settlement.proofs.ReadLaws.{length-lines}
+use Rattle.settlement.specs.Lines.{LineRows, linesOf}
 
 -- ---- what the checks give to the functions behind them
 good-amount : (g : Gate) (i : ℕ) (r : Record) → recordGood g i r ≡ true → r .amount < 1000000000
@@ -57,29 +54,19 @@ module _ (g : Gate) (t : Rows) (clock : List ℕ) (day : Day) (xs : List Line) (
   unfolding settleRead
   read-next h d e = e ∙ rw (← en, h)
 
-  module _ (h : n ≡ false) (rows : Rows) (er : rows ≡ t) (v : Bool) (ev : v ≡ isDay day) where
-    pub read-no-date : not v ≡ true → (left : List ℕ) → left ≡ out → _≡_ {A = Settlement} (record { code = 55; gate = g; rows = rows; report = left; size = 0 }) (settleRead g t clock day xs out)
+  module _ (h : n ≡ false) (v : Bool) (ev : v ≡ isDay day) where
+    pub read-no-date : not v ≡ true → (rows : Rows) → rows ≡ t → (left : List ℕ) → left ≡ out → _≡_ {A = Settlement} (record { code = 55; gate = g; rows = rows; report = left; size = 0 }) (settleRead g t clock day xs out)
     unfolding settleRead
-    read-no-date c left el = rw (← en, h, ← ev, not-true v c, er, el)
+    read-no-date c rows er left el = rw (← en, h, ← ev, not-true v c, er, el)
 
     module _ (c : not v ≡ false) (b : Bool) (eb : b ≡ dayBefore (g .closed) day) where
-      pub read-later : b ≡ true → (left : List ℕ) → left ≡ out → _≡_ {A = Settlement} (record { code = 55; gate = g; rows = rows; report = left; size = 0 }) (settleRead g t clock day xs out)
+      pub read-later : b ≡ true → (rows : Rows) → rows ≡ t → (left : List ℕ) → left ≡ out → _≡_ {A = Settlement} (record { code = 55; gate = g; rows = rows; report = left; size = 0 }) (settleRead g t clock day xs out)
       unfolding settleRead
-      read-later y left el = rw (← en, h, ← ev, not-false v c, ← eb, y, er, el)
+      read-later y rows er left el = rw (← en, h, ← ev, not-false v c, ← eb, y, er, el)
 
-      read-before : b ≡ false → length xs ≤ 512 → 512 ≤ length out → (left : List ℕ) → left ≡ over out 0 (reportOf xs (recordsOf t (g .used)))
-          → (k : ℕ) → k ≡ length xs → _≡_ {A = Settlement} (record { code = 0; gate = g; rows = rows; report = left; size = k }) (settleRead g t clock day xs out)
+      pub read-before : b ≡ false → (d : Settlement) → d ≡ reported g t xs out → d ≡ settleRead g t clock day xs out
       unfolding settleRead
-      read-before y few room left el k ek =
-          let w = el ∙ report-written xs (recordsOf t (g .used)) out few room in
-          rw (← en, h, ← ev, not-false v c, ← eb, y, er, w, ek)
-
-pub read-reported : (g : Gate) (t : Rows) (clock : List ℕ) (day : Day) (u : LineRows) (k : ℕ) (out : List ℕ) (n : Bool) → n ≡ onDay day (nextDay (g .closed)) → n ≡ false → (rows : Rows) → rows ≡ t
-    → (v : Bool) → v ≡ isDay day → not v ≡ false → (b : Bool) → b ≡ dayBefore (g .closed) day → b ≡ false → Read u k → 512 ≤ length out
-    → (left : List ℕ) → left ≡ over out 0 (reportOf (linesOf u k) (recordsOf t (g .used)))
-    → _≡_ {A = Settlement} (record { code = 0; gate = g; rows = rows; report = left; size = k }) (settleRead g t clock day (linesOf u k) out)
-read-reported g t clock day u k out n en h rows er v ev c b eb y read room left el =
-    read-before g t clock day (linesOf u k) out n en h rows er v ev c b eb y (omega (arith, read .few, length-lines u k)) room left el k (sym (length-lines u k))
+      read-before y d e = e ∙ rw (← en, h, ← ev, not-false v c, ← eb, y)
 
 -- ---- a text whose lines were read
 pub text-read : (g : Gate) (t : Rows) (clock : List ℕ) (day : Day) (u : LineRows) (n : ℕ) (s out : List ℕ) → linesOf u n ≡ registryLines s

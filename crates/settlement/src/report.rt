@@ -1,7 +1,9 @@
 // The report: a byte for each line, 1 where it stands done in the table.
 use crate::reading;
-use posting::matching;
+use ledger::Reply;
 use lines::line::Line;
+use posting::matching;
+use table::Gate;
 use table::Record;
 use table::rows;
 ghost use mathlib.Core.Path.{_≡_};
@@ -10,9 +12,10 @@ ghost use Prim.Native.Nat.{_≤_};
 ghost use lib.ListN.{length};
 ghost use Rattle.texts.specs.Lists.{over};
 ghost use Rattle.table.specs.Table.{recordsOf};
-ghost use Rattle.table.specs.Lent.{before};
+ghost use Rattle.table.specs.Lent.{lent, before};
 ghost use Rattle.posting.specs.Posting.{matches, isDone};
-ghost use Rattle.settlement.specs.Settle.{anyDone, reportOf};
+ghost use Rattle.posting.specs.Steps.{Held};
+ghost use Rattle.settlement.specs.Settle.{anyDone, reportOf, settlementOf, reported};
 ghost use Rattle.settlement.specs.Lines.{linesOf, Read, linesLent, linesBefore};
 
 // Whether a record is done and the line matches it.
@@ -76,5 +79,41 @@ pub(crate) fn write_report(
         let x = reading::line_at(values, holders, days, i);
         out[i] = mark(any_done(nums, numbers, dates, used, x));
         i += 1;
+    }
+}
+
+// Writes the report of a day that was closed before; nothing is settled.
+pub(crate) fn report_day(
+    nums: &[[u64; 6]],
+    numbers: &[[u8; 30]],
+    dates: &[[[u8; 19]; 3]],
+    g: Gate,
+    values: &[[u64; 4]],
+    holders: &[[u8; 30]],
+    days: &[[u8; 19]],
+    count: usize,
+    out: &mut [u8],
+) -> Reply
+    requires { ⌜ Held g (lent nums numbers dates) 10000000000000 ⌝ }
+    requires { ⌜ Read (linesLent values holders days) count × (512 ≤ length (now out)) ⌝ }
+    ensures { λ r. ⌜ settlementOf r (before nums numbers dates) (now (out .exit))
+        ≡ reported g (before nums numbers dates) (linesOf (linesBefore values holders days) count) (now (out .entry)) ⌝ }
+{
+    let used = g.used;
+    write_report(
+        nums,
+        numbers,
+        dates,
+        used,
+        values,
+        holders,
+        days,
+        count,
+        out,
+    );
+    Reply {
+        code: 0,
+        gate: g,
+        size: count,
     }
 }

@@ -69,23 +69,7 @@ pub(crate) fn settle_read(
             size: 0,
         };
     }
-    let used = g.used;
-    report::write_report(
-        nums,
-        numbers,
-        dates,
-        used,
-        values,
-        holders,
-        days,
-        count,
-        out,
-    );
-    Reply {
-        code: 0,
-        gate: g,
-        size: count,
-    }
+    report::report_day(nums, numbers, dates, g, values, holders, days, count, out)
 }
 
 // Reads the lines of a text without a fault, once, and settles by them.

@@ -10,6 +10,7 @@ pub const ACCOUNTS_MOST: usize = 256;
 
 // The states of a record.
 pub const DONE: u64 = 1;
+
 pub const CANCELLED: u64 = 2;
 
 // A payment. While it is done, zeros stand for its cancel date.

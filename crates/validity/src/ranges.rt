@@ -1,10 +1,10 @@
 // Row 68 of the gate: whether its accounts and its closed day are in their ranges, and what a record holds by itself.
-use table::Account;
-use table::Gate;
-use table::Record;
 use dates::date;
 use fields::amount;
 use fields::codes;
+use table::Account;
+use table::Gate;
+use table::Record;
 ghost use mathlib.Core.Bool.{true, _&&_};
 ghost use mathlib.Core.Path.{_≡_};
 ghost use Prim.Native.Nat.{_<_, _≤_};
@@ -15,6 +15,7 @@ ghost use Rattle.validity.specs.Valid.{near, accountGood, gateGood, stat
 
 // The bounds of a balance: 10^13 either side.
 const BALANCE_MOST: i64 = 10000000000000;
+
 const BALANCE_LEAST: i64 = -10000000000000;
 
 // Whether a balance is no further from 0 than 10^13.

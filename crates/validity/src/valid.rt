@@ -1,12 +1,12 @@
 // Row 68: whether a lent gate and table are in their ranges. One pass over the records in use.
+use crate::ranges;
+use fields::number::Number;
+use lists::Found;
 use table::Account;
 use table::Gate;
 use table::Record;
 use table::accounts;
-use crate::ranges;
 use table::rows;
-use fields::number::Number;
-use lists::Found;
 ghost use mathlib.Core.Bool.{true, _&&_};
 ghost use mathlib.Core.Path.{_≡_};
 ghost use Prim.Native.Nat.{_<_, _≤_};

@@ -2,13 +2,13 @@
 use dates::calendar;
 use dates::calendar::Day;
 use dates::calendar::DayRead;
-use texts::digits;
-use texts::digits::Digits;
 use fields::number::Number;
-use texts::out;
-use texts::scan;
 use table::Account;
 use table::Gate;
+use texts::digits;
+use texts::digits::Digits;
+use texts::out;
+use texts::scan;
 ghost use mathlib.Core.Path.{_≡_};
 ghost use Rattle.vectors.specs.Given.{valueGiven, dayGiven, numberGiven, dateGiven, noAccounts};
 

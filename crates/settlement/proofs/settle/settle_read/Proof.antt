@@ -1,10 +1,9 @@
 use borrow.Author.Needs.{needs}
-use Rattle.settlement.proofs.DayLaws.{report-room}
-use Rattle.settlement.proofs.TextLaws.{read-next, read-no-date, read-later, read-reported}
+use Rattle.settlement.proofs.TextLaws.{read-next, read-no-date, read-later, read-before}
 use Rattle.settlement.proofs.settle.settle_read.Statement.{statement}
 use Rattle.settlement.proofs.settle.settle_read.Tie as tie
 
-ruleset laws = (read-next, read-no-date, read-later, read-reported, needs)
+ruleset laws = (read-next, read-no-date, read-later, read-before, needs)
 
 pub settle-read-spec : {M : Type 1} → statement M
 settle-read-spec =
@@ -21,7 +20,7 @@ settle-read-spec =
     (λ c. search laws)
     (λ c κs. search laws)
     (λ c. search laws)
-    (λ c κs. ((search needs, search needs, search needs, search report-room), search needs))
+    (λ c κs. search laws)
     (λ c. search laws)
     (λ c. search laws)
     (λ c. search laws)
