@@ -8,7 +8,7 @@ use message::request::Asked;
 use message::request::RequestRead;
 use payments::Details;
 use payments::Instruction;
-use rules::answering;
+use rules::answer;
 use table::Gate;
 use validity::valid;
 ghost use mathlib.Core.Path.{_≡_};
@@ -58,7 +58,7 @@ fn answer_read(
     let a = asked.action;
     let code = x.code;
     let subject = x.subject;
-    let size = write::write_answer(answering::answer_of(a, code, subject, clock), out, 0);
+    let size = write::write_answer(answer::answer_of(a, code, subject, clock), out, 0);
     let gate = x.gate;
     Reply { code, gate, size }
 }

@@ -3,7 +3,7 @@ use dates::date;
 use fields::number::Number;
 use lists::Found;
 use payments::Instruction;
-use rules::answering;
+use rules::answer;
 use rules::decision;
 use rules::decision::Decided;
 use rules::decision::Standing;
@@ -80,7 +80,7 @@ pub(crate) fn account_of(g: Gate, q: Instruction, r: Record) -> Found
     ensures { λ f. ⌜ f ≡ accountOf g q r ⌝ }
 {
     let a = q.action;
-    if answering::is_cancel(a) {
+    if answer::is_cancel(a) {
         let n = r.number;
         return accounts::find_account(g, n, r.kind);
     }
@@ -97,11 +97,7 @@ pub(crate) fn date_of(q: Instruction, r: Record) -> [u8; 19]
     let d = q.details;
     let own = d.date;
     let recorded = r.date;
-    if answering::is_cancel(a) {
-        recorded
-    } else {
-        own
-    }
+    if answer::is_cancel(a) { recorded } else { own }
 }
 
 // Whether a balance is below an amount.

@@ -1,3 +1,3 @@
 // The rules of the gate, on values alone: the decision on a request, and the answer that it gives.
-pub mod answering;
+pub mod answer;
 pub mod decision;

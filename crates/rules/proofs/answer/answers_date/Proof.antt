@@ -1,8 +1,8 @@
 use borrow.Author.Needs.{needs}
 use Rattle.rules.proofs.AnsweringLaws.{dated-at}
 use Rattle.rules.specs.Answering.{answersDate}
-use Rattle.rules.proofs.answering.answers_date.Statement.{statement}
-use Rattle.rules.proofs.answering.answers_date.Tie as tie
+use Rattle.rules.proofs.answer.answers_date.Statement.{statement}
+use Rattle.rules.proofs.answer.answers_date.Tie as tie
 
 ruleset laws = (dated-at, needs)
 

@@ -1,8 +1,8 @@
 use borrow.Author.Needs.{needs}
 use Rattle.rules.proofs.AnsweringLaws.{cancel-at}
 use Rattle.rules.specs.Answering.{isCancel}
-use Rattle.rules.proofs.answering.is_cancel.Statement.{statement}
-use Rattle.rules.proofs.answering.is_cancel.Tie as tie
+use Rattle.rules.proofs.answer.is_cancel.Statement.{statement}
+use Rattle.rules.proofs.answer.is_cancel.Tie as tie
 
 ruleset laws = (cancel-at, needs)
 

@@ -1,8 +1,8 @@
 use borrow.Author.Needs.{needs}
 use Rattle.rules.proofs.AnsweringLaws.{authcode-at}
 use Rattle.rules.specs.Answering.{answersAuthcode}
-use Rattle.rules.proofs.answering.answers_authcode.Statement.{statement}
-use Rattle.rules.proofs.answering.answers_authcode.Tie as tie
+use Rattle.rules.proofs.answer.answers_authcode.Statement.{statement}
+use Rattle.rules.proofs.answer.answers_authcode.Tie as tie
 
 ruleset laws = (authcode-at, needs)
 

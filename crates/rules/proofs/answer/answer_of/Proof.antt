@@ -1,7 +1,7 @@
 use borrow.Author.Needs.{needs}
 use Rattle.rules.proofs.AnsweringLaws.{answer-is}
-use Rattle.rules.proofs.answering.answer_of.Statement.{statement}
-use Rattle.rules.proofs.answering.answer_of.Tie as tie
+use Rattle.rules.proofs.answer.answer_of.Statement.{statement}
+use Rattle.rules.proofs.answer.answer_of.Tie as tie
 
 ruleset laws = (answer-is, needs)
 

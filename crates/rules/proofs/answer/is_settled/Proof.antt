@@ -1,7 +1,7 @@
 use borrow.Author.Needs.{needs}
 use Rattle.rules.proofs.AnsweringLaws.{settled-0, settled-7, settled-not}
-use Rattle.rules.proofs.answering.is_settled.Statement.{statement}
-use Rattle.rules.proofs.answering.is_settled.Tie as tie
+use Rattle.rules.proofs.answer.is_settled.Statement.{statement}
+use Rattle.rules.proofs.answer.is_settled.Tie as tie
 
 ruleset laws = (settled-0, settled-7, settled-not, needs)
 

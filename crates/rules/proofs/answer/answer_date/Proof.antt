@@ -1,7 +1,7 @@
 use borrow.Author.Needs.{needs}
 use Rattle.rules.proofs.AnsweringLaws.{date-7, date-other, date-cancel, date-credit}
-use Rattle.rules.proofs.answering.answer_date.Statement.{statement}
-use Rattle.rules.proofs.answering.answer_date.Tie as tie
+use Rattle.rules.proofs.answer.answer_date.Statement.{statement}
+use Rattle.rules.proofs.answer.answer_date.Tie as tie
 
 ruleset laws = (date-7, date-other, date-cancel, date-credit, needs)
 
