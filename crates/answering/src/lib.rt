@@ -124,18 +124,18 @@ pub fn take_answer(
     nums: &mut [[u64; 6]],
     numbers: &mut [[u8; 30]],
     dates: &mut [[u8; 19]],
-    b: Book,
-    a: Action,
+    book: Book,
+    action: Action,
     receipt: u64,
     text: &[u8],
 ) -> u64
-    ensures { λ r. ⌜ takingOf r (bookAfter nums numbers dates) ≡ takeAnswer b (bookBefore nums numbers dates) a receipt (now (text .entry)) ⌝ }
+    ensures { λ r. ⌜ takingOf r (bookAfter nums numbers dates) ≡ takeAnswer book (bookBefore nums numbers dates) action receipt (now (text .entry)) ⌝ }
 {
-    if !valid::book_good(nums, numbers, dates, b) {
+    if !valid::book_good(nums, numbers, dates, book) {
         return 68;
     }
-    if is_check(a) {
+    if is_check(action) {
         return take_check(text);
     }
-    take_receipt(nums, numbers, dates, b, a, receipt, text)
+    take_receipt(nums, numbers, dates, book, action, receipt, text)
 }

@@ -133,26 +133,26 @@ pub fn accept(
     nums: &mut [[u64; 6]],
     numbers: &mut [[u8; 30]],
     dates: &mut [[u8; 19]],
-    b: Book,
-    n: Number,
+    book: Book,
+    number: Number,
     kind: u64,
     kopecks: u64,
     written: [u8; 19],
 ) -> Acceptance
-    ensures { λ r. ⌜ acceptanceOf r (bookAfter nums numbers dates) ≡ accept b (bookBefore nums numbers dates) n kind kopecks written ⌝ }
+    ensures { λ r. ⌜ acceptanceOf r (bookAfter nums numbers dates) ≡ accept book (bookBefore nums numbers dates) number kind kopecks written ⌝ }
 {
-    let code = accept_fault(nums, numbers, dates, b, n, kind, kopecks, written);
+    let code = accept_fault(nums, numbers, dates, book, number, kind, kopecks, written);
     if code != 0 {
         return Acceptance {
             code,
-            book: b,
+            book,
             receipt: 0,
         };
     }
-    let used = b.used;
-    let e = made_entry(b, n, kind, kopecks, written);
+    let used = book.used;
+    let e = made_entry(book, number, kind, kopecks, written);
     rows::store_entry(nums, numbers, dates, used, e);
-    let mut next = b;
+    let mut next = book;
     next.used = used + 1;
     Acceptance {
         code: 0,

@@ -30,21 +30,21 @@ pub fn freeze(
     nums: &[[u64; 6]],
     numbers: &[[u8; 30]],
     dates: &[[u8; 19]],
-    b: Book,
+    book: Book,
     day: Day,
 ) -> Freezing
-    ensures { λ r. ⌜ r ≡ freeze b (bookBefore nums numbers dates) day ⌝ }
+    ensures { λ r. ⌜ r ≡ freeze book (bookBefore nums numbers dates) day ⌝ }
 {
-    if !valid::book_good(nums, numbers, dates, b) {
-        return Freezing { code: 68, book: b };
+    if !valid::book_good(nums, numbers, dates, book) {
+        return Freezing { code: 68, book };
     }
     if !day.is_valid() {
-        return Freezing { code: 55, book: b };
+        return Freezing { code: 55, book };
     }
-    if !may_freeze(b, day) {
-        return Freezing { code: 66, book: b };
+    if !may_freeze(book, day) {
+        return Freezing { code: 66, book };
     }
-    let mut next = b;
+    let mut next = book;
     next.frozen = day;
     next.settled = false;
     Freezing {

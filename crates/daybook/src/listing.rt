@@ -83,13 +83,13 @@ pub fn write_registry(
     nums: &[[u64; 6]],
     numbers: &[[u8; 30]],
     dates: &[[u8; 19]],
-    b: Book,
+    book: Book,
     day: Day,
     out: &mut [u8],
 ) -> Writing
-    ensures { λ r. ⌜ listingOf r (now (out .exit)) ≡ writeRegistry b (bookBefore nums numbers dates) day (now (out .entry)) ⌝ }
+    ensures { λ r. ⌜ listingOf r (now (out .exit)) ≡ writeRegistry book (bookBefore nums numbers dates) day (now (out .entry)) ⌝ }
 {
-    if !valid::book_good(nums, numbers, dates, b) {
+    if !valid::book_good(nums, numbers, dates, book) {
         return Writing { code: 68, size: 0 };
     }
     if out.len() < REGISTRY_ROOM {
@@ -98,10 +98,10 @@ pub fn write_registry(
     if !day.is_valid() {
         return Writing { code: 55, size: 0 };
     }
-    let frozen = b.frozen;
+    let frozen = book.frozen;
     if frozen.before(day) {
         return Writing { code: 55, size: 0 };
     }
-    let size = write_lines(nums, numbers, dates, b, day, out);
+    let size = write_lines(nums, numbers, dates, book, day, out);
     Writing { code: 0, size }
 }

@@ -68,34 +68,34 @@ pub fn deliver(
     nums: &mut [[u64; 6]],
     numbers: &mut [[u8; 30]],
     dates: &mut [[[u8; 19]; 3]],
-    g: Gate,
+    gate: Gate,
     clock: [u8; 19],
     params: &[u8],
     out: &mut [u8],
 ) -> Reply
-    ensures { λ r. ⌜ deliveryOf r (after nums numbers dates) (now (out .exit)) ≡ deliver g (before nums numbers dates) clock (now (params .entry)) (now (out .entry)) ⌝ }
+    ensures { λ r. ⌜ deliveryOf r (after nums numbers dates) (now (out .exit)) ≡ deliver gate (before nums numbers dates) clock (now (params .entry)) (now (out .entry)) ⌝ }
 {
-    if !valid::table_good(nums, numbers, dates, g) {
+    if !valid::table_good(nums, numbers, dates, gate) {
         return Reply {
             code: 68,
-            gate: g,
+            gate,
             size: 0,
         };
     }
     if out.len() < ANSWER_ROOM {
         return Reply {
             code: 50,
-            gate: g,
+            gate,
             size: 0,
         };
     }
     if !date::is_written(clock) {
         return Reply {
             code: 51,
-            gate: g,
+            gate,
             size: 0,
         };
     }
     let q = request::read_request(params);
-    answer_read(nums, numbers, dates, g, clock, q, out)
+    answer_read(nums, numbers, dates, gate, clock, q, out)
 }

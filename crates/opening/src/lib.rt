@@ -63,20 +63,20 @@ pub fn open_account(
     nums: &[[u64; 6]],
     numbers: &[[u8; 30]],
     dates: &[[[u8; 19]; 3]],
-    g: Gate,
-    n: Number,
+    gate: Gate,
+    number: Number,
     kind: u64,
 ) -> Reply
-    ensures { λ r. ⌜ r ≡ openAccount g (before nums numbers dates) n kind ⌝ }
+    ensures { λ r. ⌜ r ≡ openAccount gate (before nums numbers dates) number kind ⌝ }
 {
-    if !valid::table_good(nums, numbers, dates, g) {
+    if !valid::table_good(nums, numbers, dates, gate) {
         return Reply {
             code: 68,
-            gate: g,
+            gate,
             size: 0,
         };
     }
-    open_to(g, n, kind)
+    open_to(gate, number, kind)
 }
 
 fn draw_on(g: Gate, f: Found, kopecks: u64) -> Reply
@@ -130,19 +130,19 @@ pub fn draw_funds(
     nums: &[[u64; 6]],
     numbers: &[[u8; 30]],
     dates: &[[[u8; 19]; 3]],
-    g: Gate,
-    n: Number,
+    gate: Gate,
+    number: Number,
     kind: u64,
     kopecks: u64,
 ) -> Reply
-    ensures { λ r. ⌜ r ≡ drawFunds g (before nums numbers dates) n kind kopecks ⌝ }
+    ensures { λ r. ⌜ r ≡ drawFunds gate (before nums numbers dates) number kind kopecks ⌝ }
 {
-    if !valid::table_good(nums, numbers, dates, g) {
+    if !valid::table_good(nums, numbers, dates, gate) {
         return Reply {
             code: 68,
-            gate: g,
+            gate,
             size: 0,
         };
     }
-    draw_from(g, n, kind, kopecks)
+    draw_from(gate, number, kind, kopecks)
 }

@@ -112,42 +112,42 @@ pub fn settle(
     nums: &mut [[u64; 6]],
     numbers: &mut [[u8; 30]],
     dates: &mut [[[u8; 19]; 3]],
-    g: Gate,
+    gate: Gate,
     clock: [u8; 19],
     day: Day,
-    s: &[u8],
+    bytes: &[u8],
     out: &mut [u8],
 ) -> Reply
-    ensures { λ r. ⌜ settlementOf r (after nums numbers dates) (now (out .exit)) ≡ settle g (before nums numbers dates) clock day (now (s .entry)) (now (out .entry)) ⌝ }
+    ensures { λ r. ⌜ settlementOf r (after nums numbers dates) (now (out .exit)) ≡ settle gate (before nums numbers dates) clock day (now (bytes .entry)) (now (out .entry)) ⌝ }
 {
-    if !valid::table_good(nums, numbers, dates, g) {
+    if !valid::table_good(nums, numbers, dates, gate) {
         return Reply {
             code: 68,
-            gate: g,
+            gate,
             size: 0,
         };
     }
     if out.len() < REPORT_ROOM {
         return Reply {
             code: 50,
-            gate: g,
+            gate,
             size: 0,
         };
     }
     if !date::is_written(clock) {
         return Reply {
             code: 51,
-            gate: g,
+            gate,
             size: 0,
         };
     }
-    let fault = text::check_registry(day, s);
+    let fault = text::check_registry(day, bytes);
     if fault != 0 {
         return Reply {
             code: fault,
-            gate: g,
+            gate,
             size: 0,
         };
     }
-    settle_text(nums, numbers, dates, g, clock, day, s, out)
+    settle_text(nums, numbers, dates, gate, clock, day, bytes, out)
 }

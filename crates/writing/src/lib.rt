@@ -164,13 +164,13 @@ pub fn write_payment(
     nums: &mut [[u64; 6]],
     numbers: &mut [[u8; 30]],
     dates: &mut [[u8; 19]],
-    b: Book,
+    book: Book,
     receipt: u64,
     out: &mut [u8],
 ) -> Writing
-    ensures { λ r. ⌜ writingOf r (bookAfter nums numbers dates) (now (out .exit)) ≡ writeRequest b (bookBefore nums numbers dates) Payment receipt 0 (now (out .entry)) ⌝ }
+    ensures { λ r. ⌜ writingOf r (bookAfter nums numbers dates) (now (out .exit)) ≡ writeRequest book (bookBefore nums numbers dates) Payment receipt 0 (now (out .entry)) ⌝ }
 {
-    write_for(nums, numbers, dates, b, Action::Payment, receipt, 0, out)
+    write_for(nums, numbers, dates, book, Action::Payment, receipt, 0, out)
 }
 
 // Writes the status of a receipt.
@@ -178,13 +178,13 @@ pub fn write_status(
     nums: &mut [[u64; 6]],
     numbers: &mut [[u8; 30]],
     dates: &mut [[u8; 19]],
-    b: Book,
+    book: Book,
     receipt: u64,
     out: &mut [u8],
 ) -> Writing
-    ensures { λ r. ⌜ writingOf r (bookAfter nums numbers dates) (now (out .exit)) ≡ writeRequest b (bookBefore nums numbers dates) Status receipt 0 (now (out .entry)) ⌝ }
+    ensures { λ r. ⌜ writingOf r (bookAfter nums numbers dates) (now (out .exit)) ≡ writeRequest book (bookBefore nums numbers dates) Status receipt 0 (now (out .entry)) ⌝ }
 {
-    write_for(nums, numbers, dates, b, Action::Status, receipt, 0, out)
+    write_for(nums, numbers, dates, book, Action::Status, receipt, 0, out)
 }
 
 // Writes the cancel of a receipt, for a reason; its entry is cancel-asked from then on.
@@ -192,18 +192,18 @@ pub fn write_cancel(
     nums: &mut [[u64; 6]],
     numbers: &mut [[u8; 30]],
     dates: &mut [[u8; 19]],
-    b: Book,
+    book: Book,
     receipt: u64,
     reason: u64,
     out: &mut [u8],
 ) -> Writing
-    ensures { λ r. ⌜ writingOf r (bookAfter nums numbers dates) (now (out .exit)) ≡ writeRequest b (bookBefore nums numbers dates) Cancel receipt reason (now (out .entry)) ⌝ }
+    ensures { λ r. ⌜ writingOf r (bookAfter nums numbers dates) (now (out .exit)) ≡ writeRequest book (bookBefore nums numbers dates) Cancel receipt reason (now (out .entry)) ⌝ }
 {
     write_for(
         nums,
         numbers,
         dates,
-        b,
+        book,
         Action::Cancel,
         receipt,
         reason,
@@ -231,21 +231,21 @@ pub fn write_check(
     nums: &[[u64; 6]],
     numbers: &[[u8; 30]],
     dates: &[[u8; 19]],
-    b: Book,
-    n: Number,
+    book: Book,
+    number: Number,
     kind: u64,
     kopecks: u64,
     out: &mut [u8],
 ) -> Writing
-    ensures { λ r. ⌜ writingOf r (bookBefore nums numbers dates) (now (out .exit)) ≡ writeCheck b (bookBefore nums numbers dates) n kind kopecks (now (out .entry)) ⌝ }
+    ensures { λ r. ⌜ writingOf r (bookBefore nums numbers dates) (now (out .exit)) ≡ writeCheck book (bookBefore nums numbers dates) number kind kopecks (now (out .entry)) ⌝ }
 {
-    if !valid::book_good(nums, numbers, dates, b) {
+    if !valid::book_good(nums, numbers, dates, book) {
         return Writing { code: 68, size: 0 };
     }
     if out.len() < REQUEST_ROOM {
         return Writing { code: 50, size: 0 };
     }
-    let q = check_of(n, kind, kopecks);
+    let q = check_of(number, kind, kopecks);
     if !write::is_asked(q) {
         return Writing { code: 60, size: 0 };
     }
