@@ -1,8 +1,8 @@
 -- Every answer that the gate's rules allow is read back from its bytes.
 use Prim.Native.Nat.{ℕ, _≤_}
 use native.Mathlib.Omega.{arith}
-use mathlib.Core.Path.{_≡_, refl, sym, _∙_}
-use mathlib.Core.List.{List, [], _∷_, _++_, append-assoc}
+use mathlib.Core.Path.{_≡_, refl}
+use mathlib.Core.List.{List, _∷_, _++_, append-assoc}
 use mathlib.Core.Bool.{Bool, true, false, cond, not, _&&_, _||_}
 use lib.ListN.{length, drop}
 use lib.Seq.{take-append-seam, drop-append-seam, drop-append-add}
@@ -17,6 +17,7 @@ use Rattle.texts.proofs.ScanLaws.{eqList-refl}
 use Rattle.texts.proofs.DecimalLaws.{digits-again, decimal-digits}
 use Rattle.dates.proofs.DateLaws.{date-bytes, date-again}
 use Rattle.payments.specs.declared.Action.{Action}
+use Rattle.texts.proofs.FindLaws.{find-behind}
 use Rattle.payments.specs.declared.Answer.{Answer}
 use Rattle.answer_reader.specs.declared.parts.Part.{Part}
 use Rattle.answer_reader.specs.declared.parts.Part.the-variants.{Code, Authcode, Date, Message}
@@ -30,13 +31,7 @@ abbrev isClear : ℕ → Bool
 isClear b = not (eqb b 60)
 
 find-clear : (xs ys : List ℕ) → every isClear xs ≡ true → find 60 (xs ++ (60 ∷ ys)) ≡ length xs
-unfolding find every
-find-clear [] ys h = refl
-find-clear (x ∷ xs) ys h = rw (unequal (eqb x 60) (and-left (isClear x) (every isClear xs) h), find-clear xs ys (and-right (isClear x) (every isClear xs) h))
-  where
-    unequal : (t : Bool) → not t ≡ true → t ≡ false
-    unequal true e = sym e
-    unequal false e = refl
+find-clear xs ys h = find-behind isClear 60 xs ys refl h
 
 digit-clear : (b : ℕ) → isDigit b ≡ true → isClear b ≡ true
 digit-clear b h = let l : b ≤ 57 = leb-true b 57 (and-right (leb 48 b) (leb b 57) h) in rw (ne-eqb b 60 (omega arith))

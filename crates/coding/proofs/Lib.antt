@@ -1,5 +1,4 @@
 pub mod RangeLaws
-pub mod FindLaws
 pub mod UnitLaws
 pub mod WriteLaws
 pub mod CodedLaws

@@ -13,7 +13,7 @@ use Rattle.coding.specs.declared.params.Method.{Method}
 use Rattle.coding.specs.declared.params.Method.the-variants.{Get, Post}
 use Rattle.texts.specs.Lists.{find}
 use Rattle.coding.specs.Params.{paramPart, longer, splitAt}
-use Rattle.coding.proofs.FindLaws.{find-seam}
+use Rattle.texts.proofs.FindLaws.{find-seam}
 
 -- ---- where the parameters stand
 module _ (m : Method) (t b : List ℕ) where

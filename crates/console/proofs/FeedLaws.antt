@@ -13,7 +13,7 @@ use borrow.Author.Tests.{lt-ltb, eqb-true, ltb-true, ltb-false}
 use Rattle.texts.specs.Lists.{find}
 use Rattle.coding.specs.Params.{splitAt}
 use Rattle.coding.proofs.ParamLaws.{split-append, split-last}
-use Rattle.coding.proofs.FindLaws.{find-both}
+use Rattle.texts.proofs.FindLaws.{find-both}
 use Rattle.table.specs.Table.{Rows}
 use Rattle.console.specs.declared.Held.{Held}
 use Rattle.orders.specs.Order.{Turn, lineTurn, turnText}

@@ -3,12 +3,12 @@ use Prim.Native.Nat.{ℕ, _≤_, _<_}
 use native.Mathlib.Numerals.{add-one}
 use native.Mathlib.Omega.{arith}
 use mathlib.Core.Path.{_≡_, refl, sym}
-use mathlib.Core.List.{List, [], _∷_, _++_}
+use mathlib.Core.List.{List, _∷_, _++_}
 use mathlib.Core.Bool.{Bool, true, not}
 use lib.Dec.{leb, eqb}
 use lib.ListN.{length}
 use lib.Seq.{take-append-seam, drop-append-add}
-use borrow.Author.Tests.{eq-eqb, ne-eqb, leb-true, not-true}
+use borrow.Author.Tests.{eq-eqb, ne-eqb, leb-true}
 use Rattle.texts.specs.declared.digits.Digits.the-variants.{Value}
 use Rattle.fields.specs.declared.number.NumberRead.{NumberRead}
 use Rattle.texts.specs.Lists.{every, find}
@@ -22,6 +22,7 @@ use Rattle.texts.proofs.DecimalLaws.{decimal-digits}
 use Rattle.fields.proofs.CodeLaws.{receipt-again, kind-again}
 use Rattle.fields.proofs.AmountLaws.{amount-again, amount-bytes}
 use Rattle.fields.proofs.NumberLaws.{byte-above-blank, text-bytes, number-again}
+use Rattle.texts.proofs.FindLaws.{find-behind}
 use Rattle.dates.proofs.DateLaws.{date-again, date-bytes}
 use Rattle.lines.specs.declared.line.Line.{Line}
 use Rattle.lines.specs.declared.line.LineRead.{LineRead}
@@ -33,13 +34,8 @@ use Rattle.lines.proofs.LineParts.{is-line}
 abbrev pub other : ℕ → ℕ → Bool
 other b x = not (eqb x b)
 
--- ---- the first b stands behind a text without it
 find-other : (b : ℕ) (xs ys : List ℕ) → every (other b) xs ≡ true → find b (xs ++ (b ∷ ys)) ≡ length xs
-unfolding find every
-find-other b [] ys h = rw (eq-eqb b b refl)
-find-other b (x ∷ xs) ys h =
-    let p = both (other b x) (every (other b) xs) h in
-    rw (not-true (eqb x b) (p .0), find-other b xs ys (p .1))
+find-other b xs ys h = find-behind (other b) b xs ys (rw (eq-eqb b b refl)) h
 
 module _ (xs ys : List ℕ) (free : every (other 9) xs ≡ true) where
   field-seam : field (xs ++ (9 ∷ ys)) ≡ xs

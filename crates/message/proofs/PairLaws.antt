@@ -15,7 +15,7 @@ use Rattle.coding.specs.Url.{isPlain, coded}
 use Rattle.coding.specs.Units.{isByte}
 use Rattle.coding.specs.Params.{pieces}
 use Rattle.coding.proofs.RangeLaws.{above}
-use Rattle.coding.proofs.FindLaws.{tests-differ, find-absent, find-seam, find-both, find-other}
+use Rattle.texts.proofs.FindLaws.{tests-differ, find-absent, find-seam, find-both, find-other}
 use Rattle.coding.proofs.ParamLaws.{split-last, split-append}
 use Rattle.coding.proofs.CodedLaws.{coded-marks, decode-coded, coded-well, coded-plain, coded-find}
 use Rattle.parameters.specs.Names.{nameIndex}

@@ -8,10 +8,11 @@ use mathlib.Core.Bool.{Bool, true, false, cond}
 use lib.ListN.{length, take, drop, length-append, length-take, length-drop}
 use lib.Seq.{take-all}
 use lib.Dec.{eqb, leb, lit<}
-use borrow.Author.Tests.{le-leb, lt-ltb, ne-eqb, eqb-true, eqb-false, leb-true}
+use borrow.Author.Tests.{le-leb, lt-ltb, eqb-true, eqb-false, leb-true}
 use Rattle.texts.specs.declared.digits.Digits.the-variants.{Value}
 use Rattle.texts.specs.Lists.{every, find, written, cursorAfter}
 use Rattle.texts.specs.Digits.{isDigit, valueAfter, digitsRead, within, rangeRead, leadZeros, dropZeros, fixed, decimal}
+use Rattle.texts.proofs.FindLaws.{find-behind}
 use Rattle.texts.proofs.Tests.{and-left, and-right, and-then, cond-le}
 
 value-snoc : (v b : ℕ) (s : List ℕ) → valueAfter v (s ++ (b ∷ [])) ≡ valueAfter v s * 10 + (b - 48)
@@ -114,11 +115,7 @@ decimal-digits n = zeros-digits (fixed 20 n) (fixed-digits 20 n)
 
 -- the first point after digits stands behind them
 pub find-point : (xs ys : List ℕ) → every isDigit xs ≡ true → find 46 (xs ++ (46 ∷ ys)) ≡ length xs
-unfolding find every
-find-point [] ys h = refl
-find-point (x ∷ xs) ys h =
-    let l : 48 ≤ x = leb-true 48 x (and-left (leb 48 x) (leb x 57) (and-left (isDigit x) (every isDigit xs) h)) in
-    rw (ne-eqb x 46 (omega arith), find-point xs ys (and-right (isDigit x) (every isDigit xs) h))
+find-point xs ys h = find-behind isDigit 46 xs ys refl h
 
 -- ---- the digits of a number without its leading zeros, as a part of the twenty
 lead-le : (s : List ℕ) → leadZeros s ≤ length s

@@ -2,5 +2,6 @@ pub mod Tests
 pub mod ListLaws
 pub mod OutLaws
 pub mod ScanLaws
+pub mod FindLaws
 pub mod DigitLaws
 pub mod DecimalLaws

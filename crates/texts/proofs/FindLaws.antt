@@ -45,3 +45,7 @@ module _ (c : ℕ) where
   find-seam xs ys h =
       let z : find c (c ∷ ys) ≡ 0 = unfold find in rw (eq-eqb c c refl) in
       omega (arith, find-append xs (c ∷ ys) h)
+
+-- the first c stands behind a text whose bytes pass a test that refuses it
+pub find-behind : (p : ℕ → Bool) (c : ℕ) (xs ys : List ℕ) → p c ≡ false → every p xs ≡ true → find c (xs ++ (c ∷ ys)) ≡ length xs
+find-behind p c xs ys n h = find-seam c xs ys (find-absent p c xs n h)
