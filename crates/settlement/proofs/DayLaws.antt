@@ -13,11 +13,12 @@ use Rattle.table.specs.declared.Record.{Record}
 use Rattle.table.specs.Table.{Rows, recordsOf, rowsFrom}
 use Rattle.table.specs.Accounts.{withClosed}
 use Rattle.posting.specs.Posting.{Ledger}
-use Rattle.settlement.specs.Settle.{settleLines, sweptRecord, swept, reportOf, Settlement, settleDay, reported}
+use Rattle.clearing.specs.Clearing.{settleLines, sweptRecord, swept, reportOf}
+use Rattle.settlement.specs.Settle.{Settlement, settleDay, reported}
 use Rattle.posting.specs.Steps.{Left, ledgerOf}
-use Rattle.settlement.specs.Lines.{LineRows, linesOf, Read}
-use Rattle.settlement.proofs.LinesLaws.{from-from}
-use Rattle.settlement.proofs.ReadLaws.{length-lines}
+use Rattle.clearing.specs.Lines.{LineRows, linesOf, Read}
+use Rattle.clearing.proofs.LinesLaws.{from-from}
+use Rattle.clearing.proofs.ReadLaws.{length-lines}
 
 -- one byte a line
 pub report-length : (xs : List Line) (rs : List Record) → length (reportOf xs rs) ≡ length xs

@@ -23,7 +23,7 @@ use Rattle.validity.specs.Valid.{rangesGood, recordGood, authcodeGood, tableGoo
 use Rattle.validity.proofs.GoodLaws.{good-table}
 use Rattle.settlement.specs.Settle.{Settlement, reported, settleDay, settleRead, settle}
 use Rattle.posting.specs.Steps.{Held}
-use Rattle.settlement.specs.Lines.{LineRows, linesOf}
+use Rattle.clearing.specs.Lines.{LineRows, linesOf}
 
 -- ---- what the checks give to the functions behind them
 good-amount : (g : Gate) (i : ℕ) (r : Record) → recordGood g i r ≡ true → r .amount < 1000000000

@@ -1,3 +1,1 @@
 pub mod Settle
-pub mod Steps
-pub mod Lines

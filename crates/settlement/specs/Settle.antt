@@ -1,61 +1,22 @@
 -- Document 01, "Registry": settlement of the table by a day's registry.
 use Prim.Native.Nat.{ℕ}
-use mathlib.Core.List.{List, [], _∷_, map}
-use mathlib.Core.Bool.{Bool, false, cond, not, _&&_, _||_}
+use mathlib.Core.List.{List}
+use mathlib.Core.Bool.{cond, not, _&&_}
 use lib.Dec.{eqb, leb}
 use lib.ListN.{length}
 use Rattle.dates.specs.declared.calendar.Day.{Day}
 use Rattle.texts.specs.Lists.{written}
 use Rattle.dates.specs.Calendar.{isDay, dayBefore, nextDay, onDay}
-use Rattle.dates.specs.Date.{dateDay, isWritten}
+use Rattle.dates.specs.Date.{isWritten}
 use Rattle.lines.specs.declared.line.Line.{Line}
 use Rattle.registry.specs.Registry.{registryLines, registryFault}
-use Rattle.table.specs.declared.Record.{Record}
 use Rattle.table.specs.declared.Gate.{Gate}
 use Rattle.table.specs.Table.{Rows, recordsOf, rowsFrom}
-use Rattle.table.specs.Accounts.{accountsOf, findAccount, withClosed}
+use Rattle.table.specs.Accounts.{withClosed}
 use Rattle.validity.specs.Valid.{tableGood}
-use Rattle.ledger.specs.Change.{revoked, debitedAt}
 use Rattle.ledger.specs.declared.Reply.{Reply}
-use Rattle.posting.specs.Posting.{matches, isDone, Ledger, settleLine}
+use Rattle.clearing.specs.Clearing.{settleLines, swept, reportOf}
 
--- the lines in their order
-unfoldable pub settleLines : List ℕ → ℕ → List Line → Ledger → Ledger
-settleLines clock lent [] l = l
-settleLines clock lent (x ∷ xs) l = settleLines clock lent xs (settleLine clock lent x l)
-
--- ---- the sweep: what is done on the day and stands in no line is cancelled, whatever the balance
-unfoldable pub anyMatches : List Line → Record → Bool
-anyMatches [] r = false
-anyMatches (x ∷ xs) r = matches x r || anyMatches xs r
-
-unfoldable pub isStray : Day → List Line → Record → Bool
-isStray day xs r = isDone r && (onDay day (dateDay (r .date)) && not (anyMatches xs r))
-
-unfoldable pub sweptRecord : List ℕ → Day → List Line → Record → Record
-sweptRecord clock day xs r = cond (isStray day xs r) (revoked clock r) r
-
-unfoldable pub sweptGate : Day → List Line → Record → Gate → Gate
-sweptGate day xs r g = cond (isStray day xs r) (debitedAt g (findAccount (r .number) (r .kind) (accountsOf g)) (r .amount)) g
-
-unfoldable pub sweepGates : Day → List Line → List Record → Gate → Gate
-sweepGates day xs [] g = g
-sweepGates day xs (r ∷ rs) g = sweepGates day xs rs (sweptGate day xs r g)
-
-unfoldable pub swept : List ℕ → Day → List Line → Ledger → Ledger
-swept clock day xs l =
-    record { gate = sweepGates day xs (l .records) (l .gate); records = map (sweptRecord clock day xs) (l .records) }
-
--- ---- the report: a byte for each line, 1 (49) where it stands done in the table
-unfoldable pub anyDone : Line → List Record → Bool
-anyDone x [] = false
-anyDone x (r ∷ rs) = (isDone r && matches x r) || anyDone x rs
-
-unfoldable pub reportOf : List Line → List Record → List ℕ
-reportOf [] rs = []
-reportOf (x ∷ xs) rs = cond (anyDone x rs) 49 48 ∷ reportOf xs rs
-
--- ---- the call
 -- what it answers and leaves; the first `size` bytes of the buffer are the report, none with a fault
 pub record Settlement : Type 0 where
   pub code : ℕ

@@ -1,7 +1,7 @@
 // A day that is settled and closed.
-use crate::each_line;
-use crate::report;
-use crate::sweeping;
+use clearing::each_line;
+use clearing::report;
+use clearing::sweeping;
 use dates::calendar::Day;
 use ledger::Reply;
 use table::Gate;
@@ -11,7 +11,7 @@ ghost use lib.ListN.{length};
 ghost use Rattle.table.specs.Lent.{lent, before, after};
 ghost use Rattle.settlement.specs.Settle.{settlementOf, settleDay};
 ghost use Rattle.posting.specs.Steps.{Held};
-ghost use Rattle.settlement.specs.Lines.{linesOf, Read, linesLent, linesBefore};
+ghost use Rattle.clearing.specs.Lines.{linesOf, Read, linesLent, linesBefore};
 
 // Settles the day after the closed one by the lines of its registry, closes it and writes its report.
 pub(crate) fn settle_day(

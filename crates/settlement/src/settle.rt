@@ -1,7 +1,7 @@
 // A registry delivered to the gate.
 use crate::closing;
-use crate::reading;
-use crate::report;
+use clearing::reading;
+use clearing::report;
 use dates::calendar::Day;
 use dates::date;
 use ledger::Reply;
@@ -13,12 +13,48 @@ ghost use Prim.Native.Nat.{_≤_};
 ghost use lib.ListN.{length};
 ghost use Rattle.registry.specs.Registry.{lineCount, registryLines};
 ghost use Rattle.table.specs.Lent.{lent, before, after};
-ghost use Rattle.settlement.specs.Settle.{settlementOf, settleRead, settle};
+ghost use Rattle.settlement.specs.Settle.{settlementOf, reported, settleRead, settle};
 ghost use Rattle.posting.specs.Steps.{Held};
-ghost use Rattle.settlement.specs.Lines.{linesOf, Read, linesLent, linesBefore};
+ghost use Rattle.clearing.specs.Lines.{linesOf, Read, linesLent, linesBefore};
 
 // How many bytes a report's buffer has at least.
 const REPORT_ROOM: usize = 512;
+
+// Writes the report of a day that was closed before; nothing is settled.
+fn report_day(
+    nums: &[[u64; 6]],
+    numbers: &[[u8; 30]],
+    dates: &[[[u8; 19]; 3]],
+    g: Gate,
+    values: &[[u64; 4]],
+    holders: &[[u8; 30]],
+    days: &[[u8; 19]],
+    count: usize,
+    out: &mut [u8],
+) -> Reply
+    requires { ⌜ Held g (lent nums numbers dates) 10000000000000 ⌝ }
+    requires { ⌜ Read (linesLent values holders days) count × (512 ≤ length (now out)) ⌝ }
+    ensures { λ r. ⌜ settlementOf r (before nums numbers dates) (now (out .exit))
+        ≡ reported g (before nums numbers dates) (linesOf (linesBefore values holders days) count) (now (out .entry)) ⌝ }
+{
+    let used = g.used;
+    report::write_report(
+        nums,
+        numbers,
+        dates,
+        used,
+        values,
+        holders,
+        days,
+        count,
+        out,
+    );
+    Reply {
+        code: 0,
+        gate: g,
+        size: count,
+    }
+}
 
 // The lines of a registry without a fault: the day after the closed one is settled, one up to it only reported.
 pub(crate) fn settle_read(
@@ -69,7 +105,7 @@ pub(crate) fn settle_read(
             size: 0,
         };
     }
-    report::report_day(nums, numbers, dates, g, values, holders, days, count, out)
+    report_day(nums, numbers, dates, g, values, holders, days, count, out)
 }
 
 // Reads the lines of a text without a fault, once, and settles by them.

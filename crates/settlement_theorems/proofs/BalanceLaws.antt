@@ -31,7 +31,8 @@ use Rattle.gate_theorems.proofs.RowsLaws.{SameNames, names-same, names-used, na
 use Rattle.posting.specs.declared.verdict.Verdict.{Verdict}
 use Rattle.posting.specs.declared.verdict.Verdict.the-variants.{Keeps, Restores, Posts, Unposted}
 use Rattle.posting.specs.Posting.{matches, verdictOf, Ledger, applied, settleLine}
-use Rattle.settlement.specs.Settle.{settleLines, isStray, sweptGate, sweepGates, swept, Settlement, settleDay, settle}
+use Rattle.clearing.specs.Clearing.{settleLines, isStray, sweptGate, sweepGates, swept}
+use Rattle.settlement.specs.Settle.{Settlement, settleDay, settle}
 use Rattle.posting.specs.Steps.{ledgerOf}
 use Rattle.settlement_theorems.specs.Balances.{isAt, creditOf, credits, debitOf, sweptFrom, creditsOn, sweptOn}
 use Rattle.posting.proofs.HeldLaws.{post-room, verdict-post}

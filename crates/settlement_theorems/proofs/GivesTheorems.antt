@@ -19,7 +19,8 @@ use Rattle.table.specs.declared.Gate.{Gate}
 use Rattle.table.specs.declared.Record.{Record}
 use Rattle.table.specs.Table.{Rows, recordsOf}
 use Rattle.validity.specs.Valid.{tableGood}
-use Rattle.settlement.specs.Settle.{anyDone, reportOf, Settlement, settleDay, settleRead, settle}
+use Rattle.clearing.specs.Clearing.{anyDone, reportOf}
+use Rattle.settlement.specs.Settle.{Settlement, settleDay, settleRead, settle}
 use Rattle.settlement.proofs.DayLaws.{report-length}
 use Rattle.settlement_theorems.proofs.SettleLaws.{settled-by, report-now}
 

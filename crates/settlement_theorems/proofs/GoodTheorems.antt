@@ -31,7 +31,8 @@ use Rattle.gate_theorems.proofs.KeptLaws.{GateRep, GateBase, gate-facts, base-o
 use Rattle.posting.specs.declared.verdict.Verdict.{Verdict}
 use Rattle.posting.specs.declared.verdict.Verdict.the-variants.{Keeps, Restores, Posts, Unposted}
 use Rattle.posting.specs.Posting.{matches, postVerdict, verdictOf, restored, postedRecord, Ledger, applied, settleLine}
-use Rattle.settlement.specs.Settle.{settleLines, sweptRecord, swept, Settlement, settleDay, settle}
+use Rattle.clearing.specs.Clearing.{settleLines, sweptRecord, swept}
+use Rattle.settlement.specs.Settle.{Settlement, settleDay, settle}
 use Rattle.posting.proofs.HeldLaws.{post-room, verdict-post}
 use Rattle.settlement_theorems.proofs.SettleLaws.{line-onward, Passed, settle-elim, before, after, after-used}
 use Rattle.settlement_theorems.proofs.BalanceLaws.{sweep-names, settle-names}

@@ -40,7 +40,8 @@ use Rattle.gate_theorems.proofs.RowsLaws.{SameNames, names-used, names-credited
 use Rattle.posting.specs.declared.verdict.Verdict.{Verdict}
 use Rattle.posting.specs.declared.verdict.Verdict.the-variants.{Keeps, Restores, Posts, Unposted}
 use Rattle.posting.specs.Posting.{matches, detailsOf, postVerdict, verdictOf, restored, postedRecord, Ledger, applied, settleLine}
-use Rattle.settlement.specs.Settle.{settleLines, isStray, sweptRecord, swept, Settlement, settleDay, settle}
+use Rattle.clearing.specs.Clearing.{settleLines, isStray, sweptRecord, swept}
+use Rattle.settlement.specs.Settle.{Settlement, settleDay, settle}
 use Rattle.posting.proofs.HeldLaws.{post-room, post-new, verdict-post}
 use Rattle.settlement_theorems.proofs.SettleLaws.{Onward, applied-onward, line-onward, swept-onward, map-at, restores-at, settled-by, before, after, after-used}
 use Rattle.settlement_theorems.proofs.BalanceLaws.{names-credited-at}

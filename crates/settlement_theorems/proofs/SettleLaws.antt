@@ -40,7 +40,8 @@ use Rattle.posting.specs.declared.verdict.Verdict.{Verdict}
 use Rattle.posting.specs.declared.verdict.Verdict.the-variants.{Keeps, Restores, Posts, Unposted}
 use Rattle.posting.specs.Posting.{matches, isDone, postVerdict, matchVerdict, verdictOf, restored, postedRecord, Ledger, applied, settleLine}
 use Rattle.gate_theorems.proofs.RecordsLaws.{SameKey, key-equal, key-revoked}
-use Rattle.settlement.specs.Settle.{settleLines, anyMatches, isStray, sweptRecord, sweptGate, sweepGates, swept, anyDone, reportOf, Settlement, unsettled, reported, settleDay, settleRead, settle}
+use Rattle.clearing.specs.Clearing.{settleLines, anyMatches, isStray, sweptRecord, sweptGate, sweepGates, swept, anyDone, reportOf}
+use Rattle.settlement.specs.Settle.{Settlement, unsettled, reported, settleDay, settleRead, settle}
 use Rattle.settlement.proofs.DayLaws.{report-length}
 use Rattle.posting.proofs.HeldLaws.{credit-used}
 

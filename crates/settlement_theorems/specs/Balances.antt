@@ -16,7 +16,7 @@ use Rattle.table.specs.Accounts.{accountsOf, findAccount}
 use Rattle.posting.specs.declared.verdict.Verdict.{Verdict}
 use Rattle.posting.specs.declared.verdict.Verdict.the-variants.{Keeps, Restores, Posts, Unposted}
 use Rattle.posting.specs.Posting.{verdictOf, Ledger, settleLine}
-use Rattle.settlement.specs.Settle.{settleLines, isStray}
+use Rattle.clearing.specs.Clearing.{settleLines, isStray}
 use Rattle.posting.specs.Steps.{ledgerOf}
 
 unfoldable pub isAt : ℕ → Found → Bool

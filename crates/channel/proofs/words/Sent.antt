@@ -31,7 +31,8 @@ use Rattle.lists.specs.declared.Found.the-variants.{At}
 use Rattle.table.specs.Table.{recordsOf}
 use Rattle.gate.specs.Deliver.{Delivery, deliver}
 use Rattle.gate_theorems.proofs.AnsweredTheorems.{answerTo as gateAnswer, deliver-text, deliver-told, deliver-silent}
-use Rattle.settlement.specs.Settle.{reportOf, Settlement, settleDay, settle}
+use Rattle.clearing.specs.Clearing.{reportOf}
+use Rattle.settlement.specs.Settle.{Settlement, settleDay, settle}
 use Rattle.settlement.proofs.DayLaws.{report-length}
 use Rattle.settlement_theorems.proofs.SettleLaws.{settled-by, fault-keeps, report-now}
 use Rattle.book.specs.Entries.{findEntry}

@@ -1,0 +1,5 @@
+pub mod ReadLaws
+pub mod LinesLaws
+pub mod RevokeLaws
+pub mod SweepLaws
+pub mod ReportLaws

@@ -1,0 +1,54 @@
+-- Laws of a record that is revoked in its place, and its amount taken off its account.
+use Prim.Native.Nat.{ℕ, _+_, _<_}
+use native.Mathlib.Omega.{arith}
+use mathlib.Core.Path.{_≡_, refl, sym, ap, _∙_}
+use mathlib.Core.List.{List}
+use lib.IntN.{pos, _-ℤ_}
+use lib.ListN.{length, set, length-set}
+use Rattle.lists.specs.declared.Found.{Found}
+use Rattle.lists.specs.declared.Found.the-variants.{At, Nothing}
+use Rattle.table.specs.declared.Gate.{Gate}
+use Rattle.table.specs.declared.Record.{Record}
+use Rattle.table.specs.Table.{Rows, recordsOf, rowsWith}
+use Rattle.table.specs.Accounts.{accountsOf, findAccount, balanceAt, debited}
+use Rattle.table.proofs.SignedLaws.{mag-down}
+use Rattle.table.proofs.AccountLaws.{holder-within}
+use Rattle.table.proofs.TableLaws.{length-records, rows-set}
+use Rattle.table.specs.Accounts.{Funds}
+use Rattle.ledger.specs.Change.{revoked, debitedAt}
+use Rattle.ledger.proofs.ChangeLaws.{debit-used}
+use Rattle.posting.specs.Steps.{Held, Left, ledgerOf}
+use Rattle.posting.proofs.HeldLaws.{funds-more, funds-moved, small-set, held-small, Step}
+use Rattle.clearing.specs.Steps.{revokedAt}
+
+module _ (g : Gate) (b n : ℕ) (f : Funds g b) (few : n < 1000000000) where
+  funds-debited : (a : ℕ) → a < g .count → Funds (debited g a n) (b + 1000000000)
+  unfolding debited
+  funds-debited a h = funds-moved g b (b + 1000000000) f (omega arith) a (balanceAt g a -ℤ pos n) (omega (arith, mag-down (balanceAt g a) n, f .balances a h))
+
+  funds-debited-at : (k : Found) → ((a : ℕ) → k ≡ At a → a < g .count) → Funds (debitedAt g k n) (b + 1000000000)
+  funds-debited-at Nothing w = funds-more g b (b + 1000000000) f (omega arith)
+  funds-debited-at (At a) w = funds-debited a (w a refl)
+
+module _ (g : Gate) (t : Rows) (b : ℕ) (held : Held g t b) (clock : List ℕ) (r : Record) (i : ℕ) (h : i < g .used) where
+  pub revoke-step : r .amount < 1000000000 → Step t (g .used) (b + 1000000000) (revokedAt clock r i (ledgerOf g t))
+  unfolding revokedAt revoked
+  revoke-step few =
+      let rs : List Record = recordsOf t (g .used) in
+      let size : length rs ≡ g .used = length-records t (g .used) in
+      let as-long : length (set rs i (revoked clock r)) ≡ length rs = length-set rs i (revoked clock r) in
+      let room = held .whole .nums in
+      let k : Found = findAccount (r .number) (r .kind) (accountsOf g) in
+      record {
+        used = omega (arith, debit-used g k (r .amount));
+        longer = omega arith;
+        room = omega arith;
+        funds = funds-debited-at g b (r .amount) (held .funds) few k (λ a e. holder-within g (r .number) (r .kind) a k refl e);
+        small = small-set rs i (revoked clock r) (held-small g t b held) (λ _. few);
+      }
+
+  pub revoked-out : (q : Record) → q ≡ revoked clock r → (t′ : Rows) → t′ ≡ rowsWith t i q → (k : Found) → k ≡ findAccount (r .number) (r .kind) (accountsOf g)
+      → (g′ : Gate) → g′ ≡ debitedAt g k (r .amount) → Left t (revokedAt clock r i (ledgerOf g t)) g′ t′
+  unfolding revokedAt
+  revoked-out q eq t′ et k ek g′ eg =
+      record { gates = eg ∙ ap (λ (f : Found). debitedAt g f (r .amount)) ek; left = et ∙ rw eq (sym (rows-set t (g .used) (held .whole) i (revoked clock r) h)) }

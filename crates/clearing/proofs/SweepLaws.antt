@@ -1,0 +1,188 @@
+-- Laws of the sweep.
+use Prim.Native.Nat.{ℕ, zero, suc, _+_, _*_, _^_, _≤_, _<_}
+use native.Mathlib.Omega.{arith}
+use mathlib.Core.Path.{_≡_, refl, sym, ap, _∙_}
+use mathlib.Core.Bool.{Bool, true, false, not}
+use mathlib.Core.List.{List, [], _∷_, _++_, map}
+use native.Mathlib.Numerals.{add-one}
+use lib.ListN.{length, getD, take, drop, set, length-set, drop-of-length-le}
+use lib.Seq.{drop-cons}
+use Rattle.lists.proofs.ListLaws.{partly-get, partly-turn, partly-all}
+use Rattle.table.proofs.TableLaws.{length-records, getD-records, rows-kept}
+use Rattle.posting.proofs.HeldLaws.{held-more, Step, left-records, left-held}
+use Rattle.clearing.proofs.LinesLaws.{from-from}
+use Rattle.clearing.proofs.RevokeLaws.{revoke-step}
+use Rattle.posting.proofs.PostLaws.{at-nums, at-numbers, at-dates}
+use Rattle.clearing.proofs.ReadLaws.{next-line, last-line}
+use borrow.Author.Tests.{eq-eqb, ne-eqb, not-true, not-false}
+use Rattle.dates.specs.declared.calendar.Day.{Day}
+use Rattle.dates.specs.Calendar.{onDay}
+use Rattle.dates.specs.Date.{dateDay}
+use Rattle.lines.specs.declared.line.Line.{Line}
+use Rattle.table.specs.declared.Gate.{Gate}
+use Rattle.table.specs.declared.Record.{Record}
+use Rattle.table.specs.Table.{Rows, recordAt, recordsOf, rowsFrom}
+use Rattle.table.specs.Table.{noRecord}
+use Rattle.ledger.specs.Change.{revoked}
+use Rattle.posting.specs.Posting.{matches, Ledger}
+use Rattle.clearing.specs.Clearing.{anyMatches, isStray, sweptRecord, sweptGate, sweepGates, swept}
+use Rattle.clearing.specs.Lines.{LineRows, lineAt, linesOf}
+use Rattle.posting.specs.Steps.{Held, Left, ledgerOf}
+use Rattle.clearing.specs.Steps.{revokedAt}
+
+-- ---- whether any line matches a record
+module _ (u : LineRows) (n : ℕ) (r : Record) (i : ℕ) (passed : anyMatches (linesOf u n) r ≡ anyMatches (drop i (linesOf u n)) r) where
+  pub any-none : n ≤ i → false ≡ anyMatches (linesOf u n) r
+  unfolding anyMatches
+  any-none h = sym (passed ∙ rw (last-line u n i h))
+
+  module _ (x : Line) (ex : x ≡ lineAt u i) (b : Bool) (eb : b ≡ matches x r) (h : i < n) where
+    pub any-here : b ≡ true → true ≡ anyMatches (linesOf u n) r
+    unfolding anyMatches
+    any-here y = sym (passed ∙ rw (next-line u n i x ex h, ← eb, y))
+
+    pub any-pass : b ≡ false → anyMatches (linesOf u n) r ≡ anyMatches (drop (i + 1) (linesOf u n)) r
+    unfolding anyMatches
+    any-pass y = passed ∙ rw (next-line u n i x ex h, ← eb, y)
+
+-- ---- whether a record is a stray
+module _ (day : Day) (xs : List Line) (r : Record) where
+  pub not-done : (r .state ≡ 1 → ⊥) → false ≡ isStray day xs r
+  unfolding isStray
+  not-done d = rw (ne-eqb _ _ d)
+
+  module _ (done : r .state ≡ 1) (s : Bool) (es : s ≡ onDay day (dateDay (r .date))) where
+    pub other-day : not s ≡ true → false ≡ isStray day xs r
+    unfolding isStray
+    other-day n = rw (eq-eqb _ _ done, ← es, not-true s n)
+
+    pub of-day : not s ≡ false → (b : Bool) → b ≡ anyMatches xs r → not b ≡ isStray day xs r
+    unfolding isStray
+    of-day n b eb = rw (eq-eqb _ _ done, ← es, not-false s n, eb)
+
+set-same : (rs : List Record) (i : ℕ) (z : Record) → set rs i (getD rs i z) ≡ rs
+set-same [] i z = refl
+set-same (r ∷ rs) zero z = refl
+set-same (r ∷ rs) (suc i) z = ap (λ (l : List Record). r ∷ l) (set-same rs i z)
+
+-- ---- a sweep that has passed i records
+pub record Sweeping (clock : List ℕ) (day : Day) (xs : List Line) (t₀ : Rows) (g₀ : Gate) (t : Rows) (g : Gate) (i : ℕ) : Type 0 where
+  pub gates : sweepGates day xs (recordsOf t₀ (g₀ .used)) g₀ ≡ sweepGates day xs (drop i (recordsOf t₀ (g₀ .used))) g
+  pub records : recordsOf t (g .used) ≡ map (sweptRecord clock day xs) (take i (recordsOf t₀ (g₀ .used))) ++ drop i (recordsOf t₀ (g₀ .used))
+  pub rows : t ≡ rowsFrom t₀ (recordsOf t (g .used))
+  pub held : Held g t (11000000000000 + i * 1000000000)
+  pub used : g .used ≡ g₀ .used
+
+pub sweeping-start : (clock : List ℕ) (day : Day) (xs : List Line) (t : Rows) (g : Gate) → Held g t 11000000000000 → Sweeping clock day xs t g t g 0
+sweeping-start clock day xs t g held =
+    record {
+      gates = refl;
+      records = refl;
+      rows = sym (rows-kept t (g .used) (held .whole));
+      held = held-more g t 11000000000000 (11000000000000 + 0 * 1000000000) held (omega arith);
+      used = refl;
+    }
+
+module _ (clock : List ℕ) (day : Day) (xs : List Line) (t₀ : Rows) (g₀ : Gate) (t : Rows) (g : Gate) (i : ℕ) (going : Sweeping clock day xs t₀ g₀ t g i) where
+  pub sweeping-last : i ≤ g₀ .used → Held g t 16000000000000
+  sweeping-last h =
+      held-more g t (11000000000000 + i * 1000000000) 16000000000000 (going .held) (omega (arith, going .used, going .held .whole .nums, going .held .size))
+
+  pub sweeping-held : i < g₀ .used → Held g t 10000000000000000
+  sweeping-held h = held-more g t 16000000000000 10000000000000000 (sweeping-last (omega arith)) (omega arith)
+
+  pub sweeping-place : i < g₀ .used → i < g .used
+  sweeping-place h = omega (arith, going .used)
+
+  pub sweeping-fits : i < g₀ .used → i + 1 < 2 ^ 64
+  sweeping-fits h = omega (arith, going .used, going .held .whole .nums, going .held .size)
+
+  pub sweeping-nums : i < g₀ .used → i < length (t .nums)
+  sweeping-nums h = at-nums g t _ (going .held) i (sweeping-place h)
+
+  pub sweeping-numbers : i < g₀ .used → i < length (t .numbers)
+  sweeping-numbers h = at-numbers g t _ (going .held) i (sweeping-place h)
+
+  pub sweeping-dates : i < g₀ .used → i < length (t .dates)
+  sweeping-dates h = at-dates g t _ (going .held) i (sweeping-place h)
+
+  pub sweeping-end : g₀ .used ≤ i → Left t₀ (swept clock day xs (ledgerOf g₀ t₀)) g t
+  unfolding swept sweepGates
+  sweeping-end h =
+      let rs : List Record = recordsOf t₀ (g₀ .used) in
+      let n : length rs ≤ i = omega (arith, length-records t₀ (g₀ .used)) in
+      let e : sweepGates day xs rs g₀ ≡ g = going .gates ∙ rw (drop-of-length-le rs n) in
+      record { gates = sym e; left = going .rows ∙ ap (rowsFrom t₀) (going .records ∙ partly-all (sweptRecord clock day xs) rs i n) }
+
+  pub sweeping-ledger : g₀ .used ≤ i → swept clock day xs (ledgerOf g₀ t₀) ≡ ledgerOf g t
+  unfolding swept sweepGates
+  sweeping-ledger h =
+      let rs : List Record = recordsOf t₀ (g₀ .used) in
+      let n : length rs ≤ i = omega (arith, length-records t₀ (g₀ .used)) in
+      let e : sweepGates day xs rs g₀ ≡ g = going .gates ∙ rw (drop-of-length-le rs n) in
+      let k : recordsOf t (g .used) ≡ map (sweptRecord clock day xs) rs = going .records ∙ partly-all (sweptRecord clock day xs) rs i n in
+      ap (λ (y : Gate). record { gate = y; records = map (sweptRecord clock day xs) rs }) e ∙ ap (λ (y : List Record). record { gate = g; records = y }) (sym k)
+
+  -- the record at i is passed: what becomes of it is what the sweep says
+  module _ (h : i < g₀ .used) (r : Record) (er : r ≡ recordAt t i) where
+    below : i < length (recordsOf t₀ (g₀ .used))
+    below = omega (arith, length-records t₀ (g₀ .used))
+
+    there : getD (recordsOf t₀ (g₀ .used)) i noRecord ≡ r
+    there =
+        sym (ap (λ (y : List Record). getD y i noRecord) (going .records) ∙ partly-get (sweptRecord clock day xs) (recordsOf t₀ (g₀ .used)) i noRecord below)
+        ∙ getD-records t (g .used) i noRecord (sweeping-place h) ∙ sym er
+
+    pub sweeping-small : r .amount < 1000000000
+    sweeping-small = let a : r .amount ≡ (recordAt t i) .amount = ap (λ (q : Record). q .amount) er in omega (arith, going .held .small i (sweeping-place h))
+
+    gates-on : (g′ : Gate) → g′ ≡ sweptGate day xs r g → sweepGates day xs (recordsOf t₀ (g₀ .used)) g₀ ≡ sweepGates day xs (drop (i + 1) (recordsOf t₀ (g₀ .used))) g′
+    unfolding sweepGates
+    gates-on g′ e =
+        let rs₀ : List Record = recordsOf t₀ (g₀ .used) in
+        let next : drop i rs₀ ≡ r ∷ drop (i + 1) rs₀ = drop-cons rs₀ i noRecord below ∙ rw (there, add-one i) in
+        going .gates ∙ ap (λ (y : List Record). sweepGates day xs y g) next ∙ ap (sweepGates day xs (drop (i + 1) rs₀)) (sym e)
+
+    records-on : (rs : List Record) → rs ≡ set (recordsOf t (g .used)) i (sweptRecord clock day xs r)
+        → rs ≡ map (sweptRecord clock day xs) (take (i + 1) (recordsOf t₀ (g₀ .used))) ++ drop (i + 1) (recordsOf t₀ (g₀ .used))
+    records-on rs e =
+        let rs₀ : List Record = recordsOf t₀ (g₀ .used) in
+        let f : Record → Record = sweptRecord clock day xs in
+        e ∙ ap (λ (y : List Record). set y i (f r)) (going .records) ∙ ap (λ (q : Record). set (map f (take i rs₀) ++ drop i rs₀) i (f q)) (sym there) ∙ partly-turn f rs₀ i noRecord below
+
+    module _ (s : Bool) (es : s ≡ isStray day xs r) where
+      pub sweeping-skip : not s ≡ true → Sweeping clock day xs t₀ g₀ t g (i + 1)
+      unfolding sweptRecord sweptGate
+      sweeping-skip e =
+          let n : isStray day xs r ≡ false = sym es ∙ not-true s e in
+          let own : getD (recordsOf t (g .used)) i noRecord ≡ r = getD-records t (g .used) i noRecord (sweeping-place h) ∙ sym er in
+          let kept : recordsOf t (g .used) ≡ set (recordsOf t (g .used)) i r = sym (rw (← own) (set-same (recordsOf t (g .used)) i noRecord)) in
+          record {
+            gates = gates-on g (rw n);
+            records = records-on (recordsOf t (g .used)) (rw n kept);
+            rows = going .rows;
+            held = held-more g t (11000000000000 + i * 1000000000) (11000000000000 + (i + 1) * 1000000000) (going .held) (omega arith);
+            used = going .used;
+          }
+
+      pub sweeping-on : not s ≡ false → (g′ : Gate) (t′ : Rows) → Left t (revokedAt clock r i (ledgerOf g t)) g′ t′ → Sweeping clock day xs t₀ g₀ t′ g′ (i + 1)
+      unfolding sweptRecord sweptGate revokedAt
+      sweeping-on e g′ t′ left =
+          let y : isStray day xs r ≡ true = sym es ∙ not-false s e in
+          let rs : List Record = recordsOf t (g .used) in
+          let b : ℕ = 11000000000000 + i * 1000000000 in
+          let l : Ledger = revokedAt clock r i (ledgerOf g t) in
+          let step : Step t (g .used) (b + 1000000000) l =
+          revoke-step g t b (going .held) clock r i (sweeping-place h) sweeping-small in
+          let same : recordsOf t′ (g′ .used) ≡ set rs i (revoked clock r) = left-records t (g .used) (b + 1000000000) l step g′ t′ left in
+          let size : length (set rs i (revoked clock r)) ≡ length rs = length-set rs i (revoked clock r) in
+          let used : g′ .used ≡ length (set rs i (revoked clock r)) = ap (λ (y : Gate). y .used) (left .gates) ∙ step .used in
+          record {
+            gates = gates-on g′ (left .gates ∙ rw y);
+            records = records-on (recordsOf t′ (g′ .used)) (same ∙ rw y);
+            rows = left .left ∙ ap (λ (y : Rows). rowsFrom y (set rs i (revoked clock r))) (going .rows)
+                ∙ from-from t₀ rs (set rs i (revoked clock r)) (omega arith) ∙ ap (rowsFrom t₀) (sym same);
+            held = held-more g′ t′ (b + 1000000000) (11000000000000 + (i + 1) * 1000000000)
+                (left-held t (g .used) (b + 1000000000) l step g′ t′ left g b (going .held)) (omega arith);
+            used = omega (arith, length-records t (g .used), going .used);
+          }

@@ -1,0 +1,119 @@
+// The sweep: what is done on the day and stands in no line is cancelled.
+use crate::reading;
+use dates::calendar::Day;
+use dates::date;
+use ledger::change;
+use posting::matching;
+use table::Gate;
+use table::Record;
+use table::accounts;
+use table::rows;
+ghost use mathlib.Core.Path.{_≡_};
+ghost use Prim.Native.Nat.{_<_};
+ghost use Rattle.table.specs.Lent.{lent, before, after};
+ghost use Rattle.posting.specs.Posting.{Ledger};
+ghost use Rattle.clearing.specs.Clearing.{anyMatches, isStray, swept};
+ghost use Rattle.posting.specs.Steps.{Held, Left, ledgerOf};
+ghost use Rattle.clearing.specs.Steps.{revokedAt};
+ghost use Rattle.clearing.specs.Lines.{linesOf, Read, linesLent, linesBefore};
+
+// Whether any line matches the record.
+pub fn any_matches(
+    values: &[[u64; 4]],
+    holders: &[[u8; 30]],
+    days: &[[u8; 19]],
+    count: usize,
+    r: Record,
+) -> bool
+    requires { ⌜ Read (linesLent values holders days) count ⌝ }
+    ensures { λ b. ⌜ b ≡ anyMatches (linesOf (linesBefore values holders days) count) r ⌝ }
+{
+    let mut i: usize = 0;
+    while i < count {
+        let x = reading::line_at(values, holders, days, i);
+        if matching::matches_record(x, r) {
+            return true;
+        }
+        i += 1;
+    }
+    false
+}
+
+// Whether a record is done, of the day, and matched by no line.
+pub fn is_stray(
+    r: Record,
+    day: Day,
+    values: &[[u64; 4]],
+    holders: &[[u8; 30]],
+    days: &[[u8; 19]],
+    count: usize,
+) -> bool
+    requires { ⌜ Read (linesLent values holders days) count ⌝ }
+    ensures { λ b. ⌜ b ≡ isStray day (linesOf (linesBefore values holders days) count) r ⌝ }
+{
+    if r.state != table::DONE {
+        return false;
+    }
+    let d = r.date;
+    if !date::is_on(day, d) {
+        return false;
+    }
+    !any_matches(values, holders, days, count, r)
+}
+
+// Cancels the record r at i, and takes its amount off its account, where it is known.
+pub fn revoke_at(
+    nums: &mut [[u64; 6]],
+    numbers: &mut [[u8; 30]],
+    dates: &mut [[[u8; 19]; 3]],
+    g: Gate,
+    clock: [u8; 19],
+    r: Record,
+    i: usize,
+) -> Gate
+    requires { ⌜ Held g (lent nums numbers dates) 10000000000000000 × (i < g .used) × (r .amount < 1000000000) ⌝ }
+    ensures { λ x. ⌜ Left (before nums numbers dates)
+        (revokedAt clock r i (ledgerOf g (before nums numbers dates)))
+        x (after nums numbers dates) ⌝ }
+{
+    rows::store(nums, numbers, dates, i, change::revoke_record(clock, r));
+    let n = r.number;
+    let account = accounts::find_account(g, n, r.kind);
+    change::debit_at(g, account, r.amount)
+}
+
+// Sweeps every used record.
+pub fn sweep(
+    nums: &mut [[u64; 6]],
+    numbers: &mut [[u8; 30]],
+    dates: &mut [[[u8; 19]; 3]],
+    g: Gate,
+    clock: [u8; 19],
+    day: Day,
+    values: &[[u64; 4]],
+    holders: &[[u8; 30]],
+    days: &[[u8; 19]],
+    count: usize,
+) -> Gate
+    requires { ⌜ Held g (lent nums numbers dates) 11000000000000 × Read (linesLent values holders days) count ⌝ }
+    ensures { λ r. ⌜ Left (before nums numbers dates)
+        (swept clock day (linesOf (linesBefore values holders days) count) (ledgerOf g (before nums numbers dates)))
+        r (after nums numbers dates) ⌝ }
+    ensures { λ r. ⌜ Held r (after nums numbers dates) 16000000000000 ⌝ }
+    ensures { λ r. ⌜ _≡_ {A = Ledger} (swept clock day (linesOf (linesBefore values holders days) count) (ledgerOf g (before nums numbers dates)))
+        (ledgerOf r (after nums numbers dates)) ⌝ }
+{
+    let used = g.used;
+    let mut gate = g;
+    let mut i: usize = 0;
+    while i < used {
+        let r = rows::load(nums, numbers, dates, i);
+        if !is_stray(r, day, values, holders, days, count) {
+            i += 1;
+            continue;
+        }
+        gate = revoke_at(nums, numbers, dates, gate, clock, r, i);
+        i += 1;
+    }
+    gate
+}
