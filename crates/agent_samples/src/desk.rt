@@ -14,7 +14,6 @@ use table::Gate;
 use texts::scan;
 use vectors::given;
 use vectors::line;
-use vectors::show;
 ghost use mathlib.Core.Path.{_≡_};
 ghost use Prim.Native.Nat.{_<_};
 ghost use lib.ListN.{length};
@@ -30,6 +29,12 @@ pub struct Desk {
 pub enum Sent {
     Request(Action),
     Registry,
+}
+
+// A name and a number, printed.
+pub fn named(name: &[u8], n: u64) {
+    io::write_all(1, name);
+    io::print_decimal(1, n);
 }
 
 // A request by its action's word, with or without more behind a hyphen, or else a registry.
@@ -91,9 +96,9 @@ pub fn accept(
         given::date(scan::after_byte(third, 32)),
     );
     let b = r.book;
-    show::number(r.code);
-    show::named(b" ", r.receipt);
-    show::named(b" ", b.used as u64);
+    io::print_decimal(1, r.code);
+    named(b" ", r.receipt);
+    named(b" ", b.used as u64);
     with_book(d, b)
 }
 
@@ -111,7 +116,7 @@ pub fn accept_many(
     let mut i: u64 = 0;
     while i < n {
         next = accept(rest, nums, numbers, dates, next);
-        show::text(b";");
+        io::write_all(1, b";");
         i += 1;
     }
     next
@@ -213,7 +218,7 @@ pub fn write(
         d.book,
         &mut out,
     );
-    show::number(r.code);
+    io::print_decimal(1, r.code);
     show_behind(scan::first_bytes(&out, r.size));
     d
 }
@@ -221,8 +226,8 @@ pub fn write(
 // A text behind a space, if it has bytes.
 fn show_behind(s: &[u8]) {
     if 0 < s.len() {
-        show::text(b" ");
-        show::text(s);
+        io::write_all(1, b" ");
+        io::write_all(1, s);
     }
 }
 
@@ -251,9 +256,9 @@ fn show_settled(what: Sent, b: Book) {
         Sent::Request(_) => {}
         Sent::Registry => {
             if b.settled {
-                show::text(b" settled");
+                io::write_all(1, b" settled");
             } else {
-                show::text(b" unsettled");
+                io::write_all(1, b" unsettled");
             }
         }
     }
@@ -278,7 +283,7 @@ pub fn taken(
         d.book,
     );
     let b = r.book;
-    show::number(r.code);
+    io::print_decimal(1, r.code);
     show_settled(what, b);
     with_book(d, b)
 }
@@ -293,7 +298,7 @@ pub fn freeze(
 ) -> Desk {
     let r = freezing::freeze(nums, numbers, dates, d.book, given::day(s));
     let b = r.book;
-    show::number(r.code);
+    io::print_decimal(1, r.code);
     with_book(d, b)
 }
 
@@ -310,9 +315,9 @@ pub fn entry(
         return d;
     }
     let e = rows::load_entry(nums, numbers, dates, i);
-    show::number(e.receipt);
-    show::named(b" ", e.state);
-    show::named(b" ", e.authcode);
+    io::print_decimal(1, e.receipt);
+    named(b" ", e.state);
+    named(b" ", e.authcode);
     d
 }
 

@@ -9,7 +9,6 @@ use table::Gate;
 use table::rows;
 use texts::scan;
 use vectors::given;
-use vectors::show;
 
 // A gate closed on the book's frozen day, with a table of so many records.
 pub fn start(s: &[u8], d: Desk) -> Desk {
@@ -35,7 +34,7 @@ fn with_gate(d: Desk, g: Gate) -> Desk {
 
 // An opening or a draw: its code.
 fn called(d: Desk, r: Reply) -> Desk {
-    show::number(r.code);
+    io::print_decimal(1, r.code);
     let g = r.gate;
     with_gate(d, g)
 }
@@ -120,12 +119,12 @@ fn come_back(
     d: Desk,
 ) -> Desk {
     let r = desk::take(what, s, text, nums, numbers, dates, d.book);
-    show::named(b" ", r.code);
+    desk::named(b" ", r.code);
     match what {
         Sent::Request(_) => {}
         Sent::Registry => {
-            show::text(b" ");
-            show::text(text);
+            io::write_all(1, b" ");
+            io::write_all(1, text);
         }
     }
     let b = r.book;
@@ -162,7 +161,7 @@ fn send_on(
 ) -> Desk {
     let mut back = [46u8; 512];
     let r = at_gate(what, s, text, table, owners, times, d.gate, &mut back);
-    show::named(b" ", r.code);
+    desk::named(b" ", r.code);
     let g = r.gate;
     let next = with_gate(d, g);
     if lost {
@@ -195,7 +194,7 @@ pub fn exchange(
     let s = behind(k, line);
     let mut sent = desk::points();
     let w = desk::write_into(what, 65536, s, nums, numbers, dates, d.book, &mut sent);
-    show::number(w.code);
+    io::print_decimal(1, w.code);
     if w.code != 0 {
         return d;
     }
@@ -221,7 +220,7 @@ pub fn record(s: &[u8], table: &[[u64; 6]], owners: &[[u8; 30]], times: &[[[u8; 
         return;
     }
     let r = rows::load(table, owners, times, i);
-    show::number(r.receipt);
-    show::named(b" ", r.state);
-    show::named(b" ", r.authcode);
+    io::print_decimal(1, r.receipt);
+    desk::named(b" ", r.state);
+    desk::named(b" ", r.authcode);
 }

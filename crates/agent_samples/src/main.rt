@@ -7,7 +7,6 @@ use desk::Desk;
 use texts::scan;
 use vectors::given;
 use vectors::line;
-use vectors::show;
 ghost use mathlib.Core.Path.{_≡_};
 ghost use lib.ListN.{length};
 
@@ -41,12 +40,12 @@ fn answer_line(
     times: &mut [[[u8; 19]; 3]],
     d: Desk,
 ) -> Desk {
-    show::text(line);
+    io::write_all(1, line);
     if line::is_heading(line) {
-        show::text(b"\n");
+        io::write_all(1, b"\n");
         return d;
     }
-    show::text(b": ");
+    io::write_all(1, b": ");
     let n = line::least(d.lent, nums.len());
     let m = line::least(d.lent, numbers.len());
     let k = line::least(d.lent, dates.len());
@@ -64,7 +63,7 @@ fn answer_line(
         &mut times[..q],
         d,
     );
-    show::text(b"\n");
+    io::write_all(1, b"\n");
     next
 }
 
@@ -98,7 +97,7 @@ fn main() {
     let mut times = [[[0u8; 19]; 3]; 8];
     let n = io::read_full(0, &mut buffer);
     if n == buffer.len() {
-        show::text(b"the input is too long\n");
+        io::write_all(1, b"the input is too long\n");
         return;
     }
     lines(

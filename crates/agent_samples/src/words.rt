@@ -5,7 +5,6 @@ use crate::desk::Sent;
 use crate::ends;
 use texts::scan;
 use vectors::line;
-use vectors::show;
 
 // Runs a word that the gate takes part in, or else one of the agent's.
 pub fn answer(
@@ -94,7 +93,7 @@ fn look(
         13 => desk::freeze(text, nums, numbers, dates, d),
         14 => desk::entry(text, nums, numbers, dates, d),
         _ => {
-            show::text(b"unknown word");
+            io::write_all(1, b"unknown word");
             d
         }
     }

@@ -12,12 +12,11 @@ use texts::digits::Digits;
 use texts::out;
 use texts::scan;
 use vectors::given;
-use vectors::show;
 
 // The answer to an action.
 pub fn answer(s: &[u8]) {
     let ActionRead::Known(a) = action::read_action(scan::before_byte(s, 32)) else {
-        show::text(b"unknown action");
+        io::write_all(1, b"unknown action");
         return;
     };
     show_read(read::read_answer(a, scan::after_byte(s, 32)));
@@ -46,19 +45,19 @@ fn show_read(r: AnswerRead) {
         let x = r.answer;
         show_answer(x);
     } else {
-        show::text(b"unreadable");
+        io::write_all(1, b"unreadable");
     }
 }
 
 fn show_answer(x: Answer) {
-    show::named(b"code=", x.code);
+    print::named(b"code=", x.code);
     if x.authorized {
-        show::named(b" authcode=", x.authcode);
+        print::named(b" authcode=", x.authcode);
     }
     if x.dated {
         let date = x.date;
-        show::text(b" date=");
-        show::text(&date);
+        io::write_all(1, b" date=");
+        io::write_all(1, &date);
     }
 }
 
@@ -75,7 +74,7 @@ pub fn write_answer(s: &[u8]) {
     };
     let mut space = [0u8; 512];
     let n = write::write_answer(x, &mut space, 0);
-    show::text(scan::first_bytes(&space, n));
+    io::write_all(1, scan::first_bytes(&space, n));
 }
 
 fn is_given(s: &[u8]) -> bool {

@@ -9,7 +9,6 @@ use texts::digits;
 use texts::digits::Digits;
 use texts::scan;
 use vectors::given;
-use vectors::show;
 
 // The fields of a request, split by spaces: number, type, kopecks, receipt, date and reason.
 fn fields_of(action: Action, s: &[u8]) -> Asked {
@@ -33,16 +32,16 @@ fn fields_of(action: Action, s: &[u8]) -> Asked {
 // The text of a request.
 pub fn write_request(s: &[u8]) {
     let ActionRead::Known(a) = action::read_action(scan::before_byte(s, 32)) else {
-        show::text(b"unknown action");
+        io::write_all(1, b"unknown action");
         return;
     };
     let q = fields_of(a, scan::after_byte(s, 32));
     let mut space = [0u8; 512];
     let n = write::write_request(q, &mut space, 0);
     if n == 0 {
-        show::text(b"refused");
+        io::write_all(1, b"refused");
     } else {
-        show::text(scan::first_bytes(&space, n));
+        io::write_all(1, scan::first_bytes(&space, n));
     }
 }
 
@@ -68,9 +67,9 @@ pub fn write_request_at(s: &[u8]) {
 
 fn show_cursor(s: &[u8], dst: &mut [u8], at: usize) {
     let ActionRead::Known(a) = action::read_action(scan::before_byte(s, 32)) else {
-        show::text(b"unknown action");
+        io::write_all(1, b"unknown action");
         return;
     };
     let q = fields_of(a, scan::after_byte(s, 32));
-    show::number(write::write_request(q, dst, at) as u64);
+    io::print_decimal(1, write::write_request(q, dst, at) as u64);
 }

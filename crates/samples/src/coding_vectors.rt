@@ -4,7 +4,6 @@ use coding::params;
 use coding::params::Method;
 use coding::url;
 use texts::scan;
-use vectors::show;
 
 // The parameters of `GET` and a target, or of `POST` and a body, in brackets.
 pub fn parameters(s: &[u8]) {
@@ -21,16 +20,16 @@ pub fn parameters(s: &[u8]) {
 }
 
 fn bracketed(s: &[u8]) {
-    show::text(b"[");
-    show::text(s);
-    show::text(b"]");
+    io::write_all(1, b"[");
+    io::write_all(1, s);
+    io::write_all(1, b"]");
 }
 
 // The bytes of s, url-coded.
 pub fn coded(s: &[u8]) {
     let mut space = io::buffer();
     let n = url::write_coded(s, &mut space, 0);
-    show::text(scan::first_bytes(&space, n));
+    io::write_all(1, scan::first_bytes(&space, n));
 }
 
 // The bytes that s codes.
@@ -40,6 +39,6 @@ pub fn decoded(s: &[u8]) {
         let n = url::decode(s, &mut space);
         print::bytes(scan::first_bytes(&space, n));
     } else {
-        show::text(b"bad escape");
+        io::write_all(1, b"bad escape");
     }
 }

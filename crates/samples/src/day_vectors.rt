@@ -4,13 +4,14 @@ use dates::calendar;
 use dates::calendar::DayRead;
 use dates::date;
 use texts::scan;
-use vectors::show;
 
 // A day, or the words for none.
 fn show_day(r: DayRead, none: &[u8]) {
     match r {
         DayRead::Good(d) => print::day(d),
-        DayRead::NoDate => show::text(none),
+        DayRead::NoDate => {
+            io::write_all(1, none);
+        }
     }
 }
 
@@ -21,8 +22,8 @@ pub fn written_date(s: &[u8]) {
         let d = r.date;
         let mut space = [0u8; 19];
         let n = date::write_date(d, &mut space, 0);
-        show::text(scan::first_bytes(&space, n));
-        show::text(b" ");
+        io::write_all(1, scan::first_bytes(&space, n));
+        io::write_all(1, b" ");
         show_day(date::day_of_date(d), b"no date");
     } else {
         print::fault(5);
@@ -37,7 +38,7 @@ pub fn day(s: &[u8]) {
 // The day after one.
 pub fn next(s: &[u8]) {
     let DayRead::Good(d) = calendar::read_day(s) else {
-        show::text(b"no date");
+        io::write_all(1, b"no date");
         return;
     };
     show_day(d.next(), b"none");
@@ -46,16 +47,16 @@ pub fn next(s: &[u8]) {
 // Whether the first of two days, split by a space, comes before the second.
 pub fn before(s: &[u8]) {
     let DayRead::Good(a) = calendar::read_day(scan::before_byte(s, 32)) else {
-        show::text(b"no date");
+        io::write_all(1, b"no date");
         return;
     };
     let DayRead::Good(b) = calendar::read_day(scan::after_byte(s, 32)) else {
-        show::text(b"no date");
+        io::write_all(1, b"no date");
         return;
     };
     if a.before(b) {
-        show::text(b"yes");
+        io::write_all(1, b"yes");
     } else {
-        show::text(b"no");
+        io::write_all(1, b"no");
     }
 }

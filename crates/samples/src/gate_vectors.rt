@@ -14,7 +14,6 @@ use texts::digits::Digits;
 use texts::scan;
 use vectors::given;
 use vectors::line;
-use vectors::show;
 
 // Shows what a call answered, and hands back the world that it left.
 fn answered(w: World, r: Reply) -> World {
@@ -84,7 +83,7 @@ fn open_many(
         g = r.gate;
         i += 1;
     }
-    show::number(code);
+    io::print_decimal(1, code);
     world::with_gate(w, g)
 }
 
@@ -172,12 +171,12 @@ pub fn send(
 // The bytes that were written into a buffer of points, and a word where another byte is no point any more.
 fn show_written(out: &[u8], size: usize) {
     if 0 < size {
-        show::text(b" ");
-        show::text(scan::first_bytes(out, size));
+        io::write_all(1, b" ");
+        io::write_all(1, scan::first_bytes(out, size));
     }
     let points = [46u8; 512];
     if !scan::same_bytes(scan::bytes_from(out, size), scan::bytes_from(&points, size)) {
-        show::text(b" and more");
+        io::write_all(1, b" and more");
     }
 }
 
@@ -192,11 +191,11 @@ pub fn record(
     let g = w.gate;
     let i = given::value(s) as usize;
     if g.used <= i {
-        show::text(b"unused");
+        io::write_all(1, b"unused");
         return;
     }
     if nums.len() <= i || numbers.len() <= i || dates.len() <= i {
-        show::text(b"unused");
+        io::write_all(1, b"unused");
         return;
     }
     show_record(rows::load(nums, numbers, dates, i));
@@ -205,15 +204,15 @@ pub fn record(
 // Receipt, number, type, kopecks, date, state, authcode, credit date and cancel date.
 fn show_record(r: Record) {
     let number = r.number;
-    show::number(r.receipt);
-    show::text(b" ");
+    io::print_decimal(1, r.receipt);
+    io::write_all(1, b" ");
     print::account(number);
-    show::named(b" ", r.kind);
-    show::named(b" ", r.amount);
+    print::named(b" ", r.kind);
+    print::named(b" ", r.amount);
     let date = r.date;
     show_date(date);
-    show::named(b" ", r.state);
-    show::named(b" ", r.authcode);
+    print::named(b" ", r.state);
+    print::named(b" ", r.authcode);
     let credit = r.credit;
     show_date(credit);
     let cancel = r.cancel;
@@ -222,11 +221,11 @@ fn show_record(r: Record) {
 
 // The bytes of a date before its first zero; `-` where there are none.
 fn show_date(d: [u8; 19]) {
-    show::text(b" ");
+    io::write_all(1, b" ");
     let n = scan::find_byte(&d, 0);
     if n == 0 {
-        show::text(b"-");
+        io::write_all(1, b"-");
         return;
     }
-    show::text(scan::first_bytes(&d, n));
+    io::write_all(1, scan::first_bytes(&d, n));
 }

@@ -17,7 +17,6 @@ mod write_vectors;
 
 use texts::scan;
 use vectors::line;
-use vectors::show;
 use world::World;
 
 // Prints a line and its answer, and hands back the world; the decoded text goes into `space`.
@@ -29,11 +28,11 @@ fn answer_line(
     dates: &mut [[[u8; 19]; 3]],
     w: World,
 ) -> World {
-    show::text(line);
+    io::write_all(1, line);
     if line::is_heading(line) {
         return w;
     }
-    show::text(b": ");
+    io::write_all(1, b": ");
     let n = escape::unescape(scan::after_byte(line, 32), space);
     let text = scan::first_bytes(space, n);
     words::answer(scan::before_byte(line, 32), text, nums, numbers, dates, w)
@@ -52,7 +51,7 @@ fn lines(
     while at < s.len() {
         let next = line::next_line(s, at);
         w = answer_line(line::line_at(s, at), space, nums, numbers, dates, w);
-        show::text(b"\n");
+        io::write_all(1, b"\n");
         at = next;
     }
 }
@@ -65,7 +64,7 @@ fn main() {
     let mut dates = [[[0u8; 19]; 3]; 4];
     let n = io::read_full(0, &mut buffer);
     if n == buffer.len() {
-        show::text(b"the input is too long\n");
+        io::write_all(1, b"the input is too long\n");
         return;
     }
     lines(

@@ -2,7 +2,6 @@
 use crate::print;
 use fields::number::read_number;
 use texts::scan;
-use vectors::show;
 
 // The length, and the number written back.
 pub fn number(s: &[u8]) {
@@ -11,9 +10,9 @@ pub fn number(s: &[u8]) {
         let x = r.number;
         let mut space = [0u8; 30];
         let n = x.write(&mut space, 0);
-        show::number(x.len as u64);
-        show::text(b" bytes ");
-        show::text(scan::first_bytes(&space, n));
+        io::print_decimal(1, x.len as u64);
+        io::write_all(1, b" bytes ");
+        io::write_all(1, scan::first_bytes(&space, n));
     } else {
         print::fault(2);
     }
@@ -34,8 +33,8 @@ pub fn same(s: &[u8]) {
     let x = a.number;
     let y = b.number;
     if x.same(y) {
-        show::text(b"same");
+        io::write_all(1, b"same");
     } else {
-        show::text(b"other");
+        io::write_all(1, b"other");
     }
 }

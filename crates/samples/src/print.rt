@@ -3,46 +3,55 @@ use dates::calendar::Day;
 use fields::number::Number;
 use texts::digits::Digits;
 use texts::scan;
-use vectors::show;
+
+// A name and a number.
+pub fn named(name: &[u8], n: u64) {
+    io::write_all(1, name);
+    io::print_decimal(1, n);
+}
 
 // A fault and its number.
 pub fn fault(code: u64) {
-    show::named(b"fault ", code);
+    named(b"fault ", code);
 }
 
 // The value of a digit field, or its fault.
 pub fn value_or_fault(d: Digits, code: u64) {
     match d {
-        Digits::Value(v) => show::number(v),
+        Digits::Value(v) => {
+            io::print_decimal(1, v);
+        }
         Digits::Malformed => fault(code),
     }
 }
 
 // What a vector itself gives in another form than its word asks.
 pub fn malformed() {
-    show::text(b"malformed");
+    io::write_all(1, b"malformed");
 }
 
 // Year, month and day.
 pub fn day(d: Day) {
-    show::number(d.year as u64);
-    show::named(b" ", d.month as u64);
-    show::named(b" ", d.day as u64);
+    io::print_decimal(1, d.year as u64);
+    named(b" ", d.month as u64);
+    named(b" ", d.day as u64);
 }
 
 // The bytes of an account's number.
 pub fn account(x: Number) {
     let n = x.len;
     let bytes = x.bytes;
-    show::text(scan::first_bytes(&bytes, n));
+    io::write_all(1, scan::first_bytes(&bytes, n));
 }
 
 // A byte, or \x and its digits where it does not print.
 fn byte(b: u8) {
     match b {
-        32..=126 => show::text(&[b]),
+        32..=126 => {
+            io::write_all(1, &[b]);
+        }
         _ => {
-            show::text(b"\\x");
+            io::write_all(1, b"\\x");
             io::print_hex(1, b as u64, 2);
         }
     }

@@ -8,7 +8,6 @@ use texts::digits::Digits;
 use texts::out;
 use texts::scan;
 use vectors::given;
-use vectors::show;
 
 // The fault of a registry of a day, and the lines of one without.
 pub fn check(s: &[u8]) {
@@ -37,11 +36,11 @@ fn show_lines(s: &[u8]) {
 // Receipt, kopecks, number and type.
 fn show_line(x: Line) {
     let number = x.number;
-    show::named(b"; ", x.receipt);
-    show::named(b" ", x.amount);
-    show::text(b" ");
+    print::named(b"; ", x.receipt);
+    print::named(b" ", x.amount);
+    io::write_all(1, b" ");
     print::account(number);
-    show::named(b" ", x.kind);
+    print::named(b" ", x.kind);
 }
 
 // A payment of one kopeck.
@@ -93,7 +92,7 @@ fn add_rest(word: &[u8], dst: &mut [u8], at: usize) -> usize {
 // Whether a text is a report of so many lines.
 pub fn is_report(s: &[u8]) {
     if report::is_report(scan::after_byte(s, 32), given::value(s) as usize) {
-        show::text(b"good");
+        io::write_all(1, b"good");
     } else {
         print::fault(65);
     }

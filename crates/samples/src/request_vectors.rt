@@ -10,7 +10,6 @@ use texts::digits;
 use texts::digits::Digits;
 use texts::out;
 use texts::scan;
-use vectors::show;
 
 // What a request asks, or its fault.
 pub fn request(s: &[u8]) {
@@ -48,7 +47,7 @@ fn show_fault(fault: u64, a: Action) {
     match fault {
         1 | 31 => {}
         _ => {
-            show::text(b" ");
+            io::write_all(1, b" ");
             show_word(a);
         }
     }
@@ -56,10 +55,18 @@ fn show_fault(fault: u64, a: Action) {
 
 fn show_word(a: Action) {
     match a {
-        Action::Check => show::text(b"check"),
-        Action::Payment => show::text(b"payment"),
-        Action::Status => show::text(b"status"),
-        Action::Cancel => show::text(b"cancel"),
+        Action::Check => {
+            io::write_all(1, b"check");
+        }
+        Action::Payment => {
+            io::write_all(1, b"payment");
+        }
+        Action::Status => {
+            io::write_all(1, b"status");
+        }
+        Action::Cancel => {
+            io::write_all(1, b"cancel");
+        }
     }
 }
 
@@ -72,21 +79,21 @@ fn show_asked(q: Asked) {
         show_account(number, q.kind, q.amount);
     }
     if action::has_receipt(a) {
-        show::named(b" receipt=", q.receipt);
+        print::named(b" receipt=", q.receipt);
     }
     if action::has_date(a) {
         let date = q.date;
-        show::text(b" date=");
-        show::text(&date);
+        io::write_all(1, b" date=");
+        io::write_all(1, &date);
     }
     if action::has_reason(a) {
-        show::named(b" mes=", q.reason);
+        print::named(b" mes=", q.reason);
     }
 }
 
 fn show_account(number: Number, kind: u64, amount: u64) {
-    show::text(b" number=");
+    io::write_all(1, b" number=");
     print::account(number);
-    show::named(b" type=", kind);
-    show::named(b" amount=", amount);
+    print::named(b" type=", kind);
+    print::named(b" amount=", amount);
 }

@@ -7,7 +7,6 @@ use table::rows;
 use texts::scan;
 use vectors::given;
 use vectors::line;
-use vectors::show;
 
 // Sets what the first word names to the value behind it.
 pub fn spoil(
@@ -17,7 +16,7 @@ pub fn spoil(
     dates: &mut [[[u8; 19]; 3]],
     w: World,
 ) -> World {
-    show::text(b"ok");
+    io::write_all(1, b"ok");
     let value = scan::after_byte(s, 32);
     let k = line::place(
         scan::before_byte(s, 32),

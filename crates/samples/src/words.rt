@@ -16,7 +16,6 @@ use crate::write_vectors;
 use fields::amount::read_amount;
 use fields::codes;
 use vectors::line;
-use vectors::show;
 
 // Runs the word on its text, and hands back the world.
 pub fn answer(
@@ -106,6 +105,8 @@ fn answer_message(word: &[u8], text: &[u8]) {
         10 => registry_vectors::check(text),
         11 => registry_vectors::many_lines(text),
         12 => registry_vectors::is_report(text),
-        _ => show::text(b"unknown word"),
+        _ => {
+            io::write_all(1, b"unknown word");
+        }
     }
 }

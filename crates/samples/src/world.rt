@@ -1,9 +1,9 @@
 // What the vectors of the gate keep from line to line: the gate, and how many records are lent.
+use crate::print;
 use table::Gate;
 use texts::scan;
 use vectors::given;
 use vectors::line;
-use vectors::show;
 
 // The dates may be lent at a length of their own.
 pub struct World {
@@ -24,7 +24,7 @@ pub fn start(s: &[u8]) -> World {
 
 // The same, and it says so.
 pub fn started(s: &[u8]) -> World {
-    show::text(b"ok");
+    io::write_all(1, b"ok");
     start(s)
 }
 
@@ -54,10 +54,10 @@ fn owed(b: i64) -> u64 {
 
 fn show_difference(a: u64, b: u64) {
     if a < b {
-        show::text(b"-");
-        show::number(b - a);
+        io::write_all(1, b"-");
+        io::print_decimal(1, b - a);
     } else {
-        show::number(a - b);
+        io::print_decimal(1, a - b);
     }
 }
 
@@ -79,8 +79,8 @@ fn show_total(g: Gate) {
 
 // Code, records used and sum of balances.
 pub fn show_state(code: u64, g: Gate) {
-    show::number(code);
-    show::named(b" ", g.used as u64);
-    show::text(b" ");
+    io::print_decimal(1, code);
+    print::named(b" ", g.used as u64);
+    io::write_all(1, b" ");
     show_total(g);
 }

@@ -5,7 +5,6 @@ use texts::digits;
 use texts::digits::Digits;
 use texts::out;
 use texts::scan;
-use vectors::show;
 
 fn write_into(as_amount: bool, v: u64, dst: &mut [u8]) -> usize {
     if as_amount {
@@ -22,7 +21,7 @@ pub fn write_value(as_amount: bool, s: &[u8]) {
     };
     let mut space = [0u8; 64];
     let n = write_into(as_amount, v, &mut space);
-    show::text(scan::first_bytes(&space, n));
+    io::write_all(1, scan::first_bytes(&space, n));
 }
 
 // Writes the text behind a cursor and a size into so many points.
@@ -50,7 +49,7 @@ fn put_at(s: &[u8], at: usize) {
 
 // Prints the cursor that is handed back, and the whole buffer.
 fn put_into(src: &[u8], dst: &mut [u8], at: usize) {
-    show::number(out::put_bytes(src, dst, at) as u64);
-    show::text(b" ");
-    show::text(dst);
+    io::print_decimal(1, out::put_bytes(src, dst, at) as u64);
+    io::write_all(1, b" ");
+    io::write_all(1, dst);
 }

@@ -1,4 +1,3 @@
-// What the programs of vectors share: the lines of their input, the fields of a line, a gate without accounts, and printing.
+// What the programs of vectors share: the lines of their input, the fields of a line, and a gate without accounts.
 pub mod given;
 pub mod line;
-pub mod show;
