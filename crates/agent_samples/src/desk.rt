@@ -4,7 +4,6 @@ use book::rows;
 use daybook::Writing;
 use daybook::accepting;
 use daybook::freezing;
-use daybook::listing;
 use parameters::action;
 use parameters::action::ActionRead;
 use payments::Action;

@@ -4,22 +4,22 @@ use mathlib.Core.Path.{_≡_, refl, sym, ap, _∙_}
 use mathlib.Core.Bool.{Bool, true, false}
 use mathlib.Core.List.{List}
 use lib.ListN.{set, getD}
-use Rattle.dates.specs.declared.calendar.Day.{Day}
-use Rattle.dates.specs.Calendar.{dayBefore}
+use Rattle.days.specs.declared.calendar.Day.{Day}
+use Rattle.days.specs.Calendar.{dayBefore}
 use Rattle.payments.specs.declared.Action.{Action}
 use Rattle.lists.specs.declared.Found.{Found}
 use Rattle.lists.specs.declared.Found.the-variants.{At}
 use Rattle.book.specs.declared.Book.{Book}
 use Rattle.book.specs.declared.Entry.{Entry}
 use Rattle.book.specs.Entries.{BookRows, noEntry, entryAt, entriesOf, bookWith}
-use Rattle.book.specs.BookValid.{bookGood, ReadyBook}
+use Rattle.book_validity.specs.BookValid.{bookGood, ReadyBook}
 use Rattle.book.proofs.EntryLaws.{EntryRoom, entries-set, getD-entries}
 use Rattle.daybook.specs.Acceptance.{isFrozen}
-use Rattle.daybook.specs.Freezing.{isListed, listed, registryOf, writeRegistry}
-use Rattle.daybook.proofs.ListedTheorems.{registry-same, writing-same, unfrozen-off, listed-set}
+use Rattle.listing.specs.Listing.{isListed, listed, registryOf, writeRegistry}
+use Rattle.agent_theorems.proofs.ListedTheorems.{registry-same, writing-same, unfrozen-off, listed-set}
 use Rattle.answering.specs.Answering.{takeAnswer}
 use Rattle.writing.specs.Writing.{writeRequest}
-use Rattle.book.proofs.PassedLaws.{room-at}
+use Rattle.book_validity.proofs.PassedLaws.{room-at}
 use Rattle.agent_theorems.proofs.MovedLaws.{placeOf, Left, kept, moved, good-kept}
 use Rattle.agent_theorems.proofs.AnswerTheorems.{answer-left}
 use Rattle.agent_theorems.proofs.WritingTheorems.{write-left}

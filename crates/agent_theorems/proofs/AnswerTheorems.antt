@@ -22,10 +22,11 @@ use Rattle.book.specs.declared.Entry.{Entry}
 use Rattle.book.specs.declared.State.{State}
 use Rattle.book.specs.declared.State.the-variants.{Asked, Credited, CancelAsked, Cancelled, Unposted}
 use Rattle.book.specs.Entries.{BookRows, stateOf, noEntry, entryAt, entriesOf, bookFrom}
-use Rattle.book.specs.BookValid.{entryFields, bookGood, ReadyBook}
+use Rattle.book_validity.specs.BookValid.{entryFields, bookGood, ReadyBook}
 use Rattle.book.proofs.EntryLaws.{getD-entries, book-set}
-use Rattle.book.proofs.BookLaws.{entry-within, number-again}
-use Rattle.book.proofs.PaymentLaws.{entry-parts, SamePayment, fields-kept, state-range, waits}
+use Rattle.book_validity.proofs.BookLaws.{entry-within}
+use Rattle.book.proofs.StateLaws.{number-again, state-range, waits}
+use Rattle.book_validity.proofs.PaymentLaws.{entry-parts, SamePayment, fields-kept}
 use Rattle.answering.specs.declared.meaning.Meaning.{Meaning}
 use Rattle.answering.specs.declared.meaning.Meaning.the-variants.{Paid, Revoked, Silent}
 use Rattle.daybook.specs.Acceptance.{isFrozen}

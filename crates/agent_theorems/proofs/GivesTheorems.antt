@@ -26,12 +26,12 @@ use Rattle.book.specs.declared.Book.{Book}
 use Rattle.book.specs.declared.Entry.{Entry}
 use Rattle.book.specs.declared.State.the-variants.{Asked, Credited, CancelAsked, Cancelled}
 use Rattle.book.specs.Entries.{BookRows, stateNumber, stateOf, noEntry, entryAt, entriesOf, bookWith, bookFrom}
-use Rattle.book.specs.BookValid.{bookGood}
+use Rattle.book_validity.specs.BookValid.{bookGood}
 use Rattle.book.proofs.EntryLaws.{getD-entries, book-set}
-use Rattle.book.proofs.BookLaws.{good-book, entry-here}
-use Rattle.book.proofs.PaymentLaws.{EntryParts, entry-parts}
+use Rattle.book_validity.proofs.BookLaws.{good-book, entry-here}
+use Rattle.book_validity.proofs.PaymentLaws.{EntryParts, entry-parts}
 use Rattle.daybook.specs.Acceptance.{isFrozen}
-use Rattle.daybook.proofs.GivesTheorems.{good-whole}
+use Rattle.agent_theorems.proofs.DaybookGives.{good-whole}
 use Rattle.answering.specs.declared.meaning.Meaning.{Meaning}
 use Rattle.answering.specs.declared.meaning.Meaning.the-variants.{Paid, Revoked}
 use Rattle.writing.specs.Writing.{Writing, wrote, mayWrite, withState, writtenEntry, requestOf, formsGood, isOpen, writeAt, writeRequest, checkOf, writeCheck}

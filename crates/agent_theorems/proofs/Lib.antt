@@ -3,3 +3,7 @@ pub mod AnswerTheorems
 pub mod WritingTheorems
 pub mod AlikeTheorems
 pub mod GivesTheorems
+pub mod ListedTheorems
+pub mod BookTheorems
+pub mod DaybookGives
+pub mod ReportTheorems

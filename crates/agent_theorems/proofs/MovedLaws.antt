@@ -13,11 +13,11 @@ use Rattle.lists.specs.declared.Found.the-variants.{At}
 use Rattle.book.specs.declared.Book.{Book}
 use Rattle.book.specs.declared.Entry.{Entry}
 use Rattle.book.specs.Entries.{BookRows, noEntry, entryAt, entriesOf, entryNums, bookWith, bookFrom, findEntry, WholeBook}
-use Rattle.book.specs.BookValid.{entryFields, bookGood, ReadyBook}
+use Rattle.book_validity.specs.BookValid.{entryFields, bookGood, ReadyBook}
 use Rattle.book.proofs.EntryLaws.{EntryRoom, entry-other, entry-same, getD-entries, book-kept}
 use Rattle.lists.proofs.LentLaws.{lent-facts}
-use Rattle.book.proofs.BookLaws.{good-book, good-lent, good-room, put-good, entry-within}
-use Rattle.book.proofs.PaymentLaws.{SamePayment, same-payment}
+use Rattle.book_validity.proofs.BookLaws.{good-book, good-lent, good-room, put-good, entry-within}
+use Rattle.book_validity.proofs.PaymentLaws.{SamePayment, same-payment}
 use Rattle.daybook.specs.Acceptance.{isFrozen}
 
 -- ---- what is found

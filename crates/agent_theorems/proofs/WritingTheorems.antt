@@ -29,10 +29,11 @@ use Rattle.book.specs.declared.Book.{Book}
 use Rattle.book.specs.declared.Entry.{Entry}
 use Rattle.book.specs.declared.State.the-variants.{CancelAsked}
 use Rattle.book.specs.Entries.{BookRows, stateOf, noEntry, entryAt, entriesOf, bookFrom}
-use Rattle.book.specs.BookValid.{entryFields, bookGood, ReadyBook}
+use Rattle.book_validity.specs.BookValid.{entryFields, bookGood, ReadyBook}
 use Rattle.book.proofs.EntryLaws.{getD-entries, length-entries, entry-from, book-set}
-use Rattle.book.proofs.BookLaws.{entry-within}
-use Rattle.book.proofs.PaymentLaws.{entry-parts, SamePayment, same-payment, fields-kept, state-range}
+use Rattle.book_validity.proofs.BookLaws.{entry-within}
+use Rattle.book_validity.proofs.PaymentLaws.{entry-parts, SamePayment, same-payment, fields-kept}
+use Rattle.book.proofs.StateLaws.{state-range}
 use Rattle.daybook.specs.Acceptance.{isFrozen}
 use Rattle.writing.specs.Writing.{Writing, unwritten, wrote, mayWrite, writtenEntry, requestOf, formsGood, isOpen, writeAt, writeRequest, checkOf, writeCheck}
 use Rattle.writing.proofs.WritingLaws.{check-asked}

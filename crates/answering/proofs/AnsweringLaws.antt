@@ -16,7 +16,7 @@ use Rattle.book.specs.declared.Book.{Book}
 use Rattle.book.specs.declared.Entry.{Entry}
 use Rattle.book.specs.declared.State.{State}
 use Rattle.book.specs.Entries.{BookRows, stateOf, stateNumber, noEntry, entryAt, entriesOf, bookWith, findEntry}
-use Rattle.book.specs.BookValid.{bookGood, ReadyBook}
+use Rattle.book_validity.specs.BookValid.{bookGood, ReadyBook}
 use Rattle.book.proofs.EntryLaws.{getD-entries, book-set}
 use Rattle.answering.specs.declared.meaning.Meaning.{Meaning}
 use Rattle.daybook.specs.Acceptance.{isFrozen}

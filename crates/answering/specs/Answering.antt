@@ -16,7 +16,7 @@ use Rattle.book.specs.declared.Entry.{Entry}
 use Rattle.book.specs.declared.State.{State}
 use Rattle.book.specs.declared.State.the-variants.{Asked, Credited, CancelAsked, Cancelled, Unposted}
 use Rattle.book.specs.Entries.{BookRows, stateOf, stateNumber, noEntry, entriesOf, bookFrom, findEntry}
-use Rattle.book.specs.BookValid.{bookGood}
+use Rattle.book_validity.specs.BookValid.{bookGood}
 use Rattle.answering.specs.declared.meaning.Meaning.{Meaning}
 use Rattle.answering.specs.declared.meaning.Meaning.the-variants.{Paid, Revoked, Silent}
 use Rattle.daybook.specs.Acceptance.{isFrozen}

@@ -4,9 +4,10 @@ pub mod meaning;
 use answer_reader::read;
 use book::Book;
 use book::Entry;
-use book::find;
+use book_validity::find;
 use book::rows;
-use book::valid;
+use book::states;
+use book_validity::valid;
 use daybook::frozen;
 use fields::codes;
 use lists::Found;
@@ -16,7 +17,7 @@ ghost use mathlib.Core.Path.{_≡_};
 ghost use mathlib.Core.Bool.{true};
 ghost use Prim.Native.Nat.{_<_};
 ghost use Rattle.lists.specs.declared.Found.the-variants.{At};
-ghost use Rattle.book.specs.BookValid.{bookGood, ReadyBook};
+ghost use Rattle.book_validity.specs.BookValid.{bookGood, ReadyBook};
 ghost use Rattle.answering.specs.Answering.{takingOf, authcodeAfter, answeredEntry, takeAt, takeReceipt, isCheck, checkCode, takeAnswer};
 ghost use Rattle.book.specs.Lent.{lentBook, bookBefore, bookAfter};
 
@@ -35,7 +36,7 @@ pub(crate) fn authcode_after(credited: bool, x: Answer, e: Entry) -> u64
 pub(crate) fn answered_entry(m: meaning::Meaning, x: Answer, e: Entry) -> Entry
     ensures { λ r. ⌜ r ≡ answeredEntry m x e ⌝ }
 {
-    let s = find::state_of(e.state);
+    let s = states::state_of(e.state);
     let number = e.number;
     let date = e.date;
     Entry {
@@ -44,7 +45,7 @@ pub(crate) fn answered_entry(m: meaning::Meaning, x: Answer, e: Entry) -> Entry
         kind: e.kind,
         amount: e.amount,
         date,
-        state: find::state_number(meaning::turn(m, s)),
+        state: states::state_number(meaning::turn(m, s)),
         authcode: authcode_after(meaning::is_credit(m, s), x, e),
     }
 }

@@ -1,6 +1,2 @@
 pub mod EntryLaws
-pub mod CountLaws
-pub mod ValidLaws
-pub mod BookLaws
-pub mod PaymentLaws
-pub mod PassedLaws
+pub mod StateLaws

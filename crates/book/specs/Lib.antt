@@ -1,4 +1,2 @@
 pub mod Entries
 pub mod Lent
-pub mod BookValid
-pub mod BookWalk

@@ -1,10 +1,8 @@
 // The agent's book: its head by value, and its entries in three lent rows.
-pub mod days;
-pub mod find;
 pub mod rows;
-pub mod valid;
+pub mod states;
 
-use dates::calendar::Day;
+use days::calendar::Day;
 use fields::number::Number;
 
 // A payment taken at a counter. The numbers of its states are those of `State`, from 1 on.

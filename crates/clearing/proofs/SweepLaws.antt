@@ -15,8 +15,8 @@ use Rattle.clearing.proofs.RevokeLaws.{revoke-step}
 use Rattle.posting.proofs.PostLaws.{at-nums, at-numbers, at-dates}
 use Rattle.clearing.proofs.ReadLaws.{next-line, last-line}
 use borrow.Author.Tests.{eq-eqb, ne-eqb, not-true, not-false}
-use Rattle.dates.specs.declared.calendar.Day.{Day}
-use Rattle.dates.specs.Calendar.{onDay}
+use Rattle.days.specs.declared.calendar.Day.{Day}
+use Rattle.days.specs.Calendar.{onDay}
 use Rattle.dates.specs.Date.{dateDay}
 use Rattle.lines.specs.declared.line.Line.{Line}
 use Rattle.table.specs.declared.Gate.{Gate}

@@ -2,8 +2,8 @@
 use Prim.Native.Nat.{ℕ}
 use mathlib.Core.List.{List, [], _∷_, map}
 use mathlib.Core.Bool.{Bool, false, cond, not, _&&_, _||_}
-use Rattle.dates.specs.declared.calendar.Day.{Day}
-use Rattle.dates.specs.Calendar.{onDay}
+use Rattle.days.specs.declared.calendar.Day.{Day}
+use Rattle.days.specs.Calendar.{onDay}
 use Rattle.dates.specs.Date.{dateDay}
 use Rattle.lines.specs.declared.line.Line.{Line}
 use Rattle.table.specs.declared.Record.{Record}

@@ -1,6 +1,6 @@
 // The sweep: what is done on the day and stands in no line is cancelled.
 use crate::reading;
-use dates::calendar::Day;
+use days::calendar::Day;
 use dates::date;
 use ledger::change;
 use posting::matching;

@@ -12,12 +12,12 @@ use lib.Seq.{take-all, length-take-le, take-nil}
 use borrow.Author.Tests.{le-leb, lt-leb, eq-eqb, ne-eqb, eqb-true, eqb-false, leb-true, leb-false}
 use Rattle.texts.specs.declared.digits.Digits.{Digits}
 use Rattle.texts.specs.declared.digits.Digits.the-variants.{Value, Malformed}
-use Rattle.dates.specs.declared.calendar.DayRead.the-variants.{NoDate}
+use Rattle.days.specs.declared.calendar.DayRead.the-variants.{NoDate}
 use Rattle.texts.specs.Lists.{find, eqList}
 use Rattle.texts.specs.Digits.{digitsRead, rangeRead}
 use Rattle.fields.specs.Codes.{kindRead}
 use Rattle.fields.specs.Number.{isNumberText, numberRead, noNumber}
-use Rattle.dates.specs.Calendar.{dayRead}
+use Rattle.days.specs.Calendar.{dayRead}
 use Rattle.dates.specs.Date.{dateDay, dateRead, noDate}
 use Rattle.coding.specs.Params.{longer, splitAt}
 use Rattle.payments.specs.declared.Action.the-variants.{Check}

@@ -4,7 +4,7 @@ use mathlib.Core.List.{List, [], _∷_, _++_}
 use mathlib.Core.Bool.{true, false, cond}
 use lib.IntN.{pos}
 use lib.ListN.{replicate}
-use Rattle.dates.specs.declared.calendar.Day.{Day}
+use Rattle.days.specs.declared.calendar.Day.{Day}
 use Rattle.fields.specs.Number.{noNumber}
 use Rattle.coding.specs.Params.{splitAt}
 use Rattle.table.specs.declared.Account.{Account}

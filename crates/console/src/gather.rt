@@ -1,6 +1,6 @@
 // What is held of a line, gathered from parts of the input; and the state that a session begins with.
 use crate::Held;
-use dates::calendar::Day;
+use days::calendar::Day;
 use fields::number::no_number;
 use orders::Console;
 use table::Account;

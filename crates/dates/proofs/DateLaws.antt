@@ -8,18 +8,18 @@ use mathlib.Core.List.{List, [], _∷_, _++_, append-nil}
 use lib.Dec.{eqb, leb}
 use lib.ListN.{getD, length, drop, drop-of-length-le}
 use borrow.Author.Tests.{le-leb, lt-leb, eq-eqb, ne-eqb, leb-true, eqb-true}
-use Rattle.dates.specs.declared.calendar.Day.{Day}
-use Rattle.dates.specs.declared.calendar.DayRead.{DayRead}
-use Rattle.dates.specs.declared.calendar.DayRead.the-variants.{Good, NoDate}
+use Rattle.days.specs.declared.calendar.Day.{Day}
+use Rattle.days.specs.declared.calendar.DayRead.{DayRead}
+use Rattle.days.specs.declared.calendar.DayRead.the-variants.{Good, NoDate}
 use Rattle.dates.specs.declared.date.DateRead.{DateRead}
 use Rattle.texts.specs.Lists.{every, written}
 use Rattle.texts.specs.Digits.{isDigit}
-use Rattle.dates.specs.Calendar.{isDate, dayOf, isDay, twoDigits, twoAt, dayPart}
+use Rattle.days.specs.Calendar.{isDate, dayOf, isDay, twoDigits, twoAt, dayPart}
 use Rattle.dates.specs.Date.{clockTime, dateDay, found, isWritten, emptyDate, noDate, dateRead}
 use Rattle.texts.proofs.Tests.{both, cond-elim}
 use Rattle.texts.proofs.ListLaws.{every-step, every-all}
 use Rattle.texts.proofs.OutLaws.{written-over}
-use Rattle.dates.proofs.DayLaws.{is-date, days-high, read-good, made}
+use Rattle.days.proofs.DayLaws.{is-date, days-high, read-good, made}
 
 module _ (s : List ℕ) where
   pub time-mark : (getD s 10 0 ≡ 84 → ⊥) → false ≡ clockTime s

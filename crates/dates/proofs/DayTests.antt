@@ -6,13 +6,13 @@ use mathlib.Core.Bool.{Bool, true, false, not}
 use mathlib.Core.List.{List}
 use lib.Dec.{eqb, leb, ltb}
 use borrow.Author.Tests.{eq-eqb, eqb-true, lt-leb, le-leb, le-ltb, ltb-true, ltb-false}
-use Rattle.dates.specs.declared.calendar.Day.{Day}
-use Rattle.dates.specs.declared.calendar.DayRead.{DayRead}
-use Rattle.dates.specs.declared.calendar.DayRead.the-variants.{Good, NoDate}
-use Rattle.dates.specs.Calendar.{isDay, dayBefore, sameDay, nextDay, onDay, upTo, dayNumber, dayKey}
+use Rattle.days.specs.declared.calendar.Day.{Day}
+use Rattle.days.specs.declared.calendar.DayRead.{DayRead}
+use Rattle.days.specs.declared.calendar.DayRead.the-variants.{Good, NoDate}
+use Rattle.days.specs.Calendar.{isDay, dayBefore, sameDay, nextDay, onDay, upTo, dayNumber, dayKey}
 use Rattle.dates.specs.Date.{dateDay, isWritten}
 use Rattle.texts.proofs.Tests.{no-claim, same-bool}
-use Rattle.dates.proofs.DayLaws.{before-number, same-day, same-day-refl, number-same, next-number, next-is-day, next-none, is-date, days-high}
+use Rattle.days.proofs.DayLaws.{before-number, same-day, same-day-refl, number-same, next-number, next-is-day, next-none, is-date, days-high}
 use Rattle.dates.proofs.DateLaws.{date-day}
 
 not-less : (a b : ℕ) → not (ltb a b) ≡ leb b a

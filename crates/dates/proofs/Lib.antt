@@ -1,5 +1,3 @@
-pub mod CalendarLaws
-pub mod DayLaws
 pub mod DateLaws
 pub mod DayTests
 pub mod KeyLaws

@@ -8,7 +8,7 @@ use Rattle.texts.specs.Lists.{every, find}
 use Rattle.texts.specs.Digits.{digitsRead, rangeRead}
 use Rattle.fields.specs.Amount.{kopecksAfter, amountRead, amountFault}
 use Rattle.fields.specs.Codes.{receiptRead, receiptFault}
-use Rattle.dates.specs.Calendar.{leapYear, daysIn, isDate, dayOf, twoDigits, dayPart}
+use Rattle.days.specs.Calendar.{leapYear, daysIn, isDate, dayOf, twoDigits, dayPart}
 use Rattle.dates.specs.Date.{clockTime, dateDay, dateRead, dateFault}
 
 -- 9999999.99

@@ -4,10 +4,10 @@ use mathlib.Core.List.{List}
 use mathlib.Core.Bool.{Bool, true, false, cond, _&&_}
 use lib.ListN.{getD, length, replicate}
 use lib.Dec.{leb, eqb}
-use Rattle.dates.specs.declared.calendar.DayRead.{DayRead}
-use Rattle.dates.specs.declared.calendar.DayRead.the-variants.{Good, NoDate}
+use Rattle.days.specs.declared.calendar.DayRead.{DayRead}
+use Rattle.days.specs.declared.calendar.DayRead.the-variants.{Good, NoDate}
 use Rattle.dates.specs.declared.date.DateRead.{DateRead}
-use Rattle.dates.specs.Calendar.{twoAt, dayPart}
+use Rattle.days.specs.Calendar.{twoAt, dayPart}
 
 -- hh:mm:ss from the twelfth byte on, behind a T
 unfoldable pub clockTime : List ℕ → Bool

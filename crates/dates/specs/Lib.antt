@@ -1,2 +1,1 @@
-pub mod Calendar
 pub mod Date

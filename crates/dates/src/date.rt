@@ -1,11 +1,11 @@
 // Written dates: nineteen bytes, YYYY-MM-DDThh:mm:ss.
-use crate::calendar;
-use crate::calendar::Day;
-use crate::calendar::DayRead;
+use days::calendar;
+use days::calendar::Day;
+use days::calendar::DayRead;
 use texts::out;
 use texts::scan;
 ghost use mathlib.Core.Path.{_≡_};
-ghost use Rattle.dates.specs.Calendar.{onDay, upTo};
+ghost use Rattle.days.specs.Calendar.{onDay, upTo};
 ghost use Rattle.dates.specs.Date.{clockTime, dateDay, isWritten, noDate, dateRead};
 ghost use Rattle.texts.specs.Lists.{eqList, written, cursorAfter};
 

@@ -1,3 +1,2 @@
 // Days of the calendar, and written dates.
-pub mod calendar;
 pub mod date;

@@ -9,9 +9,9 @@ use lib.ListN.{length}
 use borrow.Author.Tests.{lt-ltb, le-ltb, ltb-true, eq-eqb, ne-eqb, not-true, not-false}
 use mir.Syntax.{w64}
 use mir.Val.{Fits}
-use Rattle.dates.specs.declared.calendar.Day.{Day}
-use Rattle.dates.specs.declared.calendar.DayRead.{DayRead}
-use Rattle.dates.specs.declared.calendar.DayRead.the-variants.{Good, NoDate}
+use Rattle.days.specs.declared.calendar.Day.{Day}
+use Rattle.days.specs.declared.calendar.DayRead.{DayRead}
+use Rattle.days.specs.declared.calendar.DayRead.the-variants.{Good, NoDate}
 use Rattle.fields.specs.declared.number.Number.{Number}
 use Rattle.fields.specs.Amount.{isAmount}
 use Rattle.fields.specs.Codes.{isReceipt, isKind}
@@ -23,9 +23,9 @@ use Rattle.book.specs.declared.Book.{Book}
 use Rattle.book.specs.declared.Entry.{Entry}
 use Rattle.book.specs.declared.State.the-variants.{Asked}
 use Rattle.book.specs.Entries.{BookRows, stateNumber, entriesOf, bookWith}
-use Rattle.book.specs.BookValid.{dayCount, bookGood, ReadyBook}
+use Rattle.book_validity.specs.BookValid.{dayCount, bookGood, ReadyBook}
 use Rattle.book.proofs.EntryLaws.{book-more}
-use Rattle.book.proofs.BookLaws.{good-book}
+use Rattle.book_validity.proofs.BookLaws.{good-book}
 use Rattle.daybook.specs.Acceptance.{Acceptance, isFrozen, nextReceipt, madeEntry, mayAccept, dayOpen, hasPlace, withEntry, acceptFault, accept}
 
 -- ---- the fields, and the date that is not frozen

@@ -2,11 +2,11 @@
 use mathlib.Core.Path.{_≡_, _∙_}
 use mathlib.Core.Bool.{Bool, true, false, not, _&&_}
 use borrow.Author.Tests.{not-true, not-false}
-use Rattle.dates.specs.declared.calendar.Day.{Day}
-use Rattle.dates.specs.Calendar.{isDay, nextDay, onDay}
+use Rattle.days.specs.declared.calendar.Day.{Day}
+use Rattle.days.specs.Calendar.{isDay, nextDay, onDay}
 use Rattle.book.specs.declared.Book.{Book}
 use Rattle.book.specs.Entries.{BookRows}
-use Rattle.book.specs.BookValid.{bookGood}
+use Rattle.book_validity.specs.BookValid.{bookGood}
 use Rattle.daybook.specs.declared.freezing.Freezing.{Freezing}
 use Rattle.daybook.specs.Freezing.{froze, frozenOn, freezeOn, freeze}
 

@@ -3,7 +3,7 @@ use mathlib.Core.Path.{_≡_}
 use mathlib.Core.Bool.{Bool}
 use mathlib.Core.List.{List}
 use Prim.Native.Nat.{ℕ}
-use Rattle.dates.specs.Calendar.{upTo}
+use Rattle.days.specs.Calendar.{upTo}
 use Rattle.dates.specs.Date.{dateDay}
 use Rattle.book.specs.declared.Book.{Book}
 use Rattle.daybook.specs.Acceptance.{isFrozen}

@@ -4,11 +4,11 @@ use mathlib.Core.List.{List, [], _∷_, _++_}
 use mathlib.Core.Bool.{Bool, false, cond, not, _&&_}
 use lib.Dec.{eqb, ltb}
 use lib.ListN.{length}
-use Rattle.dates.specs.declared.calendar.DayRead.{DayRead}
-use Rattle.dates.specs.declared.calendar.DayRead.the-variants.{Good, NoDate}
+use Rattle.days.specs.declared.calendar.DayRead.{DayRead}
+use Rattle.days.specs.declared.calendar.DayRead.the-variants.{Good, NoDate}
 use Rattle.fields.specs.declared.number.Number.{Number}
 use Rattle.fields.specs.Amount.{isAmount}
-use Rattle.dates.specs.Calendar.{upTo}
+use Rattle.days.specs.Calendar.{upTo}
 use Rattle.fields.specs.Codes.{isReceipt, isKind}
 use Rattle.dates.specs.Date.{dateDay, isWritten}
 use Rattle.fields.specs.Number.{isNumber}
@@ -16,7 +16,7 @@ use Rattle.book.specs.declared.Book.{Book}
 use Rattle.book.specs.declared.Entry.{Entry}
 use Rattle.book.specs.declared.State.the-variants.{Asked}
 use Rattle.book.specs.Entries.{BookRows, stateNumber, entriesOf, bookFrom}
-use Rattle.book.specs.BookValid.{dayCount, bookGood}
+use Rattle.book_validity.specs.BookValid.{dayCount, bookGood}
 use Rattle.daybook.specs.declared.accepting.Acceptance.{Acceptance as Given}
 
 -- what an acceptance answers and leaves; the receipt is 0 with a fault

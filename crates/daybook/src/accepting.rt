@@ -1,14 +1,14 @@
 // A payment is accepted at the counter.
-use crate::frozen;
 use book::Book;
 use book::Entry;
 use book::State;
-use book::days;
-use book::find;
+use book_validity::counts;
 use book::rows;
-use book::valid;
-use dates::calendar::DayRead;
+use book::states;
+use book_validity::valid;
+use crate::frozen;
 use dates::date;
+use days::calendar::DayRead;
 use fields::amount;
 use fields::codes;
 use fields::number::Number;
@@ -19,7 +19,7 @@ ghost use lib.ListN.{length};
 ghost use Rattle.dates.specs.Date.{dateDay};
 ghost use Rattle.book.specs.Entries.{entriesOf};
 ghost use Rattle.book.specs.Lent.{lentBook, bookBefore, bookAfter};
-ghost use Rattle.book.specs.BookValid.{bookGood, ReadyBook};
+ghost use Rattle.book_validity.specs.BookValid.{bookGood, ReadyBook};
 ghost use Rattle.daybook.specs.Acceptance.{acceptanceOf, madeEntry, mayAccept, dayOpen, hasPlace, acceptFault, accept};
 
 // The receipt is 0 with a fault.
@@ -62,7 +62,7 @@ pub(crate) fn day_open(
     let DayRead::Good(day) = date::day_of_date(written) else {
         return false;
     };
-    days::count_day(nums, numbers, dates, used, day) < days::DAY_MOST
+    counts::count_day(nums, numbers, dates, used, day) < counts::DAY_MOST
 }
 
 // Whether the book, the day and the receipts have a place left.
@@ -97,7 +97,7 @@ pub(crate) fn made_entry(b: Book, n: Number, kind: u64, kopecks: u64, written: [
         kind,
         amount: kopecks,
         date: written,
-        state: find::state_number(State::Asked),
+        state: states::state_number(State::Asked),
         authcode: 0,
     }
 }

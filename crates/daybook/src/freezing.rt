@@ -1,10 +1,10 @@
 // Freezing a day.
 use book::Book;
-use book::valid;
-use dates::calendar::Day;
+use book_validity::valid;
+use days::calendar::Day;
 ghost use mathlib.Core.Path.{_≡_};
 ghost use mathlib.Core.Bool.{_&&_};
-ghost use Rattle.dates.specs.Calendar.{nextDay, onDay};
+ghost use Rattle.days.specs.Calendar.{nextDay, onDay};
 ghost use Rattle.daybook.specs.Freezing.{freeze};
 ghost use Rattle.book.specs.Lent.{bookBefore};
 

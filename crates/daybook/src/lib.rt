@@ -2,7 +2,6 @@
 pub mod accepting;
 pub mod freezing;
 pub mod frozen;
-pub mod listing;
 
 // What a writing gives: `size` bytes of the buffer hold its text, none with a fault.
 pub struct Writing {

@@ -11,7 +11,7 @@ use lib.Signed.{ltZ}
 use lib.ListN.{length, getD}
 use lib.Seq.{length-take-le}
 use borrow.Author.Tests.{eq-eqb, ne-eqb}
-use Rattle.dates.specs.Calendar.{upTo}
+use Rattle.days.specs.Calendar.{upTo}
 use Rattle.dates.specs.Date.{dateDay}
 use Rattle.payments.specs.declared.Instruction.{Instruction}
 use Rattle.table.specs.declared.Record.{Record}

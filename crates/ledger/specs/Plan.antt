@@ -7,7 +7,7 @@ use lib.Dec.{eqb, leb}
 use lib.IntN.{pos}
 use lib.Signed.{ltZ}
 use lib.ListN.{length, getD}
-use Rattle.dates.specs.Calendar.{upTo}
+use Rattle.days.specs.Calendar.{upTo}
 use Rattle.dates.specs.Date.{dateDay}
 use Rattle.payments.specs.declared.Instruction.{Instruction}
 use Rattle.table.specs.declared.Record.{Record}

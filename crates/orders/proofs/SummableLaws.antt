@@ -10,8 +10,8 @@ use lib.IntN.{ℤ, pos, _+ℤ_}
 use lib.Signed.{mag, ltZ}
 use lib.ListN.{length, getD, set, replicate, length-set}
 use borrow.Author.Tests.{leb-false, not-true}
-use Rattle.dates.specs.declared.calendar.DayRead.{DayRead}
-use Rattle.dates.specs.declared.calendar.DayRead.the-variants.{Good, NoDate}
+use Rattle.days.specs.declared.calendar.DayRead.{DayRead}
+use Rattle.days.specs.declared.calendar.DayRead.the-variants.{Good, NoDate}
 use Rattle.texts.specs.declared.digits.Digits.{Digits}
 use Rattle.texts.specs.declared.digits.Digits.the-variants.{Value, Malformed}
 use Rattle.fields.specs.declared.number.Number.{Number}
@@ -19,7 +19,7 @@ use Rattle.texts.specs.Digits.{digitsRead}
 use Rattle.fields.specs.Amount.{isAmount}
 use Rattle.fields.specs.Codes.{isKind, kindRead}
 use Rattle.fields.specs.Number.{isNumber, numberRead}
-use Rattle.dates.specs.Calendar.{dayRead}
+use Rattle.days.specs.Calendar.{dayRead}
 use Rattle.dates.specs.Date.{dateRead}
 use Rattle.texts.proofs.Tests.{and-right, cond-elim}
 use Rattle.payments.specs.declared.Instruction.{Instruction}

@@ -6,9 +6,9 @@ use mathlib.Core.List.{List}
 use lib.Dec.{eqb, leb}
 use lib.ListN.{replicate}
 use borrow.Author.Tests.{not-true, not-false}
-use Rattle.dates.specs.declared.calendar.Day.{Day}
-use Rattle.dates.specs.declared.calendar.DayRead.{DayRead}
-use Rattle.dates.specs.declared.calendar.DayRead.the-variants.{Good, NoDate}
+use Rattle.days.specs.declared.calendar.Day.{Day}
+use Rattle.days.specs.declared.calendar.DayRead.{DayRead}
+use Rattle.days.specs.declared.calendar.DayRead.the-variants.{Good, NoDate}
 use Rattle.dates.specs.declared.date.DateRead.{DateRead}
 use Rattle.texts.specs.declared.digits.Digits.{Digits}
 use Rattle.texts.specs.declared.digits.Digits.the-variants.{Value, Malformed}
@@ -16,7 +16,7 @@ use Rattle.fields.specs.declared.number.NumberRead.{NumberRead}
 use Rattle.texts.specs.Digits.{digitsRead}
 use Rattle.fields.specs.Codes.{kindRead}
 use Rattle.fields.specs.Number.{numberRead}
-use Rattle.dates.specs.Calendar.{dayRead}
+use Rattle.days.specs.Calendar.{dayRead}
 use Rattle.dates.specs.Date.{dateRead}
 use Rattle.table.specs.declared.Gate.{Gate}
 use Rattle.table.specs.Table.{Rows}

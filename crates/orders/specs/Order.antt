@@ -5,15 +5,15 @@ use mathlib.Core.Bool.{Bool, true, false, cond, _&&_}
 use lib.Dec.{eqb, leb}
 use lib.IntN.{ℤ, pos, negsuc, _+ℤ_}
 use lib.ListN.{length, drop, getD, replicate}
-use Rattle.dates.specs.declared.calendar.DayRead.{DayRead}
-use Rattle.dates.specs.declared.calendar.DayRead.the-variants.{Good, NoDate}
+use Rattle.days.specs.declared.calendar.DayRead.{DayRead}
+use Rattle.days.specs.declared.calendar.DayRead.the-variants.{Good, NoDate}
 use Rattle.texts.specs.declared.digits.Digits.{Digits}
 use Rattle.texts.specs.declared.digits.Digits.the-variants.{Value, Malformed}
 use Rattle.texts.specs.Lists.{find, eqList}
 use Rattle.texts.specs.Digits.{digitsRead, decimal}
 use Rattle.fields.specs.Codes.{kindRead}
 use Rattle.fields.specs.Number.{numberRead}
-use Rattle.dates.specs.Calendar.{dayFault, dayRead}
+use Rattle.days.specs.Calendar.{dayFault, dayRead}
 use Rattle.dates.specs.Date.{dateRead}
 use Rattle.coding.specs.Params.{splitAt}
 use Rattle.table.specs.declared.Account.{Account}

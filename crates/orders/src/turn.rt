@@ -1,8 +1,8 @@
 // What a line of a session does.
 use crate::Console;
 use crate::line;
-use dates::calendar;
-use dates::calendar::DayRead;
+use days::calendar;
+use days::calendar::DayRead;
 use dates::date;
 use fields::codes;
 use fields::number;

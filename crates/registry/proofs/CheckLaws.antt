@@ -8,8 +8,8 @@ use lib.Dec.{ltb}
 use lib.ListN.{length, take, drop, length-drop, drop-of-length-le}
 use lib.Seq.{drop-drop}
 use borrow.Author.Tests.{le-leb, lt-leb, not-true, not-false}
-use Rattle.dates.specs.declared.calendar.Day.{Day}
-use Rattle.dates.specs.Calendar.{onDay}
+use Rattle.days.specs.declared.calendar.Day.{Day}
+use Rattle.days.specs.Calendar.{onDay}
 use Rattle.dates.specs.Date.{dateDay}
 use Rattle.lines.specs.declared.line.LineRead.{LineRead}
 use Rattle.lines.specs.Line.{lineRead}

@@ -11,7 +11,7 @@ use borrow.Author.Tests.{eq-eqb, ne-eqb}
 use Rattle.texts.proofs.ListLaws.{drop-next}
 use Rattle.lines.specs.Line.{lineRead}
 use Rattle.registry.specs.Registry.{lineEnd, onto, splitLines, countOf, lineCount, goodLine, goodLines, heldLines}
-use Rattle.dates.specs.declared.calendar.Day.{Day}
+use Rattle.days.specs.declared.calendar.Day.{Day}
 use Rattle.texts.proofs.Tests.{cond-elim}
 
 -- ---- the two bytes of a line's end

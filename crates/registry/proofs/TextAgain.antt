@@ -9,9 +9,9 @@ use lib.Dec.{ltb, eqb}
 use lib.ListN.{length, take, drop, length-append}
 use lib.Seq.{take-append-seam, drop-append-add}
 use borrow.Author.Tests.{le-leb, not-true}
-use Rattle.dates.specs.declared.calendar.Day.{Day}
+use Rattle.days.specs.declared.calendar.Day.{Day}
 use Rattle.texts.specs.Lists.{every}
-use Rattle.dates.specs.Calendar.{onDay}
+use Rattle.days.specs.Calendar.{onDay}
 use Rattle.dates.specs.Date.{dateDay}
 use Rattle.texts.proofs.Tests.{both}
 use Rattle.lines.specs.declared.line.Line.{Line}

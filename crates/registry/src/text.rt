@@ -1,5 +1,5 @@
 // The text of a registry: lines ended by 0D 0A.
-use dates::calendar::Day;
+use days::calendar::Day;
 use dates::date;
 use lines::line;
 use lines::line::LineRead;
@@ -9,7 +9,7 @@ ghost use mathlib.Core.Path.{_≡_};
 ghost use mathlib.Core.Bool.{_&&_, cond};
 ghost use lib.Dec.{ltb, eqb};
 ghost use lib.ListN.{take, drop};
-ghost use Rattle.dates.specs.Calendar.{onDay};
+ghost use Rattle.days.specs.Calendar.{onDay};
 ghost use Rattle.dates.specs.Date.{dateDay};
 ghost use Rattle.lines.specs.Line.{lineRead};
 ghost use Rattle.registry.specs.Registry.{lineEnd, lineCount, registryFault};

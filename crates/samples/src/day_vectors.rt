@@ -1,7 +1,7 @@
 // Days and written dates.
 use crate::print;
-use dates::calendar;
-use dates::calendar::DayRead;
+use days::calendar;
+use days::calendar::DayRead;
 use dates::date;
 use texts::scan;
 

@@ -1,5 +1,5 @@
 // Answers that only these vectors have, printed.
-use dates::calendar::Day;
+use days::calendar::Day;
 use fields::number::Number;
 use texts::digits::Digits;
 use texts::scan;

@@ -4,9 +4,9 @@ use mathlib.Core.List.{List}
 use mathlib.Core.Bool.{cond, not, _&&_}
 use lib.Dec.{eqb, leb}
 use lib.ListN.{length}
-use Rattle.dates.specs.declared.calendar.Day.{Day}
+use Rattle.days.specs.declared.calendar.Day.{Day}
 use Rattle.texts.specs.Lists.{written}
-use Rattle.dates.specs.Calendar.{isDay, dayBefore, nextDay, onDay}
+use Rattle.days.specs.Calendar.{isDay, dayBefore, nextDay, onDay}
 use Rattle.dates.specs.Date.{isWritten}
 use Rattle.lines.specs.declared.line.Line.{Line}
 use Rattle.registry.specs.Registry.{registryLines, registryFault}

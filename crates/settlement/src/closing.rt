@@ -2,7 +2,7 @@
 use clearing::each_line;
 use clearing::report;
 use clearing::sweeping;
-use dates::calendar::Day;
+use days::calendar::Day;
 use ledger::Reply;
 use table::Gate;
 ghost use mathlib.Core.Path.{_≡_};

@@ -2,7 +2,7 @@
 use crate::closing;
 use clearing::reading;
 use clearing::report;
-use dates::calendar::Day;
+use days::calendar::Day;
 use dates::date;
 use ledger::Reply;
 use registry::text;

@@ -10,9 +10,9 @@ use lib.IntN.{ℤ, pos, negℤ, _+ℤ_, _-ℤ_, +ℤ-idr, +ℤ-assoc, negℤ-+�
 use lib.ListN.{length, getD, length-take}
 use lib.Seq.{getD-set-same, getD-set-other}
 use borrow.Author.Tests.{eq-eqb, ne-eqb}
-use Rattle.dates.specs.declared.calendar.Day.{Day}
+use Rattle.days.specs.declared.calendar.Day.{Day}
 use Rattle.fields.specs.declared.number.Number.{Number}
-use Rattle.dates.specs.Calendar.{nextDay, onDay}
+use Rattle.days.specs.Calendar.{nextDay, onDay}
 use Rattle.texts.proofs.Tests.{cond-elim, no-claim}
 use Rattle.lines.specs.declared.line.Line.{Line}
 use Rattle.registry.specs.Registry.{registryLines}

@@ -22,7 +22,7 @@ use Rattle.texts.specs.Lists as L
 use Rattle.texts.specs.Digits as G
 use Rattle.fields.specs.Amount as M
 use Rattle.fields.specs.Number as N
-use Rattle.dates.specs.Calendar as C
+use Rattle.days.specs.Calendar as C
 use Rattle.dates.specs.Date as W
 use Rattle.coding.specs.Url as U
 use Rattle.coding.specs.Params as P

@@ -6,10 +6,10 @@ use mathlib.Core.Bool.{Bool, true, false, cond}
 use mathlib.Core.List.{List, [], _∷_}
 use lib.ListN.{length, take}
 use borrow.Author.Tests.{eq-eqb, le-leb}
-use Rattle.dates.specs.declared.calendar.Day.{Day}
+use Rattle.days.specs.declared.calendar.Day.{Day}
 use Rattle.texts.specs.Lists.{every}
 use Rattle.dates.specs.Date.{isWritten}
-use Rattle.dates.specs.Calendar.{nextDay, onDay}
+use Rattle.days.specs.Calendar.{nextDay, onDay}
 use Rattle.texts.proofs.OutLaws.{text-first}
 use Rattle.lines.specs.declared.line.Line.{Line}
 use Rattle.registry.specs.Registry.{registryLines, registryFault}

@@ -6,13 +6,13 @@ use mathlib.Core.Bool.{true, false}
 use mathlib.Core.List.{List, [], _∷_}
 use lib.ListN.{length, getD, length-append, length-set, length-map}
 use borrow.Author.Tests.{leb-false}
-use Rattle.dates.specs.declared.calendar.Day.{Day}
-use Rattle.dates.specs.declared.calendar.DayRead.{DayRead}
-use Rattle.dates.specs.declared.calendar.DayRead.the-variants.{Good, NoDate}
-use Rattle.dates.specs.Calendar.{isDay, nextDay, onDay}
+use Rattle.days.specs.declared.calendar.Day.{Day}
+use Rattle.days.specs.declared.calendar.DayRead.{DayRead}
+use Rattle.days.specs.declared.calendar.DayRead.the-variants.{Good, NoDate}
+use Rattle.days.specs.Calendar.{isDay, nextDay, onDay}
 use Rattle.dates.specs.Date.{isWritten}
 use Rattle.texts.proofs.Tests.{no-claim}
-use Rattle.dates.proofs.DayLaws.{same-day, next-is-day}
+use Rattle.days.proofs.DayLaws.{same-day, next-is-day}
 use Rattle.lines.specs.declared.line.Line.{Line}
 use Rattle.registry.specs.Registry.{registryLines}
 use Rattle.registry.proofs.LinesGood.{lines-good as registry-lines}

@@ -8,10 +8,10 @@ use mathlib.Core.List.{List, [], _∷_, _++_, map}
 use lib.Dec.{eqb, leb}
 use lib.ListN.{length, drop, getD, set, length-append, length-set, length-map, List·getD-append}
 use lib.Seq.{getD-set-same, getD-set-other}
-use Rattle.dates.specs.declared.calendar.Day.{Day}
+use Rattle.days.specs.declared.calendar.Day.{Day}
 use Rattle.texts.specs.Lists.{written}
 use Rattle.dates.specs.Date.{dateDay, isWritten}
-use Rattle.dates.specs.Calendar.{isDay, dayBefore, nextDay, onDay}
+use Rattle.days.specs.Calendar.{isDay, dayBefore, nextDay, onDay}
 use Rattle.texts.proofs.Tests.{cond-elim, and-left, and-right}
 use Rattle.fields.specs.Number.{sameNumber}
 use Rattle.texts.proofs.OutLaws.{written-over, bytes-past}

@@ -7,7 +7,7 @@ use lib.Dec.{eqb}
 use lib.IntN.{ℤ, pos, _+ℤ_, _-ℤ_}
 use lib.Signed.{mag}
 use lib.ListN.{length, getD, set, take}
-use Rattle.dates.specs.declared.calendar.Day.{Day}
+use Rattle.days.specs.declared.calendar.Day.{Day}
 use Rattle.fields.specs.declared.number.Number.{Number}
 use Rattle.fields.specs.Number.{sameNumber}
 use Rattle.table.specs.declared.Account.{Account}

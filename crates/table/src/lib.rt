@@ -2,7 +2,7 @@
 pub mod accounts;
 pub mod rows;
 
-use dates::calendar::Day;
+use days::calendar::Day;
 use fields::number::Number;
 
 // How many accounts a gate has at most.

@@ -7,7 +7,7 @@ use lib.Dec.{leb}
 use lib.ListN.{length, getD}
 use lib.Seq.{getD-take}
 use borrow.Author.Tests.{le-leb, leb-true}
-use Rattle.dates.specs.Calendar.{isDay}
+use Rattle.days.specs.Calendar.{isDay}
 use Rattle.fields.specs.Codes.{isKind}
 use Rattle.fields.specs.Number.{isNumber}
 use Rattle.texts.proofs.Tests.{and-left, and-right, and-both}

@@ -13,7 +13,7 @@ use mir.Val.{SFits, toZ, ofZ}
 use borrow.Author.Tests.{eq-eqb, ne-eqb, lt-leb, le-leb, lt-ltb, le-ltb, ltb-true, ltb-false, leb-true, not-true, not-false}
 use Rattle.texts.specs.Lists.{eqList}
 use Rattle.fields.specs.Amount.{isAmount}
-use Rattle.dates.specs.Calendar.{isDay}
+use Rattle.days.specs.Calendar.{isDay}
 use Rattle.fields.specs.Codes.{isReceipt, isKind}
 use Rattle.dates.specs.Date.{isWritten, emptyDate}
 use Rattle.fields.specs.Number.{isNumber}

@@ -6,7 +6,7 @@ use lib.IntN.{ℤ, pos, negsuc}
 use lib.ListN.{length}
 use Rattle.texts.specs.Lists.{eqList}
 use Rattle.fields.specs.Amount.{isAmount}
-use Rattle.dates.specs.Calendar.{isDay}
+use Rattle.days.specs.Calendar.{isDay}
 use Rattle.fields.specs.Codes.{isReceipt, isKind}
 use Rattle.dates.specs.Date.{isWritten, emptyDate}
 use Rattle.fields.specs.Number.{isNumber}

@@ -8,10 +8,10 @@ use Rattle.texts.specs.declared.digits.Digits.the-variants.{Value, Malformed}
 use Rattle.fields.specs.declared.number.Number.{Number}
 use Rattle.texts.specs.Lists.{find, written}
 use Rattle.texts.specs.Digits.{digitsRead}
-use Rattle.dates.specs.declared.calendar.Day.{Day}
-use Rattle.dates.specs.declared.calendar.DayRead.{DayRead}
-use Rattle.dates.specs.declared.calendar.DayRead.the-variants.{Good, NoDate}
-use Rattle.dates.specs.Calendar.{dayRead}
+use Rattle.days.specs.declared.calendar.Day.{Day}
+use Rattle.days.specs.declared.calendar.DayRead.{DayRead}
+use Rattle.days.specs.declared.calendar.DayRead.the-variants.{Good, NoDate}
+use Rattle.days.specs.Calendar.{dayRead}
 use Rattle.table.specs.declared.Gate.{Gate}
 use Rattle.vectors.specs.Given.{fieldOf, valueOr0, valueGiven, dayOr0, dayGiven, zeroed, numberGiven, dateGiven, noAccount, noAccounts}
 

@@ -1,7 +1,7 @@
 // What a line gives, each read up to the first space: it may be out of range.
-use dates::calendar;
-use dates::calendar::Day;
-use dates::calendar::DayRead;
+use days::calendar;
+use days::calendar::Day;
+use days::calendar::DayRead;
 use fields::number::Number;
 use table::Account;
 use table::Gate;

@@ -22,7 +22,7 @@ use Rattle.book.specs.declared.Entry.{Entry}
 use Rattle.book.specs.declared.State.{State}
 use Rattle.book.specs.declared.State.the-variants.{CancelAsked}
 use Rattle.book.specs.Entries.{BookRows, stateOf, stateNumber, noEntry, entryAt, entriesOf, bookWith, findEntry}
-use Rattle.book.specs.BookValid.{bookGood, ReadyBook}
+use Rattle.book_validity.specs.BookValid.{bookGood, ReadyBook}
 use Rattle.book.proofs.EntryLaws.{getD-entries, book-set}
 use Rattle.daybook.specs.Acceptance.{isFrozen}
 use Rattle.writing.specs.Writing.{Writing, mayWrite, writtenEntry, requestOf, formsGood, isOpen, writeAt, writeRequest, checkOf, writeCheck}

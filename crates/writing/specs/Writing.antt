@@ -21,7 +21,7 @@ use Rattle.book.specs.declared.Entry.{Entry}
 use Rattle.book.specs.declared.State.{State}
 use Rattle.book.specs.declared.State.the-variants.{Asked, Credited, CancelAsked, Cancelled, Unposted}
 use Rattle.book.specs.Entries.{BookRows, stateOf, stateNumber, noEntry, entriesOf, bookFrom, findEntry}
-use Rattle.book.specs.BookValid.{bookGood}
+use Rattle.book_validity.specs.BookValid.{bookGood}
 use Rattle.daybook.specs.Acceptance.{isFrozen}
 use Rattle.daybook.specs.declared.Writing.{Writing as Given}
 

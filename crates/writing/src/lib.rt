@@ -2,9 +2,10 @@
 use book::Book;
 use book::Entry;
 use book::State;
-use book::find;
+use book_validity::find;
 use book::rows;
-use book::valid;
+use book::states;
+use book_validity::valid;
 use daybook::Writing;
 use daybook::frozen;
 use fields::codes;
@@ -17,7 +18,7 @@ ghost use mathlib.Core.Path.{_≡_};
 ghost use Prim.Native.Nat.{_<_};
 ghost use Rattle.payments.specs.declared.Action.the-variants.{Payment, Status, Cancel};
 ghost use Rattle.lists.specs.declared.Found.the-variants.{At};
-ghost use Rattle.book.specs.BookValid.{ReadyBook};
+ghost use Rattle.book_validity.specs.BookValid.{ReadyBook};
 ghost use Rattle.writing.specs.Writing.{writingOf, mayWrite, writtenEntry, requestOf, checkOf, formsGood, isOpen, writeAt, writeRequest, writeCheck};
 ghost use Rattle.book.specs.Lent.{lentBook, bookBefore, bookAfter};
 
@@ -58,7 +59,7 @@ pub(crate) fn written_entry(a: Action, e: Entry) -> Entry
         Action::Payment => e,
         Action::Status => e,
         Action::Cancel => {
-            next.state = find::state_number(State::CancelAsked);
+            next.state = states::state_number(State::CancelAsked);
             next
         }
     }
@@ -100,7 +101,7 @@ pub(crate) fn forms_good(a: Action, receipt: u64, reason: u64) -> bool
 pub(crate) fn is_open(b: Book, a: Action, e: Entry) -> bool
     ensures { λ r. ⌜ r ≡ isOpen b a e ⌝ }
 {
-    if !may_write(a, find::state_of(e.state)) {
+    if !may_write(a, states::state_of(e.state)) {
         return false;
     }
     let date = e.date;

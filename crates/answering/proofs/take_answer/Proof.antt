@@ -1,4 +1,4 @@
-use Rattle.book.proofs.PassedLaws.{good-is, ready-is}
+use Rattle.book_validity.proofs.PassedLaws.{good-is, ready-is}
 use Rattle.answering.proofs.AnsweringLaws.{take-not-book, take-check, take-receipt}
 use borrow.Author.Needs.{needs}
 use Rattle.answering.proofs.take_answer.Statement.{statement}

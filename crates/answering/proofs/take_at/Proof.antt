@@ -1,4 +1,4 @@
-use Rattle.book.proofs.PassedLaws.{room-at}
+use Rattle.book_validity.proofs.PassedLaws.{room-at}
 use Rattle.answering.proofs.AnsweringLaws.{at-unread, at-frozen, at-answered}
 use Rattle.book.specs.Entries.{BookRows}
 use borrow.Author.Needs.{needs}

@@ -1,4 +1,4 @@
-use Rattle.book.proofs.PassedLaws.{place-in-use}
+use Rattle.book_validity.proofs.PassedLaws.{place-in-use}
 use Rattle.answering.proofs.AnsweringLaws.{not-receipt, none-found, one-found}
 use borrow.Author.Needs.{needs}
 use Rattle.answering.proofs.take_receipt.Statement.{statement}

@@ -9,9 +9,9 @@ use mathlib.Core.List.{List, [], _∷_}
 use mathlib.Core.Option.{Option, none, some}
 use lib.Dec.{eqb}
 use lib.ListN.{take, getElem?}
-use Rattle.dates.specs.declared.calendar.Day.{Day}
+use Rattle.days.specs.declared.calendar.Day.{Day}
 use Rattle.fields.specs.declared.number.Number.{Number}
-use Rattle.dates.specs.Calendar.{isDay}
+use Rattle.days.specs.Calendar.{isDay}
 use Rattle.texts.proofs.Tests.{and-left}
 use Rattle.payments.specs.declared.Action.{Action}
 use Rattle.payments.specs.declared.Action.the-variants.{Check, Payment, Status, Cancel}
@@ -32,11 +32,12 @@ use Rattle.book.specs.declared.Entry.{Entry}
 use Rattle.book.specs.declared.State.{State}
 use Rattle.book.specs.declared.State.the-variants.{Asked, Credited, CancelAsked, Cancelled, Unposted}
 use Rattle.book.specs.Entries.{BookRows, entriesOf}
-use Rattle.book.specs.BookValid.{bookGood}
-use Rattle.book.proofs.BookLaws.{good-lent, good-book}
+use Rattle.book_validity.specs.BookValid.{bookGood}
+use Rattle.book_validity.proofs.BookLaws.{good-lent, good-book}
 use Rattle.daybook.specs.declared.freezing.Freezing.{Freezing}
 use Rattle.daybook.specs.Acceptance.{Acceptance, acceptFault, accept}
-use Rattle.daybook.specs.Freezing.{Listing, froze, unlisted, freeze, writeRegistry}
+use Rattle.daybook.specs.Freezing.{froze, freeze}
+use Rattle.listing.specs.Listing.{Listing, unlisted, writeRegistry}
 use Rattle.writing.specs.Writing.{Writing, unwritten, writeRequest, writeCheck}
 use Rattle.channel.specs.World.{World, Sent, sentRequest, sentAnswer, sentRegistry, sentReport, Step, opens, draws, accepts, writesCheck, writesPayment, writesStatus, writesCancel, freezes, writesRegistry, delivers, sentIf, atGate, atAgent, isAnswered, requestArrives, registryArrives, answerArrives, reportArrives, delivered, opening, drawing, accepting, checking, writing, freezing, listing, step, run}
 use Rattle.channel.specs.Claim.{Start, Lent, recordsIn, entryIn, entriesIn, stateIn, doneOn, creditedOn, byNumber, total, Says, DeliversReport, ReportDelivered, SettledDay, Safe}

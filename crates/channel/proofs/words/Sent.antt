@@ -8,11 +8,11 @@ use mathlib.Core.Option.{Option, none, some}
 use lib.Dec.{eqb, leb}
 use lib.ListN.{length, take, getElem?}
 use borrow.Author.Tests.{leb-true, eq-eqb, ne-eqb, not-true, not-false}
-use Rattle.dates.specs.declared.calendar.Day.{Day}
+use Rattle.days.specs.declared.calendar.Day.{Day}
 use Rattle.fields.specs.declared.number.Number.{Number}
 use Rattle.texts.specs.Lists.{written, cursorAfter}
 use Rattle.fields.specs.Amount.{isAmount}
-use Rattle.dates.specs.Calendar.{isDay, dayBefore}
+use Rattle.days.specs.Calendar.{isDay, dayBefore}
 use Rattle.fields.specs.Codes.{isKind}
 use Rattle.fields.specs.Number.{isNumber}
 use Rattle.texts.proofs.Tests.{cond-elim}
@@ -36,11 +36,11 @@ use Rattle.settlement.specs.Settle.{Settlement, settleDay, settle}
 use Rattle.settlement.proofs.DayLaws.{report-length}
 use Rattle.settlement_theorems.proofs.SettleLaws.{settled-by, fault-keeps, report-now}
 use Rattle.book.specs.Entries.{findEntry}
-use Rattle.book.specs.BookValid.{bookGood}
-use Rattle.daybook.specs.Freezing.{registryOf, Listing, listOn, writeRegistry}
-use Rattle.daybook.proofs.RegistryLaws.{registry-few}
+use Rattle.book_validity.specs.BookValid.{bookGood}
+use Rattle.listing.specs.Listing.{registryOf, Listing, listOn, writeRegistry}
+use Rattle.listing.proofs.RegistryLaws.{registry-few}
 use Rattle.writing.specs.Writing.{Writing, requestOf, checkOf, writeCheck}
-use Rattle.book.proofs.PaymentLaws.{entry-parts}
+use Rattle.book_validity.proofs.PaymentLaws.{entry-parts}
 use Rattle.agent_theorems.proofs.MovedLaws.{same-place, found-fields}
 use Rattle.agent_theorems.proofs.WritingTheorems.{write-cases}
 use Rattle.channel.specs.World.{Sent, sentRequest, sentAnswer, sentRegistry, sentReport, World, Step, opens, draws, accepts, writesCheck, writesPayment, writesStatus, writesCancel, freezes, writesRegistry, delivers, sentIf, atGate, isAnswered, requestArrives, registryArrives, answerArrives, reportArrives, delivered, opening, drawing, accepting, checking, writing, freezing, listing, step, codeOf}

@@ -1,4 +1,4 @@
-use Rattle.book.proofs.PassedLaws.{room-at}
+use Rattle.book_validity.proofs.PassedLaws.{room-at}
 use Rattle.writing.proofs.WritingLaws.{at-closed, at-open}
 use Rattle.book.specs.Entries.{BookRows}
 use borrow.Author.Needs.{needs}

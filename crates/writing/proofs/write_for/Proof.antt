@@ -1,5 +1,5 @@
 use borrow.Author.Tests.{not-false}
-use Rattle.book.proofs.PassedLaws.{good-is, place-in-use}
+use Rattle.book_validity.proofs.PassedLaws.{good-is, place-in-use}
 use Rattle.writing.proofs.WritingLaws.{not-book, no-room, no-forms, no-entry, one-entry}
 use borrow.Author.Needs.{needs}
 use Rattle.writing.proofs.write_for.Statement.{statement}

@@ -1,4 +1,4 @@
-use Rattle.dates.proofs.CalendarLaws.{this-of}
+use Rattle.days.proofs.CalendarLaws.{this-of}
 use borrow.Author.Needs.{needs}
 use Rattle.dates.proofs.date.is_on.Statement.{statement}
 use Rattle.dates.proofs.date.is_on.Tie as tie

@@ -1,4 +1,4 @@
-use Rattle.dates.proofs.CalendarLaws.{until-of}
+use Rattle.days.proofs.CalendarLaws.{until-of}
 use borrow.Author.Needs.{needs}
 use Rattle.dates.proofs.date.is_up_to.Statement.{statement}
 use Rattle.dates.proofs.date.is_up_to.Tie as tie

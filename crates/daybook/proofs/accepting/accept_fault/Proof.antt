@@ -1,5 +1,5 @@
 use native.Mathlib.Omega.{arith}
-use Rattle.book.proofs.PassedLaws.{good-is, ready-is}
+use Rattle.book_validity.proofs.PassedLaws.{good-is, ready-is}
 use Rattle.daybook.proofs.AcceptLaws.{fault-book, fault-may, fault-place, fault-none}
 use borrow.Author.Needs.{needs}
 use Rattle.daybook.proofs.accepting.accept_fault.Statement.{statement}

@@ -1,6 +1,0 @@
--- How the check of a book counts: a slot for each day of the hundred years. No contract above this crate cites it.
-use Prim.Native.Nat.{ℕ, _+_, _-_, _*_}
-use Rattle.dates.specs.declared.calendar.Day.{Day}
-
-abbrev pub daySlot : Day → ℕ
-daySlot d = (d .year - 2000) * 384 + d .month * 32 + d .day

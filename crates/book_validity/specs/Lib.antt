@@ -1,0 +1,2 @@
+pub mod BookValid
+pub mod BookWalk

@@ -1,0 +1,2 @@
+// Days of the calendar.
+pub mod calendar;

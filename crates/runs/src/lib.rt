@@ -1,0 +1,2 @@
+// No code: runs of both ends, by computation.
+
