@@ -13,7 +13,7 @@ use Rattle.days.specs.declared.calendar.Day.{Day}
 use Rattle.days.specs.Calendar.{isDay, dayBefore, sameDay, onDay}
 use Rattle.dates.specs.Date.{dateDay}
 use Rattle.texts.specs.Lists.{every}
-use Rattle.texts.proofs.Tests.{and-left, and-right, cond-elim, no-claim}
+use Rattle.texts.proofs.Tests.{and-left, and-right, cond-elim, by-test, no-claim}
 use Rattle.lists.specs.Lent.{Lent}
 use Rattle.lists.proofs.ColumnLaws.{column-size, column-at}
 use Rattle.lists.proofs.LentLaws.{lent-facts, facts-lent}
@@ -94,11 +94,6 @@ marked-count d day (e ∷ es) (m ∷ ms) =
     cond-elim (λ (l : List Entry). dayCount d l ≡ cond (onDay d (dateDay (e .date))) (suc (dayCount d es)) (dayCount d es)) (isListed day e) _ _
     (λ h. ap (λ (n : ℕ). cond (onDay d (dateDay (e .date))) (suc n) n) (marked-count d day es ms))
     (λ h. ap (λ (n : ℕ). cond (onDay d (dateDay (e .date))) (suc n) n) (marked-count d day es (m ∷ ms)))
-
--- ---- the marks in the order of the day's registry
-by-test : {A : Type 0} (z : Bool) → (z ≡ true → A) → (z ≡ false → A) → A
-by-test true f g = f refl
-by-test false f g = g refl
 
 module _ (day : Day) (e : Entry) (es : List Entry) where
   listed-on : isListed day e ≡ true → listed day (e ∷ es) ≡ e ∷ listed day es

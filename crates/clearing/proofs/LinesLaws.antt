@@ -42,7 +42,7 @@ going-start clock xs t g held =
     record {
       rest = refl;
       held = held-more g t 10000000000000 (10000000000000 + 0 * 1000000000) held (omega arith);
-      rows = sym (rows-kept t (g .used) (held .whole));
+      rows = sym (rows-kept t (g .used) (held .backed .whole));
       size = refl;
     }
 

@@ -37,13 +37,13 @@ module _ (g : Gate) (t : Rows) (b : ℕ) (held : Held g t b) (clock : List ℕ) 
       let rs : List Record = recordsOf t (g .used) in
       let size : length rs ≡ g .used = length-records t (g .used) in
       let as-long : length (set rs i (revoked clock r)) ≡ length rs = length-set rs i (revoked clock r) in
-      let room = held .whole .nums in
+      let room = held .backed .whole .nums in
       let k : Found = findAccount (r .number) (r .kind) (accountsOf g) in
       record {
         used = omega (arith, debit-used g k (r .amount));
         longer = omega arith;
         room = omega arith;
-        funds = funds-debited-at g b (r .amount) (held .funds) few k (λ a e. holder-within g (r .number) (r .kind) a k refl e);
+        funds = funds-debited-at g b (r .amount) (held .backed .funds) few k (λ a e. holder-within g (r .number) (r .kind) a k refl e);
         small = small-set rs i (revoked clock r) (held-small g t b held) (λ _. few);
       }
 
@@ -51,4 +51,4 @@ module _ (g : Gate) (t : Rows) (b : ℕ) (held : Held g t b) (clock : List ℕ) 
       → (g′ : Gate) → g′ ≡ debitedAt g k (r .amount) → Left t (revokedAt clock r i (ledgerOf g t)) g′ t′
   unfolding revokedAt
   revoked-out q eq t′ et k ek g′ eg =
-      record { gates = eg ∙ ap (λ (f : Found). debitedAt g f (r .amount)) ek; left = et ∙ rw eq (sym (rows-set t (g .used) (held .whole) i (revoked clock r) h)) }
+      record { gates = eg ∙ ap (λ (f : Found). debitedAt g f (r .amount)) ek; left = et ∙ rw eq (sym (rows-set t (g .used) (held .backed .whole) i (revoked clock r) h)) }

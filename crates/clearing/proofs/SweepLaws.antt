@@ -78,7 +78,7 @@ sweeping-start clock day xs t g held =
     record {
       gates = refl;
       records = refl;
-      rows = sym (rows-kept t (g .used) (held .whole));
+      rows = sym (rows-kept t (g .used) (held .backed .whole));
       held = held-more g t 11000000000000 (11000000000000 + 0 * 1000000000) held (omega arith);
       used = refl;
     }
@@ -86,7 +86,7 @@ sweeping-start clock day xs t g held =
 module _ (clock : List ℕ) (day : Day) (xs : List Line) (t₀ : Rows) (g₀ : Gate) (t : Rows) (g : Gate) (i : ℕ) (going : Sweeping clock day xs t₀ g₀ t g i) where
   pub sweeping-last : i ≤ g₀ .used → Held g t 16000000000000
   sweeping-last h =
-      held-more g t (11000000000000 + i * 1000000000) 16000000000000 (going .held) (omega (arith, going .used, going .held .whole .nums, going .held .size))
+      held-more g t (11000000000000 + i * 1000000000) 16000000000000 (going .held) (omega (arith, going .used, going .held .backed .whole .nums, going .held .backed .size))
 
   pub sweeping-held : i < g₀ .used → Held g t 10000000000000000
   sweeping-held h = held-more g t 16000000000000 10000000000000000 (sweeping-last (omega arith)) (omega arith)
@@ -95,7 +95,7 @@ module _ (clock : List ℕ) (day : Day) (xs : List Line) (t₀ : Rows) (g₀ : G
   sweeping-place h = omega (arith, going .used)
 
   pub sweeping-fits : i < g₀ .used → i + 1 < 2 ^ 64
-  sweeping-fits h = omega (arith, going .used, going .held .whole .nums, going .held .size)
+  sweeping-fits h = omega (arith, going .used, going .held .backed .whole .nums, going .held .backed .size)
 
   pub sweeping-nums : i < g₀ .used → i < length (t .nums)
   sweeping-nums h = at-nums g t _ (going .held) i (sweeping-place h)

@@ -26,10 +26,6 @@ unitOf (b ∷ (h ∷ (l ∷ s))) = cond (eqb b 37) (escape h l) (single b)
 abbrev pub codeSize : ℕ → ℕ
 codeSize b = cond (isPlain b) 1 3
 
--- what a byte holds
-abbrev pub isByte : ℕ → Bool
-isByte b = ltb b 256
-
 -- the bytes of which coded text is made: plain ones and %
 unfoldable pub isCode : ℕ → Bool
 isCode b = isPlain b || eqb b 37

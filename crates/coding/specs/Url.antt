@@ -7,6 +7,10 @@ use lib.Dec.{leb, ltb, eqb}
 use Rattle.texts.specs.Digits.{within}
 use Rattle.texts.specs.Lists.{over}
 
+-- what a byte holds
+abbrev pub isByte : ℕ → Bool
+isByte b = ltb b 256
+
 -- ---- decoding
 -- 0 to 9, A to F, a to f
 unfoldable pub isHex : ℕ → Bool

@@ -10,6 +10,7 @@ use lib.Dec.{leb, eqb, leb·zero, leb·suc-suc}
 use lib.ListN.{length, getD, take, replicate}
 use lib.Seq.{take-all, length-take-le, take-nil}
 use borrow.Author.Tests.{le-leb, lt-leb, eq-eqb, ne-eqb, eqb-true, eqb-false, leb-true, leb-false}
+use Rattle.texts.proofs.Tests.{by-test}
 use Rattle.texts.specs.declared.digits.Digits.{Digits}
 use Rattle.texts.specs.declared.digits.Digits.the-variants.{Value, Malformed}
 use Rattle.days.specs.declared.calendar.DayRead.the-variants.{NoDate}
@@ -26,12 +27,8 @@ use Rattle.table.specs.declared.Gate.{Gate}
 use Rattle.table.specs.Table.{Rows}
 use Rattle.gate.specs.Deliver.{deliver}
 use Rattle.orders.specs.declared.Console.{Console}
-use Rattle.orders.specs.Order.{fieldCount, fieldAt, hasLetter, afterSpace, paramsIn, startTurn, openTurn, drawOf, drawTurn, askTurn, orderTurn, lineTurn}
-
--- both ways of a test
-pub by-test : {P : Type 0} (t : Bool) → (t ≡ true → P) → (t ≡ false → P) → P
-by-test true f g = f refl
-by-test false f g = g refl
+use Rattle.orders.specs.Order.{startTurn, openTurn, drawOf, drawTurn, askTurn, orderTurn, lineTurn}
+use Rattle.line_fields.specs.LineFields.{fieldCount, fieldAt, hasLetter, afterSpace, paramsIn}
 
 -- ---- a line cut: m bytes of this field, 31 of each of the fields up to the jth space, and of the rest what e leaves
 unfoldable pub kept : (List ℕ → List ℕ) → ℕ → List ℕ → ℕ → List ℕ

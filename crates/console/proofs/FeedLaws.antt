@@ -15,13 +15,16 @@ use Rattle.coding.specs.Params.{splitAt}
 use Rattle.coding.proofs.ParamLaws.{split-append, split-last}
 use Rattle.texts.proofs.FindLaws.{find-both}
 use Rattle.table.specs.Table.{Rows}
-use Rattle.console.specs.declared.Held.{Held}
+use Rattle.gathering.specs.declared.Held.{Held}
 use Rattle.orders.specs.Order.{Turn, lineTurn, turnText}
-use Rattle.console.specs.Feed.{heldText, pushed, inParams, absorbed, absorbAll, emptied, Fed, ended, fedByte, fed, finished}
-use Rattle.console.specs.declared.gather.Gathered.{Gathered}
-use Rattle.console.specs.Gather.{gathered}
-use Rattle.console.specs.Session.{linesIn, linesText, newHeld, newFed, sessionText}
-use Rattle.console.proofs.CutLaws.{by-test, split-some, cut-some}
+use Rattle.gathering.specs.Held.{heldText, pushed, inParams, absorbed, absorbAll, emptied}
+use Rattle.console.specs.Feed.{Fed, ended, fedByte, fed, finished}
+use Rattle.gathering.specs.declared.Gathered.{Gathered}
+use Rattle.gathering.specs.Gather.{gathered}
+use Rattle.gathering.specs.Held.{newHeld}
+use Rattle.console.specs.Session.{linesIn, linesText, newFed, sessionText}
+use Rattle.console.proofs.CutLaws.{split-some, cut-some}
+use Rattle.texts.proofs.Tests.{by-test}
 use Rattle.console.proofs.HeldLaws.{held-cut, held-turn}
 
 -- the parts of an input do not matter

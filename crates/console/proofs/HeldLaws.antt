@@ -11,10 +11,11 @@ use lib.Seq.{take-suc-set, take-nil, getD-set-same, getD-set-other}
 use borrow.Author.Tests.{lt-ltb, le-ltb, le-leb, lt-leb, ne-eqb, eqb-true}
 use Rattle.table.specs.Table.{Rows}
 use Rattle.orders.specs.declared.Console.{Console}
-use Rattle.console.specs.declared.Held.{Held}
+use Rattle.gathering.specs.declared.Held.{Held}
 use Rattle.orders.specs.Order.{lineTurn}
-use Rattle.console.specs.Feed.{heldText, pushed, inParams, absorbed, absorbAll, emptied}
-use Rattle.console.proofs.CutLaws.{by-test, kept, joined, cut, cut-turn}
+use Rattle.gathering.specs.Held.{heldText, pushed, inParams, absorbed, absorbAll, emptied}
+use Rattle.console.proofs.CutLaws.{kept, joined, cut, cut-turn}
+use Rattle.texts.proofs.Tests.{by-test}
 
 -- ---- one byte more
 abbrev next : Held → ℕ → ℕ → ℕ → Held

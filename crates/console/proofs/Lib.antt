@@ -1,5 +1,5 @@
 pub mod CutLaws
 pub mod HeldLaws
 pub mod FeedLaws
-pub mod GatherLaws
+pub mod StartLaws
 pub mod PartLaws

@@ -13,16 +13,19 @@ use Rattle.texts.specs.Lists.{over, written, cursorAfter}
 use Rattle.texts.proofs.OutLaws.{over-none, over-length, over-over, cursor-moves, written-over}
 use Rattle.table.specs.Table.{Rows}
 use Rattle.orders.specs.declared.Console.{Console}
-use Rattle.console.specs.declared.Held.{Held}
-use Rattle.console.specs.declared.gather.Gathered.{Gathered}
-use Rattle.orders.specs.Order.{Turn, lineTurn, turnText, figures}
-use Rattle.orders.specs.Sums.{Summable}
-use Rattle.console.specs.Feed.{heldText, absorbed, emptied, Fed, ended, fedByte, fed, finished}
-use Rattle.console.specs.Gather.{gathered}
-use Rattle.console.specs.Session.{emptyGate, newConsole, newHeld, newFed, sessionText}
-use Rattle.console.specs.Parts.{Part, before, printed, feedPart, lastPart, Run, runAll, EndedAt}
+use Rattle.gathering.specs.declared.Held.{Held}
+use Rattle.gathering.specs.declared.Gathered.{Gathered}
+use Rattle.orders.specs.Order.{Turn, lineTurn, turnText}
+use Rattle.figures.specs.Figures.{printed}
+use Rattle.figures.specs.Sums.{Summable}
+use Rattle.gathering.specs.Held.{heldText, absorbed, emptied}
+use Rattle.console.specs.Feed.{Fed, ended, fedByte, fed, finished}
+use Rattle.gathering.specs.Gather.{gathered}
+use Rattle.gathering.specs.Held.{newHeld}
+use Rattle.console.specs.Session.{emptyGate, newConsole, newFed, sessionText}
+use Rattle.console.specs.Parts.{Part, before, printedAt, feedPart, lastPart, Run, runAll, EndedAt}
 use Rattle.orders.proofs.SummableLaws.{turn-summable, none-summable}
-use Rattle.orders.proofs.PrintLaws.{turn-length, turn-text}
+use Rattle.figures.proofs.PrintLaws.{printed-length}
 use Rattle.console.proofs.FeedLaws.{holding, gathered-on, gathered-in, fed-ended, fed-rest, session-fed}
 
 -- ---- a line that has ended
@@ -34,16 +37,16 @@ module _ (x : Console) (t : Rows) (h : Held) (l : List ℕ) (el : l ≡ take (h 
   pub turn-sums : Summable (x .gate) → Summable (y .gate)
   turn-sums s = subst (λ (r : Turn). Summable (r .console .gate)) (sym is-turn) (turn-summable x t (heldText h) s)
 
-  text-is : cond (eqb code 99) (57 ∷ (57 ∷ (10 ∷ []))) (figures code (y .gate)) ≡ turnText (lineTurn x t (heldText h))
-  text-is = sym (turn-text (record { code = code; console = y; rows = t′ })) ∙ ap turnText is-turn
+  text-is : printed code (y .gate) ≡ turnText (lineTurn x t (heldText h))
+  text-is = ap turnText is-turn
 
   pub ended-at : (d : List ℕ) (at : ℕ) → at + 64 ≤ length d → (hd : Held) → hd ≡ emptied h
-      → (o : List ℕ) → o ≡ written d at (cond (eqb code 99) (57 ∷ (57 ∷ (10 ∷ []))) (figures code (y .gate)))
-      → (r : ℕ) → r ≡ cursorAfter d at (cond (eqb code 99) (57 ∷ (57 ∷ (10 ∷ []))) (figures code (y .gate)))
+      → (o : List ℕ) → o ≡ written d at (printed code (y .gate))
+      → (r : ℕ) → r ≡ cursorAfter d at (printed code (y .gate))
       → EndedAt x h t d at y hd t′ o r
   ended-at d at room hd eh o eo r er =
       let text : List ℕ = turnText (lineTurn x t (heldText h)) in
-      let fit : at + length text ≤ length d = omega (arith, turn-length (lineTurn x t (heldText h))) in
+      let fit : at + length text ≤ length d = omega (arith, printed-length ((lineTurn x t (heldText h)) .code) ((lineTurn x t (heldText h)) .console .gate)) in
       record {
         consoles = ap (λ (q : Turn). q .console) is-turn;
         helds = eh;
@@ -97,7 +100,7 @@ module _ (f₀ : Fed) (input out₀ : List ℕ) (room : 64 * length input ≤ le
       going-on y′ h′ t′ o′ size′ d s =
           let r : Turn = lineTurn y t (heldText (g .held)) in
           let text : List ℕ = turnText r in
-          let few : length text ≤ 64 = turn-length r in
+          let few : length text ≤ 64 = printed-length (r .code) (r .console .gate) in
           let most : size + length text ≤ length o = omega (arith, few, v .small, v .sizes, v .inside, part-on, part-in) in
           let now : take size′ o′ ≡ take size o ++ text = ap (λ (k : ℕ). take k o′) (d .cursor) ∙ ap (take (size + length text)) (d .buffer) ∙ take-over o size text fits in
           let first : length (take size o) ≡ size = length-take-le size o fits in
@@ -117,18 +120,18 @@ module _ (f₀ : Fed) (input out₀ : List ℕ) (room : 64 * length input ≤ le
           }
 
     -- a part that ends within a line
-    pub part-rest : not (g .ended) ≡ true → _≡_ {A = Part} (record { console = y; held = g .held; rows = t; out = o; size = size }) (printed out₀ 0 (fed f₀ input))
+    pub part-rest : not (g .ended) ≡ true → _≡_ {A = Part} (record { console = y; held = g .held; rows = t; out = o; size = size }) (printedAt out₀ 0 (fed f₀ input))
     part-rest n =
         let last : fed f₀ input ≡ holding (going y h t o size) (g .held) = v .same ∙ fed-rest (going y h t o size) input at g eg (not-true (g .ended) n) in
-        sym (ap (printed out₀ 0) last ∙ rw (← v .shown, length-take-le size o fits, zero-add))
+        sym (ap (printedAt out₀ 0) last ∙ rw (← v .shown, length-take-le size o fits, zero-add))
 
-  pub part-end : length input ≤ at → _≡_ {A = Part} (record { console = y; held = h; rows = t; out = o; size = size }) (printed out₀ 0 (fed f₀ input))
+  pub part-end : length input ≤ at → _≡_ {A = Part} (record { console = y; held = h; rows = t; out = o; size = size }) (printedAt out₀ 0 (fed f₀ input))
   unfolding fed
   part-end l =
       let last : fed f₀ input ≡ going y h t o size = v .same ∙ rw (drop-of-length-le input l) in
-      sym (ap (printed out₀ 0) last ∙ rw (← v .shown, length-take-le size o fits, zero-add))
+      sym (ap (printedAt out₀ 0) last ∙ rw (← v .shown, length-take-le size o fits, zero-add))
 
-pub feed-is : (x : Console) (h : Held) (t : Rows) (input out : List ℕ) (p : Part) → p ≡ printed out 0 (fed (before x h t) input) → p ≡ feedPart x h t input out
+pub feed-is : (x : Console) (h : Held) (t : Rows) (input out : List ℕ) (p : Part) → p ≡ printedAt out 0 (fed (before x h t) input) → p ≡ feedPart x h t input out
 unfolding feedPart
 feed-is x h t input out p e = e
 
@@ -164,7 +167,7 @@ fed-few (b ∷ s) f = go (eqb b 10) (fed-few s)
     r = lineTurn (f .console) (f .rows) (heldText (f .held))
 
     printedLine : length (f .text ++ turnText r) ≤ length (f .text) + 64
-    printedLine = omega (arith, length-append (f .text) (turnText r), turn-length r)
+    printedLine = omega (arith, length-append (f .text) (turnText r), printed-length (r .code) (r .console .gate))
 
     go : (t : Bool) → ((f′ : Fed) → length ((fed f′ s) .text) ≤ length (f′ .text) + 64 * length s)
         → length ((fed (cond t (ended f) (record { console = f .console; held = absorbed (f .held) b; rows = f .rows; text = f .text })) s) .text) ≤ length (f .text) + 64 * suc (length s)
@@ -205,7 +208,7 @@ module _ (t : Rows) (input out : List ℕ) where
       abbrev all : Fed
       all = fed (newFed t) input
 
-      first : _≡_ {A = Part} (record { console = y; held = k; rows = t₁; out = o₁; size = n₁ }) (printed out 0 all)
+      first : _≡_ {A = Part} (record { console = y; held = k; rows = t₁; out = o₁; size = n₁ }) (printedAt out 0 all)
       unfolding feedPart
       first = fed₁ ∙ ap (λ (c : Console). feedPart c h t input out) ex ∙ ap (λ (l : Held). feedPart newConsole l t input out) eh
 

@@ -1,4 +1,3 @@
 pub mod Feed
-pub mod Gather
 pub mod Session
 pub mod Parts

@@ -8,9 +8,10 @@ use lib.ListN.{length}
 use Rattle.texts.specs.Lists.{over}
 use Rattle.table.specs.Table.{Rows}
 use Rattle.orders.specs.declared.Console.{Console}
-use Rattle.console.specs.declared.Held.{Held}
+use Rattle.gathering.specs.declared.Held.{Held}
 use Rattle.orders.specs.Order.{Turn, lineTurn, turnText}
-use Rattle.console.specs.Feed.{heldText, emptied, Fed, fed, finished}
+use Rattle.gathering.specs.Held.{heldText, emptied}
+use Rattle.console.specs.Feed.{Fed, fed, finished}
 use Rattle.console.specs.Session.{newFed, sessionText}
 use Rattle.console.specs.declared.feed.Part.{Part as GivenPart}
 use Rattle.console.specs.declared.feed.Run.{Run as GivenRun}
@@ -29,15 +30,15 @@ partOf r rows out = record { console = r .console; held = r .held; rows = rows; 
 abbrev pub before : Console → Held → Rows → Fed
 before x h t = record { console = x; held = h; rows = t; text = [] }
 
-abbrev pub printed : List ℕ → ℕ → Fed → Part
-printed out at f = record { console = f .console; held = f .held; rows = f .rows; out = over out at (f .text); size = at + length (f .text) }
+abbrev pub printedAt : List ℕ → ℕ → Fed → Part
+printedAt out at f = record { console = f .console; held = f .held; rows = f .rows; out = over out at (f .text); size = at + length (f .text) }
 
 unfoldable pub feedPart : Console → Held → Rows → List ℕ → List ℕ → Part
-feedPart x h t input out = printed out 0 (fed (before x h t) input)
+feedPart x h t input out = printedAt out 0 (fed (before x h t) input)
 
 -- the end, printed at a cursor
 unfoldable pub lastPart : Console → Held → Rows → List ℕ → ℕ → Part
-lastPart x h t out at = printed out at (finished (before x h t))
+lastPart x h t out at = printedAt out at (finished (before x h t))
 
 -- ---- a whole session; a buffer without room for it is refused
 pub record Run : Type 0 where

@@ -11,7 +11,7 @@ use Rattle.table.specs.declared.Account.{Account}
 use Rattle.table.specs.declared.Gate.{Gate}
 use Rattle.table.specs.Table.{Rows}
 use Rattle.orders.specs.declared.Console.{Console}
-use Rattle.console.specs.declared.Held.{Held}
+use Rattle.gathering.specs.Held.{newHeld}
 use Rattle.orders.specs.Order.{Turn, lineTurn, turnText}
 use Rattle.console.specs.Feed.{Fed}
 
@@ -44,8 +44,5 @@ unfoldable pub sessionText : Rows → List ℕ → List ℕ
 sessionText t s = linesText newConsole t (linesIn (splitAt 10 s))
 
 -- the start of a session that is fed in parts
-abbrev pub newHeld : Held
-newHeld = record { bytes = replicate 2177 0; len = 0; spaces = 0; run = 0 }
-
 abbrev pub newFed : Rows → Fed
 newFed t = record { console = newConsole; held = newHeld; rows = t; text = [] }

@@ -1,16 +1,15 @@
 // A session's input, fed in parts, or whole.
-use crate::Held;
-use crate::gather;
+use crate::start;
+use gathering::Held;
 use orders::Console;
-use orders::print;
+use figures::print;
 use orders::turn;
 use texts::scan;
 ghost use mathlib.Core.Path.{_≡_};
 ghost use Prim.Native.Nat.{_+_, _*_, _≤_};
 ghost use lib.ListN.{length};
 ghost use Rattle.table.specs.Lent.{before, after};
-ghost use Rattle.orders.specs.Sums.{Summable};
-ghost use Rattle.console.specs.Feed.{emptied};
+ghost use Rattle.figures.specs.Sums.{Summable};
 ghost use Rattle.console.specs.Parts.{partOf, feedPart, lastPart, runOf, runAll, EndedAt};
 
 // A session between two parts of its input, and how many bytes the last one printed.
@@ -24,19 +23,6 @@ pub struct Part {
 pub struct Run {
     pub ok: bool,
     pub size: usize,
-}
-
-// A new line.
-pub(crate) fn emptied(h: Held) -> Held
-    ensures { λ r. ⌜ r ≡ emptied h ⌝ }
-{
-    let bytes = h.bytes;
-    Held {
-        bytes,
-        len: 0,
-        spaces: 0,
-        run: 0,
-    }
 }
 
 // The line that is held has ended: it does its turn and prints at the cursor.
@@ -59,7 +45,7 @@ pub(crate) fn end_line(
     let console = r.console;
     let gate = console.gate;
     let size = print::write_turn(r.code, gate, out, at);
-    let held = emptied(h);
+    let held = gathering::emptied(h);
     Part {
         console,
         held,
@@ -86,7 +72,7 @@ pub fn feed(
     let mut size: usize = 0;
     let mut at: usize = 0;
     while at < input.len() {
-        let g = gather::gather(held, input, at);
+        let g = gathering::gather(held, input, at);
         if !g.ended {
             let rest = g.held;
             return Part {
@@ -145,8 +131,8 @@ pub fn run_session(
     if out.len() / 64 <= input.len() {
         return Run { ok: false, size: 0 };
     }
-    let x = gather::new_console();
-    let h = gather::new_held();
+    let x = start::new_console();
+    let h = gathering::new_held();
     let s = feed(nums, numbers, dates, x, h, input, out);
     let console = s.console;
     let held = s.held;

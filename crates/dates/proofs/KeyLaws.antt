@@ -25,34 +25,34 @@ unfoldable pub textKey : List ℕ → ℕ
 textKey [] = 0
 textKey (b ∷ s) = b + 256 * textKey s
 
-unfoldable pub isByte : ℕ → Bool
-isByte b = leb 1 b && leb b 255
+unfoldable pub nonzeroByte : ℕ → Bool
+nonzeroByte b = leb 1 b && leb b 255
 
-byte-low : (b : ℕ) → isByte b ≡ true → 1 ≤ b
-unfolding isByte
+byte-low : (b : ℕ) → nonzeroByte b ≡ true → 1 ≤ b
+unfolding nonzeroByte
 byte-low b h = leb-true 1 b (and-left (leb 1 b) (leb b 255) h)
 
-byte-high : (b : ℕ) → isByte b ≡ true → b ≤ 255
-unfolding isByte
+byte-high : (b : ℕ) → nonzeroByte b ≡ true → b ≤ 255
+unfolding nonzeroByte
 byte-high b h = leb-true b 255 (and-right (leb 1 b) (leb b 255) h)
 
 -- a text of bytes is known by its key
-pub text-key : (s t : List ℕ) → every isByte s ≡ true → every isByte t ≡ true → textKey s ≡ textKey t → s ≡ t
+pub text-key : (s t : List ℕ) → every nonzeroByte s ≡ true → every nonzeroByte t ≡ true → textKey s ≡ textKey t → s ≡ t
 unfolding textKey every
 text-key [] [] p q e = refl
-text-key [] (c ∷ t) p q e = absurd (omega (arith, byte-low c (and-left (isByte c) (every isByte t) q)))
-text-key (b ∷ s) [] p q e = absurd (omega (arith, byte-low b (and-left (isByte b) (every isByte s) p)))
+text-key [] (c ∷ t) p q e = absurd (omega (arith, byte-low c (and-left (nonzeroByte c) (every nonzeroByte t) q)))
+text-key (b ∷ s) [] p q e = absurd (omega (arith, byte-low b (and-left (nonzeroByte b) (every nonzeroByte s) p)))
 text-key (b ∷ s) (c ∷ t) p q e =
-    let hb = byte-high b (and-left (isByte b) (every isByte s) p) in
-    let hc = byte-high c (and-left (isByte c) (every isByte t) q) in
+    let hb = byte-high b (and-left (nonzeroByte b) (every nonzeroByte s) p) in
+    let hc = byte-high c (and-left (nonzeroByte c) (every nonzeroByte t) q) in
     let z : b ≡ c = omega arith in
     let y : textKey s ≡ textKey t = omega arith in
-    let r : s ≡ t = text-key s t (and-right (isByte b) (every isByte s) p) (and-right (isByte c) (every isByte t) q) y in
+    let r : s ≡ t = text-key s t (and-right (nonzeroByte b) (every nonzeroByte s) p) (and-right (nonzeroByte c) (every nonzeroByte t) q) y in
     λ i. z i ∷ r i
 
 -- ---- dates
-digit-byte : (b : ℕ) → isDigit b ≡ true → isByte b ≡ true
-unfolding isByte
+digit-byte : (b : ℕ) → isDigit b ≡ true → nonzeroByte b ≡ true
+unfolding nonzeroByte
 digit-byte b h =
     let l : 48 ≤ b = leb-true 48 b (and-left (leb 48 b) (leb b 57) h) in
     let m : b ≤ 57 = leb-true b 57 (and-right (leb 48 b) (leb b 57) h) in
@@ -60,9 +60,9 @@ digit-byte b h =
     let y : b ≤ 255 = omega arith in
     rw (le-leb 1 b x, le-leb b 255 y)
 
-written-bytes : (s : List ℕ) → isWritten s ≡ true → every isByte s ≡ true
-unfolding isByte
-written-bytes s h = date-bytes isByte s digit-byte refl refl refl h
+written-bytes : (s : List ℕ) → isWritten s ≡ true → every nonzeroByte s ≡ true
+unfolding nonzeroByte
+written-bytes s h = date-bytes nonzeroByte s digit-byte refl refl refl h
 
 -- a written date is known by its key, and the test of two is that of their keys
 pub date-key : (s t : List ℕ) → isWritten s ≡ true → isWritten t ≡ true → textKey s ≡ textKey t → s ≡ t
@@ -100,8 +100,8 @@ valid-same n m k j h e v =
       kind = ap isKind (sym e) ∙ v .kind;
     }
 
-number-byte : (b : ℕ) → numberByte b ≡ true → isByte b ≡ true
-unfolding numberByte isByte
+number-byte : (b : ℕ) → numberByte b ≡ true → nonzeroByte b ≡ true
+unfolding numberByte nonzeroByte
 number-byte b h =
     let l : 33 ≤ b = leb-true 33 b (and-left (leb 33 b) (leb b 126) h) in
     let m : b ≤ 126 = leb-true b 126 (and-right (leb 33 b) (leb b 126) h) in
@@ -116,8 +116,8 @@ module _ (n m : Number) (k j : ℕ) (v : Valid n k) (u : Valid m j) where
       let hk : k ≤ 999 = within-high 0 999 k (v .kind) in
       let hj : j ≤ 999 = within-high 0 999 j (u .kind) in
       let a : textKey (numberText n) ≡ textKey (numberText m) = omega arith in (
-        text-key (numberText n) (numberText m) (every-weaker numberByte isByte (numberText n) number-byte (v .bytes))
-            (every-weaker numberByte isByte (numberText m) number-byte (u .bytes)) a,
+        text-key (numberText n) (numberText m) (every-weaker numberByte nonzeroByte (numberText n) number-byte (v .bytes))
+            (every-weaker numberByte nonzeroByte (numberText m) number-byte (u .bytes)) a,
         omega arith,
       )
 

@@ -2,13 +2,11 @@
 use Prim.Native.Nat.{ℕ, _≤_, _<_}
 use native.Mathlib.Omega.{arith}
 use mathlib.Core.Path.{_≡_, refl, sym, _∙_}
-use mathlib.Core.Bool.{Bool, true, false, not}
+use mathlib.Core.Bool.{Bool, true, false}
 use mathlib.Core.List.{List}
 use lib.Dec.{eqb, leb}
 use lib.ListN.{length, getD}
-use borrow.Author.Tests.{not-true, not-false, le-leb, lt-leb}
 use Rattle.texts.specs.Lists.{written, cursorAfter}
-use Rattle.dates.specs.Date.{isWritten}
 use Rattle.payments.specs.declared.Action.{Action}
 use Rattle.payments.specs.declared.Instruction.{Instruction}
 use Rattle.message.specs.declared.request.Asked.{Asked}
@@ -31,11 +29,12 @@ use Rattle.answers.specs.Answer.{answerBytes}
 use Rattle.table.specs.declared.Record.{Record}
 use Rattle.table.specs.declared.Gate.{Gate}
 use Rattle.table.specs.Table.{Rows, recordsOf}
-use Rattle.validity.specs.Valid.{tableGood}
 use Rattle.ledger.specs.Plan.{planOf}
 use Rattle.ledger.specs.Change.{executed, Made}
 use Rattle.rules.specs.Answering.{answerOf}
-use Rattle.gate.specs.Deliver.{instructionOf, Delivery, respond, deliver}
+use Rattle.gate.specs.Deliver.{instructionOf, respond, deliver}
+use Rattle.admission.specs.Delivery.{Delivery, admission}
+use Rattle.admission.proofs.AdmissionLaws.{refused-by, admitted-by}
 
 pub executed-answered : (g : Gate) (t : Rows) (clock : List ℕ) (fault : ℕ) (q : Asked) (out : List ℕ) (i : Instruction) (code : ℕ) (gate : Gate) (subject : Record) (rows : Rows) (x : Answer) (left : List ℕ) (size : ℕ)
     → i ≡ instructionOf q → code ≡ (planOf g (recordsOf t (g .used)) (length (t .nums)) fault i) .decided .code
@@ -50,26 +49,17 @@ pub instruction-amount : (q : Asked) (i : Instruction) → i ≡ instructionOf q
 instruction-amount q i e h = rw e h
 
 -- ---- the ways out of a delivery
-module _ (g : Gate) (t : Rows) (clock params out : List ℕ) where
-  module _ (rows : Rows) (left : List ℕ) (er : rows ≡ t) (el : left ≡ out) (b : Bool) (eb : b ≡ tableGood g t) where
-    pub not-table : not b ≡ true → _≡_ {A = Delivery} (record { code = 68; gate = g; rows = rows; out = left; size = 0 }) (deliver g t clock params out)
-    unfolding deliver
-    not-table h = rw (← eb, not-true b h, er, el)
-
-    module _ (h : not b ≡ false) where
-      pub no-room : length out < 512 → _≡_ {A = Delivery} (record { code = 50; gate = g; rows = rows; out = left; size = 0 }) (deliver g t clock params out)
-      unfolding deliver
-      no-room l = rw (← eb, not-false b h, lt-leb _ _ l, er, el)
-
-      pub no-clock : 512 ≤ length out → (w : Bool) → w ≡ isWritten clock → not w ≡ true → _≡_ {A = Delivery} (record { code = 51; gate = g; rows = rows; out = left; size = 0 }) (deliver g t clock params out)
-      unfolding deliver
-      no-clock l w ew n = rw (← eb, not-false b h, le-leb _ _ l, ← ew, not-true w n, er, el)
+module _ (g : Gate) (t : Rows) (clock params out : List ℕ) (f : ℕ) (ef : f ≡ admission g t clock (length out)) where
+  pub not-admitted : (f ≡ 0 → ⊥) → (rows : Rows) → rows ≡ t → (left : List ℕ) → left ≡ out
+      → _≡_ {A = Delivery} (record { code = f; gate = g; rows = rows; out = left; size = 0 }) (deliver g t clock params out)
+  unfolding deliver
+  not-admitted n rows er left el = rw (er, el) (refused-by g t clock out f ef n _)
 
   -- a request that was read
-  pub read-done : (b : Bool) → b ≡ tableGood g t → not b ≡ false → 512 ≤ length out → (w : Bool) → w ≡ isWritten clock → not w ≡ false → (q : RequestRead) → q ≡ requestRead params
+  pub read-done : f ≡ 0 → (q : RequestRead) → q ≡ requestRead params
       → (d : Delivery) → d ≡ respond g t clock (q .fault) (instructionOf (q .asked)) out → d ≡ deliver g t clock params out
   unfolding deliver
-  read-done b eb h l w ew n q eq d e = e ∙ rw (← eb, not-false b h, le-leb _ _ l, ← ew, not-false w n, ← eq)
+  read-done z q eq d e = e ∙ rw eq (admitted-by g t clock out f ef z _)
 
 -- ---- an amount that was read is in its range
 held-amount : (used : Bool) (k : Slot) → valueIn (fieldOf used (Value 0) Malformed amountRead k) < 1000000000

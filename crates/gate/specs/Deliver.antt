@@ -1,11 +1,8 @@
 -- Document 01, "Gate": a request delivered to the gate, and the answer that is written.
 use Prim.Native.Nat.{ℕ}
 use mathlib.Core.List.{List}
-use mathlib.Core.Bool.{cond}
-use lib.Dec.{leb}
 use lib.ListN.{length}
 use Rattle.texts.specs.Lists.{written, cursorAfter}
-use Rattle.dates.specs.Date.{isWritten}
 use Rattle.payments.specs.declared.Action.{Action}
 use Rattle.message.specs.declared.request.Asked.{Asked}
 use Rattle.payments.specs.declared.Instruction.{Instruction}
@@ -13,9 +10,8 @@ use Rattle.message.specs.Request.{requestRead}
 use Rattle.answers.specs.Answer.{answerBytes}
 use Rattle.table.specs.declared.Gate.{Gate}
 use Rattle.table.specs.Table.{Rows, recordsOf, rowsFrom}
-use Rattle.validity.specs.Valid.{tableGood}
 use Rattle.ledger.specs.declared.plan.Plan.{Plan}
-use Rattle.ledger.specs.declared.Reply.{Reply}
+use Rattle.admission.specs.Delivery.{Delivery, admitted}
 use Rattle.rules.specs.Answering.{answerOf}
 use Rattle.ledger.specs.Plan.{planOf}
 use Rattle.ledger.specs.Change.{Changed, executed}
@@ -30,21 +26,6 @@ instructionOf q =
 
 abbrev pub instructionIn : List ℕ → Instruction
 instructionIn params = instructionOf ((requestRead params) .asked)
-
--- what a call answers and leaves: its code, the gate, the rows and the answer's buffer, whose first `size` bytes are the answer (none where nothing is written)
-pub record Delivery : Type 0 where
-  pub code : ℕ
-  pub gate : Gate
-  pub rows : Rows
-  pub out : List ℕ
-  pub size : ℕ
-
-abbrev pub deliveryOf : Reply → Rows → List ℕ → Delivery
-deliveryOf r rows out = record { code = r .code; gate = r .gate; rows = rows; out = out; size = r .size }
-
--- nothing is written, and all is kept
-abbrev pub undelivered : ℕ → Gate → Rows → List ℕ → Delivery
-undelivered code g t out = record { code = code; gate = g; rows = t; out = out; size = 0 }
 
 abbrev pub answered : Rows → List ℕ → Action → ℕ → List ℕ → Changed → Delivery
 answered t out a code clock c =
@@ -64,11 +45,6 @@ respondBy g t clock q out p = answered t out (q .action) (p .decided .code) cloc
 unfoldable pub respond : Gate → Rows → List ℕ → ℕ → Instruction → List ℕ → Delivery
 respond g t clock fault q out = respondBy g t clock q out (planOf g (recordsOf t (g .used)) (length (t .nums)) fault q)
 
--- 68, 50 and 51 write nothing and keep all
+-- a request, once 68, 50 and 51 are passed
 unfoldable pub deliver : Gate → Rows → List ℕ → List ℕ → List ℕ → Delivery
-deliver g t clock params out =
-    cond (tableGood g t)
-    (cond (leb 512 (length out))
-    (cond (isWritten clock) (respond g t clock ((requestRead params) .fault) (instructionIn params) out) (undelivered 51 g t out))
-    (undelivered 50 g t out))
-    (undelivered 68 g t out)
+deliver g t clock params out = admitted g t clock out (respond g t clock ((requestRead params) .fault) (instructionIn params) out)

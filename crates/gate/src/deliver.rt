@@ -1,6 +1,5 @@
 // A request delivered to the gate.
 use answers::write;
-use dates::date;
 use ledger::Reply;
 use ledger::change;
 use message::request;
@@ -10,16 +9,13 @@ use payments::Details;
 use payments::Instruction;
 use rules::answer;
 use table::Gate;
-use validity::valid;
 ghost use mathlib.Core.Path.{_≡_};
 ghost use mathlib.Core.Bool.{true};
 ghost use Prim.Native.Nat.{_<_};
 ghost use Rattle.table.specs.Lent.{lent, before, after};
 ghost use Rattle.validity.specs.Valid.{Ready, tableGood};
-ghost use Rattle.gate.specs.Deliver.{instructionOf, deliveryOf, respond, deliver};
-
-// How many bytes an answer's buffer has at least.
-const ANSWER_ROOM: usize = 512;
+ghost use Rattle.gate.specs.Deliver.{instructionOf, respond, deliver};
+ghost use Rattle.admission.specs.Delivery.{deliveryOf};
 
 // What a request of this wire asks, whatever the wire.
 fn instruction_of(q: Asked) -> Instruction
@@ -75,23 +71,10 @@ pub fn deliver(
 ) -> Reply
     ensures { λ r. ⌜ deliveryOf r (after nums numbers dates) (now (out .exit)) ≡ deliver gate (before nums numbers dates) clock (now (params .entry)) (now (out .entry)) ⌝ }
 {
-    if !valid::table_good(nums, numbers, dates, gate) {
+    let fault = admission::admit(nums, numbers, dates, gate, clock, out.len());
+    if fault != 0 {
         return Reply {
-            code: 68,
-            gate,
-            size: 0,
-        };
-    }
-    if out.len() < ANSWER_ROOM {
-        return Reply {
-            code: 50,
-            gate,
-            size: 0,
-        };
-    }
-    if !date::is_written(clock) {
-        return Reply {
-            code: 51,
+            code: fault,
             gate,
             size: 0,
         };

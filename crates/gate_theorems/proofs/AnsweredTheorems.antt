@@ -35,7 +35,8 @@ use Rattle.table.specs.Table.{noRecord}
 use Rattle.ledger.specs.Plan.{recordFound, standingOf, accountOf, viewOf, planWith, planOf}
 use Rattle.ledger.specs.Change.{nextAuthcode, makeRecord, revoked, Changed, changed}
 use Rattle.rules.specs.Answering.{settles, answersAuthcode, answersDate, answerDate, answerOf}
-use Rattle.gate.specs.Deliver.{instructionIn, Delivery, undelivered, respond, deliver}
+use Rattle.gate.specs.Deliver.{instructionIn, respond, deliver}
+use Rattle.admission.specs.Delivery.{Delivery, undelivered}
 use Rattle.gate_theorems.proofs.AnswerGood.{gate-answers}
 use Rattle.validity.proofs.GoodLaws.{used-few}
 use Rattle.gate_theorems.proofs.CodeLaws.{oneOf, answerCodes, isSilent, not-in, decision-by, fault-by, Told, subject, decided-told, known-found, told-fits, again-same}

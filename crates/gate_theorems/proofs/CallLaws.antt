@@ -34,7 +34,8 @@ use Rattle.payments.specs.declared.Instruction.{Instruction}
 use Rattle.message.specs.Request.{requestRead}
 use Rattle.ledger.specs.Plan.{isShort}
 use Rattle.ledger.specs.Change.{debitedAt}
-use Rattle.gate.specs.Deliver.{instructionIn, respond, deliver, Delivery}
+use Rattle.gate.specs.Deliver.{instructionIn, respond, deliver}
+use Rattle.admission.specs.Delivery.{Delivery}
 use Rattle.opening.specs.Opening.{replies, openTo, openAccount, drawOn, drawFrom, drawFunds}
 use Rattle.gate_theorems.proofs.OutcomeLaws.{Outcome, stays, appends, revokes, outcome}
 use Rattle.gate_theorems.proofs.KeepsLaws.{delivered-by}
@@ -207,10 +208,10 @@ module _ (g : Gate) (t : Rows) (ready : Ready g t) (good : tableGood g t ≡ tru
   same code = record { table = good; ready = ready; used = refl; closed = refl }
 
   facts : Good g t
-  facts = good-table g t (ready .sound .places) good
+  facts = good-table g t (ready .funds .places) good
 
   bound : Near g
-  bound = near-table g t (ready .sound .places) good
+  bound = near-table g t (ready .funds .places) good
 
   abbrev StandsReply : Reply → Type 0
   StandsReply r = Stands g t (r .gate)
@@ -218,8 +219,8 @@ module _ (g : Gate) (t : Rows) (ready : Ready g t) (good : tableGood g t ≡ tru
   opened-stands : (n : Number) (k : ℕ) → isNumber n && isKind k ≡ true → g .count < 256 → Stands g t (opened g n k)
   unfolding opened
   opened-stands n k named l =
-      let room : g .count < length (g .accounts) = omega (arith, ready .sound .places) in
-      stands (opened g n k) (length-set (g .accounts) (g .count) _ ∙ ready .sound .places)
+      let room : g .count < length (g .accounts) = omega (arith, ready .funds .places) in
+      stands (opened g n k) (length-set (g .accounts) (g .count) _ ∙ ready .funds .places)
       (opened-good g n k room t (and-left (isNumber n) (isKind k) named) (and-right (isNumber n) (isKind k) named) l facts)
       (opened-near g n k room bound) refl refl
 
@@ -231,7 +232,7 @@ module _ (g : Gate) (t : Rows) (ready : Ready g t) (good : tableGood g t ≡ tru
   unfolding debited
   debited-stands a m h funds =
       let names : SameNames g (debited g a m) = names-debited g (At a) m in
-      stands (debited g a m) (names .places ∙ ready .sound .places) (good-names g (debited g a m) t names refl facts) (near-debited g a m bound h funds) refl (names .closed)
+      stands (debited g a m) (names .places ∙ ready .funds .places) (good-names g (debited g a m) t names refl facts) (near-debited g a m bound h funds) refl (names .closed)
 
   -- a draw keeps row 68
   pub draw-good : (n : Number) (k m : ℕ) → Stands g t ((drawFunds g t n k m) .gate)

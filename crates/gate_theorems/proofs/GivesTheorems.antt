@@ -36,7 +36,8 @@ use Rattle.table.specs.Table.{noRecord}
 use Rattle.ledger.specs.Plan.{dateClosed, accountOf, dateOf, isFull, viewOf, planWith, planOf}
 use Rattle.rules.specs.Answering.{isCancel}
 use Rattle.ledger.specs.Change.{makeRecord, revoked, debitedAt, changed}
-use Rattle.gate.specs.Deliver.{instructionIn, respondBy, respond, deliver, Delivery}
+use Rattle.gate.specs.Deliver.{instructionIn, respondBy, respond, deliver}
+use Rattle.admission.specs.Delivery.{Delivery}
 use Rattle.opening.specs.Opening.{replies, openTo, openAccount, drawOn, drawFrom, drawFunds}
 use Rattle.gate_theorems.proofs.CallLaws.{newAccount, opened-other, opened-new}
 use Rattle.gate_theorems.proofs.OutcomeLaws.{Outcome, stays, appends, revokes, outcome}

@@ -25,7 +25,8 @@ use Rattle.table.specs.Accounts.{accountsOf, findAccount, balanceAt, debited, o
 use Rattle.validity.specs.Valid.{tableGood, Ready}
 use Rattle.table.proofs.TableLaws.{rows-kept}
 use Rattle.ledger.specs.declared.Reply.{Reply}
-use Rattle.gate.specs.Deliver.{instructionIn, Delivery, undelivered, respond, deliver}
+use Rattle.gate.specs.Deliver.{instructionIn, respond, deliver}
+use Rattle.admission.specs.Delivery.{Delivery, undelivered}
 use Rattle.opening.specs.Opening.{replies, openTo, openAccount, drawOn, drawFrom, drawFunds}
 use Rattle.gate_theorems.proofs.OutcomeLaws.{Outcome, stays, appends, revokes, outcome}
 

@@ -24,7 +24,8 @@ use Rattle.rules.specs.declared.decision.Change.the-variants.{Append}
 use Rattle.table.specs.Table.{noRecord}
 use Rattle.ledger.specs.Plan.{recordFound, standingOf, accountOf, viewOf, planWith, planOf}
 use Rattle.ledger.specs.Change.{debitedAt}
-use Rattle.gate.specs.Deliver.{instructionIn, respond, deliver, Delivery}
+use Rattle.gate.specs.Deliver.{instructionIn, respond, deliver}
+use Rattle.admission.specs.Delivery.{Delivery}
 use Rattle.rules.proofs.DecisionLaws.{Appends, append-of}
 use Rattle.gate_theorems.proofs.OutcomeLaws.{missing-of, Outcome, stays, appends, revokes, outcome}
 use Rattle.gate_theorems.proofs.KeepsLaws.{delivered-by}

@@ -27,7 +27,8 @@ use Rattle.rules.specs.Decision.{isFault, faultCode}
 use Rattle.ledger.specs.Plan.{recordFound, standingOf, dateClosed, accountOf, dateOf, isShort, isFull, viewOf, planWith, planOf}
 use Rattle.rules.specs.Answering.{isCancel}
 use Rattle.ledger.specs.Change.{makeRecord, revoked, creditedAt, debitedAt, changed}
-use Rattle.gate.specs.Deliver.{answered, respond, Delivery}
+use Rattle.gate.specs.Deliver.{answered, respond}
+use Rattle.admission.specs.Delivery.{Delivery}
 use Rattle.rules.proofs.DecisionLaws.{Appends, Revokes, decision-cases, append-of, revoke-of}
 
 -- ---- the outcomes of a request: all stays, a payment is recorded, or a payment is revoked

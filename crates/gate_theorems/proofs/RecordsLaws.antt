@@ -20,7 +20,8 @@ use Rattle.table.proofs.TableLaws.{length-records, getD-records, from-at}
 use Rattle.table.specs.Table.{noRecord}
 use Rattle.ledger.specs.Plan.{dateClosed}
 use Rattle.ledger.specs.Change.{makeRecord, revoked}
-use Rattle.gate.specs.Deliver.{instructionIn, respond, deliver, Delivery}
+use Rattle.gate.specs.Deliver.{instructionIn, respond, deliver}
+use Rattle.admission.specs.Delivery.{Delivery}
 use Rattle.ledger.proofs.ChangeLaws.{debit-used}
 use Rattle.gate_theorems.proofs.OutcomeLaws.{Outcome, stays, appends, revokes, outcome}
 use Rattle.gate_theorems.proofs.KeepsLaws.{delivered-by}

@@ -33,7 +33,8 @@ use Rattle.validity.specs.Valid.{stateGood, rangesGood, accountKnown, authcodeG
 use Rattle.table.proofs.TableLaws.{length-records, getD-records, from-at, from-whole, whole-from}
 use Rattle.table.specs.Table.{noRecord}
 use Rattle.ledger.specs.Change.{nextAuthcode, makeRecord, revoked, debitedAt}
-use Rattle.gate.specs.Deliver.{instructionIn, respond, deliver, Delivery}
+use Rattle.gate.specs.Deliver.{instructionIn, respond, deliver}
+use Rattle.admission.specs.Delivery.{Delivery}
 use Rattle.gate_theorems.proofs.OutcomeLaws.{Outcome, stays, appends, revokes, outcome, respond-zero}
 use Rattle.gate_theorems.proofs.KeepsLaws.{delivered-by}
 use Rattle.ledger.proofs.ChangeLaws.{debit-used}
@@ -242,7 +243,7 @@ module _ (g : Gate) (t : Rows) (ready : Ready g t) (good : tableGood g t ≡ tru
   -- row 68 but the balance bound holds again, and the accounts' numbers and types and the closed day are as they were
   pub delivered-again : Again g ((deliver g t clock params out) .gate) ((deliver g t clock params out) .rows)
   delivered-again =
-      let facts : Good g t = good-table g t (ready .sound .places) good in
+      let facts : Good g t = good-table g t (ready .funds .places) good in
       delivered-by g t clock params out (λ (d : Delivery). Again g (d .gate) (d .rows))
       (λ code left size. record { good = facts; names = names-same g g refl; whole = ready .whole })
       (λ _ dated. again-outcome g t facts clock dated (instructionIn params) (respond g t clock ((requestRead params) .fault) (instructionIn params) out)
@@ -250,8 +251,8 @@ module _ (g : Gate) (t : Rows) (ready : Ready g t) (good : tableGood g t ≡ tru
 
   -- with balances in their bound the table is good and ready for the next call
   pub delivered-good : Near ((deliver g t clock params out) .gate) → tableGood ((deliver g t clock params out) .gate) ((deliver g t clock params out) .rows) ≡ true
-  delivered-good bound = table-again _ _ (delivered-again .names .places ∙ ready .sound .places) (delivered-again .good) bound
+  delivered-good bound = table-again _ _ (delivered-again .names .places ∙ ready .funds .places) (delivered-again .good) bound
 
   -- and its rows have their lengths
   pub delivered-ready : Near ((deliver g t clock params out) .gate) → Ready ((deliver g t clock params out) .gate) ((deliver g t clock params out) .rows)
-  delivered-ready bound = ready-again _ _ (delivered-again .names .places ∙ ready .sound .places) (delivered-again .good) bound (delivered-again .whole)
+  delivered-ready bound = ready-again _ _ (delivered-again .names .places ∙ ready .funds .places) (delivered-again .good) bound (delivered-again .whole)

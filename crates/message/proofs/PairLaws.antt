@@ -11,8 +11,7 @@ use borrow.Author.Tests.{eqb-true, ltb-true, ltb-false, lt-ltb}
 use Rattle.texts.specs.Lists.{every, find}
 use Rattle.texts.proofs.Tests.{both}
 use Rattle.texts.proofs.ListLaws.{every-weaker}
-use Rattle.coding.specs.Url.{isPlain, coded}
-use Rattle.coding.specs.Units.{isByte}
+use Rattle.coding.specs.Url.{isPlain, coded, isByte}
 use Rattle.coding.specs.Params.{pieces}
 use Rattle.coding.proofs.RangeLaws.{above}
 use Rattle.texts.proofs.FindLaws.{tests-differ, find-absent, find-seam, find-both, find-other}

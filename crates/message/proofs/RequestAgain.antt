@@ -23,8 +23,7 @@ use Rattle.fields.proofs.CodeLaws.{code-length, receipt-again, kind-again, reas
 use Rattle.fields.proofs.AmountLaws.{amount-again, amount-bytes, amount-length}
 use Rattle.fields.proofs.NumberLaws.{byte-below-256, text-bytes, text-short, number-again}
 use Rattle.dates.proofs.DateLaws.{date-again, date-bytes}
-use Rattle.coding.specs.Url.{isPlain}
-use Rattle.coding.specs.Units.{isByte}
+use Rattle.coding.specs.Url.{isPlain, isByte}
 use Rattle.coding.proofs.CodedLaws.{plain-marks, digit-plain, coded-plain, coded-length}
 use Rattle.payments.specs.declared.Action.{Action}
 use Rattle.payments.specs.declared.Action.the-variants.{Check, Payment, Status, Cancel}

@@ -39,7 +39,8 @@ use Rattle.ledger.specs.declared.Reply.{Reply}
 use Rattle.opening.specs.Opening.{openTo, openAccount, drawOn, drawFrom, drawFunds}
 use Rattle.ledger.specs.Plan.{isShort}
 use Rattle.ledger.specs.Change.{debitedAt}
-use Rattle.gate.specs.Deliver.{instructionIn, deliver, respond, Delivery}
+use Rattle.gate.specs.Deliver.{instructionIn, deliver, respond}
+use Rattle.admission.specs.Delivery.{Delivery}
 use Rattle.gate.proofs.DeliverLaws.{asked-amount}
 use Rattle.gate_theorems.proofs.OutcomeLaws.{Outcome, stays, appends, revokes, outcome}
 use Rattle.gate_theorems.proofs.KeepsLaws.{delivered-by}
@@ -47,8 +48,9 @@ use Rattle.validity.proofs.GoodLaws.{Near, near-table}
 use Rattle.gate_theorems.proofs.RowsLaws.{SameNames, names-moved, names-debited}
 use Rattle.gate_theorems.proofs.CallLaws.{near-debited, opened-other, opened-new}
 use Rattle.orders.specs.declared.Console.{Console}
-use Rattle.orders.specs.Order.{Turn, fieldAt, fieldCount, hasLetter, paramsIn, kindIn, drawOf, startOn, startTurn, openTurn, drawTurn, askTurn, orderTurn, lineTurn}
-use Rattle.orders.specs.Sums.{Summable}
+use Rattle.orders.specs.Order.{Turn, kindIn, drawOf, startOn, startTurn, openTurn, drawTurn, askTurn, orderTurn, lineTurn}
+use Rattle.line_fields.specs.LineFields.{fieldAt, fieldCount, hasLetter, paramsIn}
+use Rattle.figures.specs.Sums.{Summable}
 
 abbrev Small : Account → Type 0
 Small a = mag (a .balance) ≤ 20000000000000

@@ -23,10 +23,12 @@ use Rattle.table.specs.Table.{Rows}
 use Rattle.table.specs.Accounts.{withClosed}
 use Rattle.ledger.specs.declared.Reply.{Reply}
 use Rattle.opening.specs.Opening.{openAccount, drawFunds}
-use Rattle.gate.specs.Deliver.{deliver, Delivery}
+use Rattle.gate.specs.Deliver.{deliver}
+use Rattle.admission.specs.Delivery.{Delivery}
 use Rattle.orders.specs.declared.Console.{Console}
 use Rattle.orders.specs.declared.turn.Turn.{Turn as Given}
-use Rattle.orders.specs.Order.{Turn, fieldAt, fieldCount, hasLetter, paramsIn, kindIn, startTurn, openTurn, drawOf, drawTurn, askTurn, orderTurn, lineTurn}
+use Rattle.orders.specs.Order.{Turn, kindIn, startTurn, openTurn, drawOf, drawTurn, askTurn, orderTurn, lineTurn}
+use Rattle.line_fields.specs.LineFields.{fieldAt, fieldCount, hasLetter, paramsIn}
 
 -- what a line did, and the rows that it left
 abbrev pub turnOf : Given → Rows → Turn

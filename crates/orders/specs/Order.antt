@@ -1,51 +1,28 @@
--- Document 01, the session program: one line of input, what it does, and what it prints.
-use Prim.Native.Nat.{ℕ, suc, _+_}
-use mathlib.Core.List.{List, [], _∷_, _++_}
-use mathlib.Core.Bool.{Bool, true, false, cond, _&&_}
+-- Document 01, the session program: one line of input, and what it does.
+use Prim.Native.Nat.{ℕ}
+use mathlib.Core.List.{List}
+use mathlib.Core.Bool.{true, cond, _&&_}
 use lib.Dec.{eqb, leb}
-use lib.IntN.{ℤ, pos, negsuc, _+ℤ_}
-use lib.ListN.{length, drop, getD, replicate}
+use lib.ListN.{replicate}
 use Rattle.days.specs.declared.calendar.DayRead.{DayRead}
 use Rattle.days.specs.declared.calendar.DayRead.the-variants.{Good, NoDate}
 use Rattle.texts.specs.declared.digits.Digits.{Digits}
 use Rattle.texts.specs.declared.digits.Digits.the-variants.{Value, Malformed}
-use Rattle.texts.specs.Lists.{find, eqList}
-use Rattle.texts.specs.Digits.{digitsRead, decimal}
+use Rattle.texts.specs.Digits.{digitsRead}
 use Rattle.fields.specs.Codes.{kindRead}
 use Rattle.fields.specs.Number.{numberRead}
 use Rattle.days.specs.Calendar.{dayFault, dayRead}
 use Rattle.dates.specs.Date.{dateRead}
-use Rattle.coding.specs.Params.{splitAt}
-use Rattle.table.specs.declared.Account.{Account}
-use Rattle.table.specs.declared.Gate.{Gate}
 use Rattle.table.specs.Table.{Rows}
-use Rattle.table.specs.Accounts.{accountsOf, withClosed}
+use Rattle.table.specs.Accounts.{withClosed}
 use Rattle.ledger.specs.declared.Reply.{Reply}
 use Rattle.opening.specs.Opening.{openAccount, drawFunds}
-use Rattle.gate.specs.Deliver.{deliver, Delivery}
+use Rattle.gate.specs.Deliver.{deliver}
+use Rattle.admission.specs.Delivery.{Delivery}
+use Rattle.line_fields.specs.LineFields.{fieldCount, fieldAt, hasLetter, paramsIn}
+use Rattle.figures.specs.Figures.{printed}
 use Rattle.orders.specs.declared.Console.{Console}
 use Rattle.orders.specs.declared.turn.Turn.{Turn as Given}
-
--- ---- the fields of a line: every space (32) splits
-abbrev pub spaced : List ℕ → List (List ℕ)
-spaced l = splitAt 32 l
-
-abbrev pub fieldCount : List ℕ → ℕ
-fieldCount l = length (spaced l)
-
-abbrev pub fieldAt : ℕ → List ℕ → List ℕ
-fieldAt i l = getD (spaced l) i []
-
--- a line of this letter
-abbrev pub hasLetter : ℕ → List ℕ → Bool
-hasLetter letter l = eqList (fieldAt 0 l) (letter ∷ [])
-
--- the rest of an R behind its second space
-abbrev pub afterSpace : List ℕ → List ℕ
-afterSpace s = drop (suc (find 32 s)) s
-
-abbrev pub paramsIn : List ℕ → List ℕ
-paramsIn l = afterSpace (afterSpace l)
 
 -- ---- what a line does
 -- its code, or 99; the console and the rows after it
@@ -108,17 +85,6 @@ orderTurn x t l =
 unfoldable pub lineTurn : Console → Rows → List ℕ → Turn
 lineTurn x t l = cond (x .started) (orderTurn x t l) (startTurn x t l)
 
--- ---- what is printed: the code, the records used and the sum of balances, or 99 alone
-unfoldable pub sumBalances : List Account → ℤ
-sumBalances [] = pos 0
-sumBalances (a ∷ l) = a .balance +ℤ sumBalances l
-
-unfoldable pub signedText : ℤ → List ℕ
-signedText (pos n) = decimal n
-signedText (negsuc n) = 45 ∷ decimal (suc n)
-
-unfoldable pub figures : ℕ → Gate → List ℕ
-figures code g = decimal code ++ ((32 ∷ decimal (g .used)) ++ ((32 ∷ signedText (sumBalances (accountsOf g))) ++ (10 ∷ [])))
-
-unfoldable pub turnText : Turn → List ℕ
-turnText r = cond (eqb (r .code) 99) (57 ∷ (57 ∷ (10 ∷ []))) (figures (r .code) (r .console .gate))
+-- what it prints
+abbrev pub turnText : Turn → List ℕ
+turnText r = printed (r .code) (r .console .gate)

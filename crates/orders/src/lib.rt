@@ -1,7 +1,4 @@
-// One line of a session: its fields, what it does at the gate, and what it prints.
-pub mod line;
-pub mod print;
-pub mod sums;
+// One line of a session: what it does at the gate.
 pub mod turn;
 
 use table::Gate;

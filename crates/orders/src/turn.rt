@@ -1,6 +1,5 @@
 // What a line of a session does.
 use crate::Console;
-use crate::line;
 use days::calendar;
 use days::calendar::DayRead;
 use dates::date;
@@ -62,10 +61,10 @@ fn kind_in(d: Digits) -> u64
 fn start_turn(x: Console, line: &[u8]) -> Turn
     ensures { λ r. ⌜ ((t : Rows) → turnOf r t ≡ startTurn x t (now (line .entry))) ⌝ }
 {
-    if !line::has_form(line, b'C', 2) {
+    if !line_fields::has_form(line, b'C', 2) {
         return not_read(x);
     }
-    let DayRead::Good(d) = calendar::read_day(line::field_at(line, 1)) else {
+    let DayRead::Good(d) = calendar::read_day(line_fields::field_at(line, 1)) else {
         return not_read(x);
     };
     let mut gate = x.gate;
@@ -87,8 +86,8 @@ fn open_turn(
 ) -> Turn
     ensures { λ r. ⌜ turnOf r (before nums numbers dates) ≡ openTurn x (before nums numbers dates) (now (line .entry)) ⌝ }
 {
-    let n = number::read_number(line::field_at(line, 1));
-    let kind = kind_in(codes::read_kind(line::field_at(line, 2)));
+    let n = number::read_number(line_fields::field_at(line, 1));
+    let kind = kind_in(codes::read_kind(line_fields::field_at(line, 2)));
     let gate = x.gate;
     let number = n.number;
     answered(opening::open_account(nums, numbers, dates, gate, number, kind))
@@ -105,8 +104,8 @@ fn draw_of(
 ) -> Turn
     ensures { λ r. ⌜ turnOf r (before nums numbers dates) ≡ drawOf x (before nums numbers dates) (now (line .entry)) (Value kopecks) ⌝ }
 {
-    let n = number::read_number(line::field_at(line, 1));
-    let kind = kind_in(codes::read_kind(line::field_at(line, 2)));
+    let n = number::read_number(line_fields::field_at(line, 1));
+    let kind = kind_in(codes::read_kind(line_fields::field_at(line, 2)));
     let gate = x.gate;
     let number = n.number;
     answered(opening::draw_funds(nums, numbers, dates, gate, number, kind, kopecks))
@@ -122,7 +121,7 @@ fn draw_turn(
 ) -> Turn
     ensures { λ r. ⌜ turnOf r (before nums numbers dates) ≡ drawTurn x (before nums numbers dates) (now (line .entry)) ⌝ }
 {
-    let Digits::Value(kopecks) = digits::read_digits(line::field_at(line, 3), 15) else {
+    let Digits::Value(kopecks) = digits::read_digits(line_fields::field_at(line, 3), 15) else {
         return not_read(x);
     };
     draw_of(nums, numbers, dates, x, line, kopecks)
@@ -139,8 +138,8 @@ fn ask_turn(
     ensures { λ r. ⌜ turnOf r (after nums numbers dates) ≡ askTurn x (before nums numbers dates) (now (line .entry)) ⌝ }
 {
     let mut out = [0u8; 512];
-    let d = date::read_date(line::field_at(line, 1));
-    let params = line::params_in(line);
+    let d = date::read_date(line_fields::field_at(line, 1));
+    let params = line_fields::params_in(line);
     let gate = x.gate;
     let clock = d.date;
     answered(deliver::deliver(nums, numbers, dates, gate, clock, params, &mut out))
@@ -156,13 +155,13 @@ fn order_turn(
 ) -> Turn
     ensures { λ r. ⌜ turnOf r (after nums numbers dates) ≡ orderTurn x (before nums numbers dates) (now (line .entry)) ⌝ }
 {
-    if line::has_form(line, b'O', 3) {
+    if line_fields::has_form(line, b'O', 3) {
         return open_turn(nums, numbers, dates, x, line);
     }
-    if line::has_form(line, b'D', 4) {
+    if line_fields::has_form(line, b'D', 4) {
         return draw_turn(nums, numbers, dates, x, line);
     }
-    if line::has_least(line, b'R', 3) {
+    if line_fields::has_least(line, b'R', 3) {
         return ask_turn(nums, numbers, dates, x, line);
     }
     not_read(x)

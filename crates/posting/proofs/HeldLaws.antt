@@ -35,7 +35,9 @@ pub funds-more : (g : Gate) (b c : ℕ) → Funds g b → b ≤ c → Funds g c
 funds-more g b c f h = record { places = f .places; count = f .count; balances = λ i l. omega (arith, f .balances i l) }
 
 pub held-more : (g : Gate) (t : Rows) (b c : ℕ) → Held g t b → b ≤ c → Held g t c
-held-more g t b c h l = record { whole = h .whole; same = h .same; size = h .size; funds = funds-more g b c (h .funds) l; small = h .small }
+held-more g t b c h l =
+    let k = h .backed in
+    record { backed = record { whole = k .whole; same = k .same; size = k .size; funds = funds-more g b c (k .funds) l }; small = h .small }
 
 pub funds-moved : (g : Gate) (b c : ℕ) → Funds g b → b ≤ c → (a : ℕ) (z : ℤ) → mag z ≤ c → Funds (gateBalance g a z) c
 funds-moved g b c f h a z m =
@@ -139,8 +141,8 @@ module _ (g : Gate) (t : Rows) (b : ℕ) (held : Held g t b) (clock : List ℕ) 
   stay-step : Step t (g .used) (b + 1000000000) (ledgerOf g t)
   stay-step =
       let size = length-records t (g .used) in
-      let room = held .whole .nums in
-      record { used = omega arith; longer = omega arith; room = omega arith; funds = funds-more g b (b + 1000000000) (held .funds) (omega arith); small = held-small g t b held }
+      let room = held .backed .whole .nums in
+      record { used = omega arith; longer = omega arith; room = omega arith; funds = funds-more g b (b + 1000000000) (held .backed .funds) (omega arith); small = held-small g t b held }
 
   applied-step : (v : Verdict) → verdictOf g (recordsOf t (g .used)) (length (t .nums)) x ≡ v → Step t (g .used) (b + 1000000000) (applied clock x v (ledgerOf g t))
   unfolding applied verdictOf isFull restored postedRecord makeRecord
@@ -152,12 +154,12 @@ module _ (g : Gate) (t : Rows) (b : ℕ) (held : Held g t b) (clock : List ℕ) 
       let as-long : length (set rs i (restored (getD rs i noRecord))) ≡ length rs = length-set rs i (restored (getD rs i noRecord)) in
       let k : Found = findAccount (x .number) (x .kind) (accountsOf g) in
       let used : (creditedAt g k (x .amount)) .used ≡ g .used = credit-used g k (x .amount) in
-      let room = held .whole .nums in
+      let room = held .backed .whole .nums in
       record {
         used = omega arith;
         longer = omega arith;
         room = omega arith;
-        funds = funds-credited-at g b (x .amount) (held .funds) few k (λ a q. holder-within g (x .number) (x .kind) a k refl q);
+        funds = funds-credited-at g b (x .amount) (held .backed .funds) few k (λ a q. holder-within g (x .number) (x .kind) a k refl q);
         small = small-set rs i (restored (getD rs i noRecord)) (held-small g t b held) (held-small g t b held i);
       }
   applied-step (Posts a) e =
@@ -167,7 +169,7 @@ module _ (g : Gate) (t : Rows) (b : ℕ) (held : Held g t b) (clock : List ℕ) 
       let k : Found = findAccount (x .number) (x .kind) (accountsOf g) in
       let p = post-room (findRecord (x .receipt) rs) k (leb (length (t .nums)) (g .used)) a (verdict-post rs (firstFrom (matches x) 0 rs) _ a e) in
       let room : g .used < length (t .nums) = leb-false (length (t .nums)) (g .used) (p .0) in
-      let f = funds-credited g b (x .amount) (held .funds) few a (holder-within g (x .number) (x .kind) a k refl (p .1)) in
+      let f = funds-credited g b (x .amount) (held .backed .funds) few a (holder-within g (x .number) (x .kind) a k refl (p .1)) in
       record {
         used = omega arith;
         longer = omega arith;
@@ -192,13 +194,15 @@ module _ (t : Rows) (n b : ℕ) (l : Ledger) (step : Step t n b l) (g′ : Gate)
       let size = from-whole t (l .records) in
       let room = step .room in
       let a : length (t′ .nums) ≡ length (t .nums) = left-size in
-      let nums : length (t′ .numbers) ≡ length (t .numbers) = rw (left .left) (omega (arith, size .1, held .same .numbers)) in
-      let dates : length (t′ .dates) ≡ length (t .dates) = rw (left .left) (omega (arith, size .2, held .same .dates)) in
+      let nums : length (t′ .numbers) ≡ length (t .numbers) = rw (left .left) (omega (arith, size .1, held .backed .same .numbers)) in
+      let dates : length (t′ .dates) ≡ length (t .dates) = rw (left .left) (omega (arith, size .2, held .backed .same .dates)) in
       record {
-        whole = rw (left .left, left .gates, step .used) (whole-from t (l .records));
-        same = record { numbers = omega (arith, held .same .numbers); dates = omega (arith, held .same .dates) };
-        size = omega (arith, held .size);
-        funds = rw (left .gates) (step .funds);
+        backed = record {
+          whole = rw (left .left, left .gates, step .used) (whole-from t (l .records));
+          same = record { numbers = omega (arith, held .backed .same .numbers); dates = omega (arith, held .backed .same .dates) };
+          size = omega (arith, held .backed .size);
+          funds = rw (left .gates) (step .funds);
+        };
         small = λ i h. one i (rw (left .gates, step .used) at h);
       }
     where

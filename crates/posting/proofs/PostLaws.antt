@@ -42,33 +42,33 @@ module _ (g : Gate) (b : ℕ) (funds : Funds g b) where
 
 module _ (g : Gate) (t : Rows) (b : ℕ) (held : Held g t b) where
   pub in-nums : g .used ≤ length (t .nums)
-  in-nums = held .whole .nums
+  in-nums = held .backed .whole .nums
 
   pub in-numbers : g .used ≤ length (t .numbers)
-  in-numbers = held .whole .numbers
+  in-numbers = held .backed .whole .numbers
 
   pub in-dates : g .used ≤ length (t .dates)
-  in-dates = held .whole .dates
+  in-dates = held .backed .whole .dates
 
   module _ (i : ℕ) (h : i < g .used) where
     pub at-nums : i < length (t .nums)
-    at-nums = omega (arith, held .whole .nums)
+    at-nums = omega (arith, held .backed .whole .nums)
 
     pub at-numbers : i < length (t .numbers)
-    at-numbers = omega (arith, held .whole .numbers)
+    at-numbers = omega (arith, held .backed .whole .numbers)
 
     pub at-dates : i < length (t .dates)
-    at-dates = omega (arith, held .whole .dates)
+    at-dates = omega (arith, held .backed .whole .dates)
 
   module _ (room : g .used < length (t .nums)) where
     pub room-numbers : g .used < length (t .numbers)
-    room-numbers = omega (arith, held .same .numbers)
+    room-numbers = omega (arith, held .backed .same .numbers)
 
     pub room-dates : g .used < length (t .dates)
-    room-dates = omega (arith, held .same .dates)
+    room-dates = omega (arith, held .backed .same .dates)
 
     pub place-few : g .used < 4096
-    place-few = omega (arith, held .size)
+    place-few = omega (arith, held .backed .size)
 
 -- the account that was found is one of the gate's
 pub account-found : (g : Gate) (n : Number) (kind : ℕ) (k : Found) → k ≡ findAccount n kind (accountsOf g) → Within k (g .count)
@@ -139,7 +139,7 @@ module _ (g : Gate) (t : Rows) (x : Line) (v : Verdict) (ev : v ≡ verdictOf g 
 -- ---- its application
 module _ (g : Gate) (t : Rows) (b : ℕ) (held : Held g t b) (clock : List ℕ) (x : Line) where
   stays : (l : Ledger) → l ≡ ledgerOf g t → (t′ : Rows) → t′ ≡ t → Left t l g t′
-  stays l e t′ et = rw e (record { gates = refl; left = et ∙ sym (rows-kept t (g .used) (held .whole)) })
+  stays l e t′ et = rw e (record { gates = refl; left = et ∙ sym (rows-kept t (g .used) (held .backed .whole)) })
 
   pub applied-keeps : (v : Verdict) → v ≡ Keeps → (t′ : Rows) → t′ ≡ t → Left t (applied clock x v (ledgerOf g t)) g t′
   unfolding applied
@@ -156,7 +156,7 @@ module _ (g : Gate) (t : Rows) (b : ℕ) (held : Held g t b) (clock : List ℕ) 
   applied-post a room q eq t′ et n en g′ eg =
       record {
         gates = eg ∙ ap (λ (y : Gate). withUsed y (g .used + 1)) en;
-        left = et ∙ rw eq (sym (rows-more t (g .used) (held .whole) (postedRecord g clock x) room (room-numbers g t b held room) (room-dates g t b held room)));
+        left = et ∙ rw eq (sym (rows-more t (g .used) (held .backed .whole) (postedRecord g clock x) room (room-numbers g t b held room) (room-dates g t b held room)));
       }
 
 pub applied-restore : (g : Gate) (t : Rows) (b : ℕ) → Held g t b → (x : Line) (i : ℕ) → i < g .used → (r : Record) → r ≡ recordAt t i
@@ -165,7 +165,7 @@ pub applied-restore : (g : Gate) (t : Rows) (b : ℕ) → Held g t b → (x : Li
 unfolding applied
 applied-restore g t b held x i h r er q eq t′ et k ek g′ eg =
     let there : getD (recordsOf t (g .used)) i noRecord ≡ r = getD-records t (g .used) i noRecord h ∙ sym er in
-    rw there (record { gates = eg ∙ ap (λ (y : Found). creditedAt g y (x .amount)) ek; left = et ∙ rw eq (sym (rows-set t (g .used) (held .whole) i (restored r) h)) })
+    rw there (record { gates = eg ∙ ap (λ (y : Found). creditedAt g y (x .amount)) ek; left = et ∙ rw eq (sym (rows-set t (g .used) (held .backed .whole) i (restored r) h)) })
 
 module _ (t : Rows) (clock : List ℕ) (x : Line) (v : Verdict) (l : Ledger) (g′ : Gate) (t′ : Rows) where
   pub applied-restores : (i : ℕ) → v ≡ Restores i → Left t (applied [] x (Restores i) l) g′ t′ → Left t (applied clock x v l) g′ t′

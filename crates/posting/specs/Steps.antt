@@ -1,18 +1,14 @@
 -- What the functions behind the checks of a settlement start from and leave.
-use Prim.Native.Nat.{ℕ, _<_, _≤_}
+use Prim.Native.Nat.{ℕ, _<_}
 use mathlib.Core.Path.{_≡_}
-use lib.ListN.{length}
 use Rattle.table.specs.declared.Gate.{Gate}
-use Rattle.table.specs.Table.{Rows, recordAt, recordsOf, rowsFrom, Whole, SameLengths}
-use Rattle.table.specs.Accounts.{Funds}
+use Rattle.table.specs.Table.{Rows, recordAt, recordsOf, rowsFrom}
+use Rattle.table.specs.Accounts.{Backed}
 use Rattle.posting.specs.Posting.{Ledger}
 
--- whole rows of one length with amounts in their range, and balances within a bound
+-- rows and balances as a check leaves them, with amounts in their range
 pub record Held (g : Gate) (t : Rows) (b : ℕ) : Type 0 where
-  pub whole : Whole t (g .used)
-  pub same : SameLengths t
-  pub size : length (t .nums) ≤ 4096
-  pub funds : Funds g b
+  pub backed : Backed g t b
   pub small : (i : ℕ) → i < g .used → (recordAt t i) .amount < 1000000000
 
 abbrev pub ledgerOf : Gate → Rows → Ledger

@@ -1,11 +1,11 @@
 // The session program: it moves bytes from standard input to the console, and what the console prints to standard output.
 use console::feed;
 use console::feed::Part;
-use console::gather;
+use console::start;
 use texts::scan;
 ghost use mathlib.Core.Path.{_≡_};
 ghost use lib.ListN.{length};
-ghost use Rattle.orders.specs.Sums.{Summable};
+ghost use Rattle.figures.specs.Sums.{Summable};
 
 // A session, whether its input goes on, and whether what it printed was written.
 struct Stage {
@@ -44,8 +44,8 @@ fn input_part() -> [u8; 1024]
 fn begin() -> Part
     ensures { λ r. ⌜ Summable (r .console .gate) ⌝ }
 {
-    let console = gather::new_console();
-    let held = gather::new_held();
+    let console = start::new_console();
+    let held = gathering::new_held();
     Part {
         console,
         held,

@@ -14,7 +14,8 @@ use Rattle.table.specs.Table.{Rows, recordsOf, rowsFrom}
 use Rattle.table.specs.Accounts.{withClosed}
 use Rattle.posting.specs.Posting.{Ledger}
 use Rattle.clearing.specs.Clearing.{settleLines, sweptRecord, swept, reportOf}
-use Rattle.settlement.specs.Settle.{Settlement, settleDay, reported}
+use Rattle.settlement.specs.Settle.{settleDay, reported}
+use Rattle.admission.specs.Delivery.{Delivery}
 use Rattle.posting.specs.Steps.{Left, ledgerOf}
 use Rattle.clearing.specs.Lines.{LineRows, linesOf, Read}
 use Rattle.clearing.proofs.LinesLaws.{from-from}
@@ -45,20 +46,20 @@ module _ (g : Gate) (t : Rows) (clock : List ℕ) (day : Day) (u : LineRows) (n 
       ∙ from-from t (recordsOf t₁ (a .used)) (recordsOf t₂ (b .used)) (omega (arith, as-many))
 
   pub day-settled : (out′ : List ℕ) → out′ ≡ over out 0 (reportOf (linesOf u n) (recordsOf t₂ (b .used)))
-      → _≡_ {A = Settlement} (record { code = 0; gate = withClosed b day; rows = t₂; report = out′; size = n }) (settleDay g t clock day (linesOf u n) out)
+      → _≡_ {A = Delivery} (record { code = 0; gate = withClosed b day; rows = t₂; out = out′; size = n }) (settleDay g t clock day (linesOf u n) out)
   unfolding settleDay
   day-settled out′ e =
       let few : length (linesOf u n) ≤ 512 = omega (arith, read .few, length-lines u n) in
       rw (is₁, is₂)
-      (ap (λ (y : Rows). record { code = 0; gate = withClosed b day; rows = y; report = out′; size = n }) rows-are
-      ∙ ap (λ (k : ℕ). record { code = 0; gate = withClosed b day; rows = rowsFrom t (recordsOf t₂ (b .used)); report = out′; size = k }) (sym (length-lines u n))
-      ∙ ap (λ (y : List ℕ). record { code = 0; gate = withClosed b day; rows = rowsFrom t (recordsOf t₂ (b .used)); report = y; size = length (linesOf u n) })
+      (ap (λ (y : Rows). record { code = 0; gate = withClosed b day; rows = y; out = out′; size = n }) rows-are
+      ∙ ap (λ (k : ℕ). record { code = 0; gate = withClosed b day; rows = rowsFrom t (recordsOf t₂ (b .used)); out = out′; size = k }) (sym (length-lines u n))
+      ∙ ap (λ (y : List ℕ). record { code = 0; gate = withClosed b day; rows = rowsFrom t (recordsOf t₂ (b .used)); out = y; size = length (linesOf u n) })
       (e ∙ report-written (linesOf u n) (recordsOf t₂ (b .used)) out few room))
 
 -- ---- a day that is only reported
 module _ (g : Gate) (t : Rows) (u : LineRows) (n : ℕ) (out : List ℕ) (read : Read u n) (room : 512 ≤ length out) where
   pub day-reported : (out′ : List ℕ) → out′ ≡ over out 0 (reportOf (linesOf u n) (recordsOf t (g .used)))
-      → _≡_ {A = Settlement} (record { code = 0; gate = g; rows = t; report = out′; size = n }) (reported g t (linesOf u n) out)
+      → _≡_ {A = Delivery} (record { code = 0; gate = g; rows = t; out = out′; size = n }) (reported g t (linesOf u n) out)
   day-reported out′ e =
       let few : length (linesOf u n) ≤ 512 = omega (arith, read .few, length-lines u n) in
       rw (length-lines u n, e ∙ report-written (linesOf u n) (recordsOf t (g .used)) out few room)

@@ -2,15 +2,14 @@
 use Prim.Native.Nat.{ℕ, _≤_, _<_}
 use native.Mathlib.Omega.{arith}
 use mathlib.Core.Path.{_≡_, sym, ap, _∙_}
-use mathlib.Core.Bool.{Bool, true, false, not}
+use mathlib.Core.Bool.{Bool, true, false, not, _&&_}
 use mathlib.Core.List.{List}
 use lib.ListN.{length}
-use borrow.Author.Tests.{le-leb, lt-leb, eq-eqb, ne-eqb, not-true, not-false}
+use borrow.Author.Tests.{eq-eqb, ne-eqb, not-true, not-false}
 use Rattle.days.specs.declared.calendar.Day.{Day}
 use Rattle.days.specs.Calendar.{isDay, dayBefore, nextDay, onDay}
 use Rattle.fields.specs.Amount.{isAmount}
 use Rattle.fields.specs.Codes.{isReceipt}
-use Rattle.dates.specs.Date.{isWritten}
 use Rattle.texts.proofs.Tests.{and-left, and-right}
 use Rattle.texts.proofs.DigitLaws.{within-high}
 use Rattle.lines.specs.declared.line.Line.{Line}
@@ -21,7 +20,9 @@ use Rattle.table.specs.declared.Record.{Record}
 use Rattle.table.specs.Table.{Rows, recordAt}
 use Rattle.validity.specs.Valid.{rangesGood, recordGood, authcodeGood, tableGood, Ready}
 use Rattle.validity.proofs.GoodLaws.{good-table}
-use Rattle.settlement.specs.Settle.{Settlement, reported, settleDay, settleRead, settle}
+use Rattle.settlement.specs.Settle.{reported, settleDay, settleRead, settle}
+use Rattle.admission.specs.Delivery.{Delivery, admission}
+use Rattle.admission.proofs.AdmissionLaws.{refused-by, admitted-by}
 use Rattle.posting.specs.Steps.{Held}
 use Rattle.clearing.specs.Lines.{LineRows, linesOf}
 
@@ -35,66 +36,55 @@ good-amount g i r h =
 
 pub held-ready : (g : Gate) (t : Rows) → Ready g t → tableGood g t ≡ true → Held g t 10000000000000
 held-ready g t ready good =
-    record {
-      whole = ready .whole;
-      same = ready .same;
-      size = ready .size;
-      funds = record { places = ready .sound .places; count = ready .sound .count; balances = ready .sound .balances };
-      small = λ i h. good-amount g i (recordAt t i) (good-table g t (ready .sound .places) good .records i h);
-    }
+    record { backed = ready; small = λ i h. good-amount g i (recordAt t i) (good-table g t (ready .funds .places) good .records i h) }
 
 pub count-few : (day : Day) (s : List ℕ) (f : ℕ) → f ≡ registryFault day s → f ≡ 0 → lineCount s ≤ 512
 count-few day s f e z =
     let l = lines-good day s (sym e ∙ z) in
     omega (arith, l .few, l .count)
 
+-- ---- a day up to the closed one
+module _ (closed day : Day) (v : Bool) (ev : v ≡ isDay day) where
+  pub past-none : not v ≡ true → false ≡ isDay day && not (dayBefore closed day)
+  past-none h = rw (← ev, not-true v h)
+
+  pub past-day : not v ≡ false → (b : Bool) → b ≡ dayBefore closed day → not b ≡ isDay day && not (dayBefore closed day)
+  past-day h b eb = rw (← ev, not-false v h, eb)
+
 -- ---- the lines of a text without a fault
 module _ (g : Gate) (t : Rows) (clock : List ℕ) (day : Day) (xs : List Line) (out : List ℕ) (n : Bool) (en : n ≡ onDay day (nextDay (g .closed))) where
-  pub read-next : n ≡ true → (d : Settlement) → d ≡ settleDay g t clock day xs out → d ≡ settleRead g t clock day xs out
+  pub read-next : n ≡ true → (d : Delivery) → d ≡ settleDay g t clock day xs out → d ≡ settleRead g t clock day xs out
   unfolding settleRead
   read-next h d e = e ∙ rw (← en, h)
 
-  module _ (h : n ≡ false) (v : Bool) (ev : v ≡ isDay day) where
-    pub read-no-date : not v ≡ true → (rows : Rows) → rows ≡ t → (left : List ℕ) → left ≡ out → _≡_ {A = Settlement} (record { code = 55; gate = g; rows = rows; report = left; size = 0 }) (settleRead g t clock day xs out)
+  module _ (h : n ≡ false) (p : Bool) (ep : p ≡ isDay day && not (dayBefore (g .closed) day)) where
+    pub read-past : p ≡ true → (d : Delivery) → d ≡ reported g t xs out → d ≡ settleRead g t clock day xs out
     unfolding settleRead
-    read-no-date c rows er left el = rw (← en, h, ← ev, not-true v c, er, el)
+    read-past y d e = e ∙ rw (← en, h, ← ep, y)
 
-    module _ (c : not v ≡ false) (b : Bool) (eb : b ≡ dayBefore (g .closed) day) where
-      pub read-later : b ≡ true → (rows : Rows) → rows ≡ t → (left : List ℕ) → left ≡ out → _≡_ {A = Settlement} (record { code = 55; gate = g; rows = rows; report = left; size = 0 }) (settleRead g t clock day xs out)
-      unfolding settleRead
-      read-later y rows er left el = rw (← en, h, ← ev, not-false v c, ← eb, y, er, el)
-
-      pub read-before : b ≡ false → (d : Settlement) → d ≡ reported g t xs out → d ≡ settleRead g t clock day xs out
-      unfolding settleRead
-      read-before y d e = e ∙ rw (← en, h, ← ev, not-false v c, ← eb, y)
+    pub read-later : p ≡ false → (rows : Rows) → rows ≡ t → (left : List ℕ) → left ≡ out
+        → _≡_ {A = Delivery} (record { code = 55; gate = g; rows = rows; out = left; size = 0 }) (settleRead g t clock day xs out)
+    unfolding settleRead
+    read-later y rows er left el = rw (← en, h, ← ep, y, er, el)
 
 -- ---- a text whose lines were read
 pub text-read : (g : Gate) (t : Rows) (clock : List ℕ) (day : Day) (u : LineRows) (n : ℕ) (s out : List ℕ) → linesOf u n ≡ registryLines s
-    → (d : Settlement) → d ≡ settleRead g t clock day (linesOf u n) out → d ≡ settleRead g t clock day (registryLines s) out
+    → (d : Delivery) → d ≡ settleRead g t clock day (linesOf u n) out → d ≡ settleRead g t clock day (registryLines s) out
 text-read g t clock day u n s out e d ed = ed ∙ ap (λ (xs : List Line). settleRead g t clock day xs out) e
 
 -- ---- the call
-module _ (g : Gate) (t : Rows) (clock : List ℕ) (day : Day) (s out : List ℕ) (b : Bool) (eb : b ≡ tableGood g t) where
-  module _ (rows : Rows) (er : rows ≡ t) (left : List ℕ) (el : left ≡ out) where
-    pub settle-not-table : not b ≡ true → _≡_ {A = Settlement} (record { code = 68; gate = g; rows = rows; report = left; size = 0 }) (settle g t clock day s out)
-    unfolding settle
-    settle-not-table h = rw (← eb, not-true b h, er, el)
-
-    module _ (h : not b ≡ false) where
-      pub settle-no-room : length out < 512 → _≡_ {A = Settlement} (record { code = 50; gate = g; rows = rows; report = left; size = 0 }) (settle g t clock day s out)
-      unfolding settle
-      settle-no-room l = rw (← eb, not-false b h, lt-leb _ _ l, er, el)
-
-      module _ (l : 512 ≤ length out) (w : Bool) (ew : w ≡ isWritten clock) where
-        pub settle-no-clock : not w ≡ true → _≡_ {A = Settlement} (record { code = 51; gate = g; rows = rows; report = left; size = 0 }) (settle g t clock day s out)
-        unfolding settle
-        settle-no-clock n = rw (← eb, not-false b h, le-leb _ _ l, ← ew, not-true w n, er, el)
-
-        pub settle-fault : not w ≡ false → (f : ℕ) → f ≡ registryFault day s → (f ≡ 0 → ⊥) → _≡_ {A = Settlement} (record { code = f; gate = g; rows = rows; report = left; size = 0 }) (settle g t clock day s out)
-        unfolding settle
-        settle-fault n f ef z = rw (← eb, not-false b h, le-leb _ _ l, ← ew, not-false w n, ← ef, ne-eqb _ _ z, er, el)
-
-  pub settle-read : not b ≡ false → 512 ≤ length out → (w : Bool) → w ≡ isWritten clock → not w ≡ false → (f : ℕ) → f ≡ registryFault day s → f ≡ 0
-      → (d : Settlement) → d ≡ settleRead g t clock day (registryLines s) out → d ≡ settle g t clock day s out
+module _ (g : Gate) (t : Rows) (clock : List ℕ) (day : Day) (s out : List ℕ) (a : ℕ) (ea : a ≡ admission g t clock (length out)) where
+  pub not-admitted : (a ≡ 0 → ⊥) → (rows : Rows) → rows ≡ t → (left : List ℕ) → left ≡ out
+      → _≡_ {A = Delivery} (record { code = a; gate = g; rows = rows; out = left; size = 0 }) (settle g t clock day s out)
   unfolding settle
-  settle-read h l w ew n f ef z d e = e ∙ rw (← eb, not-false b h, le-leb _ _ l, ← ew, not-false w n, ← ef, eq-eqb _ _ z)
+  not-admitted n rows er left el = rw (er, el) (refused-by g t clock out a ea n _)
+
+  module _ (z : a ≡ 0) (f : ℕ) (ef : f ≡ registryFault day s) where
+    pub settle-fault : (f ≡ 0 → ⊥) → (rows : Rows) → rows ≡ t → (left : List ℕ) → left ≡ out
+        → _≡_ {A = Delivery} (record { code = f; gate = g; rows = rows; out = left; size = 0 }) (settle g t clock day s out)
+    unfolding settle
+    settle-fault n rows er left el = rw (er, el, ← ef, ne-eqb _ _ n) (admitted-by g t clock out a ea z _)
+
+    pub settle-read : f ≡ 0 → (d : Delivery) → d ≡ settleRead g t clock day (registryLines s) out → d ≡ settle g t clock day s out
+    unfolding settle
+    settle-read y d e = e ∙ rw (← ef, eq-eqb _ _ y) (admitted-by g t clock out a ea z _)

@@ -9,7 +9,8 @@ ghost use mathlib.Core.Path.{_≡_};
 ghost use Prim.Native.Nat.{_≤_};
 ghost use lib.ListN.{length};
 ghost use Rattle.table.specs.Lent.{lent, before, after};
-ghost use Rattle.settlement.specs.Settle.{settlementOf, settleDay};
+ghost use Rattle.settlement.specs.Settle.{settleDay};
+ghost use Rattle.admission.specs.Delivery.{deliveryOf};
 ghost use Rattle.posting.specs.Steps.{Held};
 ghost use Rattle.clearing.specs.Lines.{linesOf, Read, linesLent, linesBefore};
 
@@ -29,7 +30,7 @@ pub(crate) fn settle_day(
 ) -> Reply
     requires { ⌜ Held g (lent nums numbers dates) 10000000000000 ⌝ }
     requires { ⌜ Read (linesLent values holders days) count × (512 ≤ length (now out)) ⌝ }
-    ensures { λ r. ⌜ settlementOf r (after nums numbers dates) (now (out .exit))
+    ensures { λ r. ⌜ deliveryOf r (after nums numbers dates) (now (out .exit))
         ≡ settleDay g (before nums numbers dates) clock day (linesOf (linesBefore values holders days) count) (now (out .entry)) ⌝ }
 {
     let a = each_line::settle_lines(nums, numbers, dates, g, clock, values, holders, days, count);

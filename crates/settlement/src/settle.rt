@@ -3,22 +3,20 @@ use crate::closing;
 use clearing::reading;
 use clearing::report;
 use days::calendar::Day;
-use dates::date;
 use ledger::Reply;
 use registry::text;
 use table::Gate;
-use validity::valid;
+ghost use mathlib.Core.Bool.{not, _&&_};
 ghost use mathlib.Core.Path.{_≡_};
 ghost use Prim.Native.Nat.{_≤_};
 ghost use lib.ListN.{length};
+ghost use Rattle.days.specs.Calendar.{isDay, dayBefore};
 ghost use Rattle.registry.specs.Registry.{lineCount, registryLines};
 ghost use Rattle.table.specs.Lent.{lent, before, after};
-ghost use Rattle.settlement.specs.Settle.{settlementOf, reported, settleRead, settle};
+ghost use Rattle.settlement.specs.Settle.{reported, settleRead, settle};
+ghost use Rattle.admission.specs.Delivery.{deliveryOf};
 ghost use Rattle.posting.specs.Steps.{Held};
 ghost use Rattle.clearing.specs.Lines.{linesOf, Read, linesLent, linesBefore};
-
-// How many bytes a report's buffer has at least.
-const REPORT_ROOM: usize = 512;
 
 // Writes the report of a day that was closed before; nothing is settled.
 fn report_day(
@@ -34,7 +32,7 @@ fn report_day(
 ) -> Reply
     requires { ⌜ Held g (lent nums numbers dates) 10000000000000 ⌝ }
     requires { ⌜ Read (linesLent values holders days) count × (512 ≤ length (now out)) ⌝ }
-    ensures { λ r. ⌜ settlementOf r (before nums numbers dates) (now (out .exit))
+    ensures { λ r. ⌜ deliveryOf r (before nums numbers dates) (now (out .exit))
         ≡ reported g (before nums numbers dates) (linesOf (linesBefore values holders days) count) (now (out .entry)) ⌝ }
 {
     let used = g.used;
@@ -56,6 +54,16 @@ fn report_day(
     }
 }
 
+// Whether the day is a date up to the closed one.
+fn is_past(closed: Day, day: Day) -> bool
+    ensures { λ r. ⌜ r ≡ isDay day && not (dayBefore closed day) ⌝ }
+{
+    if !day.is_valid() {
+        return false;
+    }
+    !closed.before(day)
+}
+
 // The lines of a registry without a fault: the day after the closed one is settled, one up to it only reported.
 pub(crate) fn settle_read(
     nums: &mut [[u64; 6]],
@@ -72,7 +80,7 @@ pub(crate) fn settle_read(
 ) -> Reply
     requires { ⌜ Held g (lent nums numbers dates) 10000000000000 ⌝ }
     requires { ⌜ Read (linesLent values holders days) count × (512 ≤ length (now out)) ⌝ }
-    ensures { λ r. ⌜ settlementOf r (after nums numbers dates) (now (out .exit))
+    ensures { λ r. ⌜ deliveryOf r (after nums numbers dates) (now (out .exit))
         ≡ settleRead g (before nums numbers dates) clock day (linesOf (linesBefore values holders days) count) (now (out .entry)) ⌝ }
 {
     let closed = g.closed;
@@ -91,21 +99,14 @@ pub(crate) fn settle_read(
             out,
         );
     }
-    if !day.is_valid() {
-        return Reply {
-            code: 55,
-            gate: g,
-            size: 0,
-        };
+    if is_past(closed, day) {
+        return report_day(nums, numbers, dates, g, values, holders, days, count, out);
     }
-    if closed.before(day) {
-        return Reply {
-            code: 55,
-            gate: g,
-            size: 0,
-        };
+    Reply {
+        code: 55,
+        gate: g,
+        size: 0,
     }
-    report_day(nums, numbers, dates, g, values, holders, days, count, out)
 }
 
 // Reads the lines of a text without a fault, once, and settles by them.
@@ -121,7 +122,7 @@ pub(crate) fn settle_text(
 ) -> Reply
     requires { ⌜ Held g (lent nums numbers dates) 10000000000000 ⌝ }
     requires { ⌜ (lineCount (now s) ≤ 512) × (512 ≤ length (now out)) ⌝ }
-    ensures { λ r. ⌜ settlementOf r (after nums numbers dates) (now (out .exit))
+    ensures { λ r. ⌜ deliveryOf r (after nums numbers dates) (now (out .exit))
         ≡ settleRead g (before nums numbers dates) clock day (registryLines (now (s .entry))) (now (out .entry)) ⌝ }
 {
     let mut values = reading::empty_nums();
@@ -154,25 +155,12 @@ pub fn settle(
     bytes: &[u8],
     out: &mut [u8],
 ) -> Reply
-    ensures { λ r. ⌜ settlementOf r (after nums numbers dates) (now (out .exit)) ≡ settle gate (before nums numbers dates) clock day (now (bytes .entry)) (now (out .entry)) ⌝ }
+    ensures { λ r. ⌜ deliveryOf r (after nums numbers dates) (now (out .exit)) ≡ settle gate (before nums numbers dates) clock day (now (bytes .entry)) (now (out .entry)) ⌝ }
 {
-    if !valid::table_good(nums, numbers, dates, gate) {
+    let refusal = admission::admit(nums, numbers, dates, gate, clock, out.len());
+    if refusal != 0 {
         return Reply {
-            code: 68,
-            gate,
-            size: 0,
-        };
-    }
-    if out.len() < REPORT_ROOM {
-        return Reply {
-            code: 50,
-            gate,
-            size: 0,
-        };
-    }
-    if !date::is_written(clock) {
-        return Reply {
-            code: 51,
+            code: refusal,
             gate,
             size: 0,
         };

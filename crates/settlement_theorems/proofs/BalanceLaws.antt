@@ -32,7 +32,8 @@ use Rattle.posting.specs.declared.verdict.Verdict.{Verdict}
 use Rattle.posting.specs.declared.verdict.Verdict.the-variants.{Keeps, Restores, Posts, Unposted}
 use Rattle.posting.specs.Posting.{matches, verdictOf, Ledger, applied, settleLine}
 use Rattle.clearing.specs.Clearing.{settleLines, isStray, sweptGate, sweepGates, swept}
-use Rattle.settlement.specs.Settle.{Settlement, settleDay, settle}
+use Rattle.settlement.specs.Settle.{settleDay, settle}
+use Rattle.admission.specs.Delivery.{Delivery}
 use Rattle.posting.specs.Steps.{ledgerOf}
 use Rattle.settlement_theorems.specs.Balances.{isAt, creditOf, credits, debitOf, sweptFrom, creditsOn, sweptOn}
 use Rattle.posting.proofs.HeldLaws.{post-room, verdict-post}
@@ -194,7 +195,7 @@ module _ (a : ℕ) where
         ∙ ap (λ (z : ℤ). z -ℤ pos (sweptOn g t clock day xs a)) (lines-balance clock (length (t .nums)) xs (ledgerOf g t))
 
     -- a fault, and a day that is not the one after the closed, leave it; the day that is settled adds what it credits and takes what it sweeps
-    pub record Balanced (text : List ℕ) (d : Settlement) : Type 0 where
+    pub record Balanced (text : List ℕ) (d : Delivery) : Type 0 where
       pub fault : (d .code ≡ 0 → ⊥) → balanceAt (d .gate) a ≡ balanceAt g a
       pub closed : onDay day (nextDay (g .closed)) ≡ false → balanceAt (d .gate) a ≡ balanceAt g a
       pub settled : d .code ≡ 0 → onDay day (nextDay (g .closed)) ≡ true
@@ -225,7 +226,7 @@ module _ (g : Gate) (t : Rows) (clock : List ℕ) (day : Day) (text out : List �
   pub settle-names : SameNames (withClosed g ((settle g t clock day text out) .gate .closed)) ((settle g t clock day text out) .gate)
   unfolding settleDay
   settle-names =
-      settled-by g t clock day text out (λ (d : Settlement). SameNames (withClosed g (d .gate .closed)) (d .gate))
+      settled-by g t clock day text out (λ (d : Delivery). SameNames (withClosed g (d .gate .closed)) (d .gate))
       (λ _ _. names-closed g g (g .closed) (names-same g g refl))
       (λ _ _. names-closed g g (g .closed) (names-same g g refl))
       (λ _ _. day-names)
@@ -234,7 +235,7 @@ module _ (g : Gate) (t : Rows) (clock : List ℕ) (day : Day) (text out : List �
   pub settle-closed : (settle g t clock day text out) .code ≡ 0 → onDay day (nextDay (g .closed)) ≡ true → (settle g t clock day text out) .gate .closed ≡ day
   unfolding settleDay
   settle-closed =
-      settled-by g t clock day text out (λ (d : Settlement). d .code ≡ 0 → onDay day (nextDay (g .closed)) ≡ true → d .gate .closed ≡ day)
+      settled-by g t clock day text out (λ (d : Delivery). d .code ≡ 0 → onDay day (nextDay (g .closed)) ≡ true → d .gate .closed ≡ day)
       (λ code n e _. absurd (n e))
       (λ _ off _ on. no-claim (sym off ∙ on))
       (λ _ _ _ _. refl)
@@ -242,7 +243,7 @@ module _ (g : Gate) (t : Rows) (clock : List ℕ) (day : Day) (text out : List �
   -- a day that is not the one after the closed leaves that as it was, and so does a fault (`fault-keeps`)
   pub settle-open : onDay day (nextDay (g .closed)) ≡ false → (settle g t clock day text out) .gate .closed ≡ g .closed
   settle-open =
-      settled-by g t clock day text out (λ (d : Settlement). onDay day (nextDay (g .closed)) ≡ false → d .gate .closed ≡ g .closed)
+      settled-by g t clock day text out (λ (d : Delivery). onDay day (nextDay (g .closed)) ≡ false → d .gate .closed ≡ g .closed)
       (λ _ _ _. refl)
       (λ _ _ _. refl)
       (λ _ on off. no-claim (sym off ∙ on))

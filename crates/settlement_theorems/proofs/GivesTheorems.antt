@@ -20,7 +20,8 @@ use Rattle.table.specs.declared.Record.{Record}
 use Rattle.table.specs.Table.{Rows, recordsOf}
 use Rattle.validity.specs.Valid.{tableGood}
 use Rattle.clearing.specs.Clearing.{anyDone, reportOf}
-use Rattle.settlement.specs.Settle.{Settlement, settleDay, settleRead, settle}
+use Rattle.settlement.specs.Settle.{settleDay, settleRead, settle}
+use Rattle.admission.specs.Delivery.{Delivery}
 use Rattle.settlement.proofs.DayLaws.{report-length}
 use Rattle.settlement_theorems.proofs.SettleLaws.{settled-by, report-now}
 
@@ -40,14 +41,14 @@ unfolding isReport
 report-is xs rs = rw (eq-eqb _ _ (report-length xs rs), report-marks xs rs) refl
 
 module _ (g : Gate) (t : Rows) (clock : List ℕ) (day : Day) (text out : List ℕ) where
-  abbrev call : Settlement
+  abbrev call : Delivery
   call = settle g t clock day text out
 
   -- ---- every settlement with code 0
   module _ (done : call .code ≡ 0) where
     counted : (call .size ≡ length (registryLines text)) × (length (registryLines text) ≤ length out)
     counted =
-        settled-by g t clock day text out (λ (d : Settlement). d .code ≡ 0 → (d .size ≡ length (registryLines text)) × (length (registryLines text) ≤ length out))
+        settled-by g t clock day text out (λ (d : Delivery). d .code ≡ 0 → (d .size ≡ length (registryLines text)) × (length (registryLines text) ≤ length out))
         (λ code n z. absurd (n z))
         (λ p off z. (refl, omega (arith, p .room, lines-good day text (p .faultless) .few)))
         (λ p next z. (unfold settleDay in refl, omega (arith, p .room, lines-good day text (p .faultless) .few)))
@@ -58,17 +59,17 @@ module _ (g : Gate) (t : Rows) (clock : List ℕ) (day : Day) (text out : List �
     settle-size = counted .0
 
     -- leaves at the start of the buffer the report of the table that it leaves
-    pub settle-report : take (call .size) (call .report) ≡ reportOf (registryLines text) (recordsOf (call .rows) (call .gate .used))
+    pub settle-report : take (call .size) (call .out) ≡ reportOf (registryLines text) (recordsOf (call .rows) (call .gate .used))
     settle-report =
         let s : List ℕ = reportOf (registryLines text) (recordsOf (call .rows) (call .gate .used)) in
         let l : length s ≡ length (registryLines text) = report-length (registryLines text) (recordsOf (call .rows) (call .gate .used)) in
         let fits : length s ≤ length out = omega (arith, l, counted .1) in
-        ap (λ (n : ℕ). take n (call .report)) (settle-size ∙ sym l)
+        ap (λ (n : ℕ). take n (call .out)) (settle-size ∙ sym l)
         ∙ ap (take (length s)) (report-now g t clock day text out done)
         ∙ text-first out s fits
 
     -- and these bytes are a report of as many marks as the registry has lines
-    pub settle-reports : isReport (length (registryLines text)) (take (call .size) (call .report)) ≡ true
+    pub settle-reports : isReport (length (registryLines text)) (take (call .size) (call .out)) ≡ true
     settle-reports =
         ap (isReport (length (registryLines text))) settle-report
         ∙ report-is (registryLines text) (recordsOf (call .rows) (call .gate .used))
@@ -82,9 +83,9 @@ module _ (g : Gate) (t : Rows) (clock : List ℕ) (day : Day) (text out : List �
     -- with code 0
     pub settle-gives-code : (settle g t clock day text out) .code ≡ 0
     unfolding settleDay
-    settle-gives-code = ap (λ (d : Settlement). d .code) settle-gives
+    settle-gives-code = ap (λ (d : Delivery). d .code) settle-gives
 
     -- and closed
     pub settle-gives-closed : (settle g t clock day text out) .gate .closed ≡ day
     unfolding settleDay
-    settle-gives-closed = ap (λ (d : Settlement). d .gate .closed) settle-gives
+    settle-gives-closed = ap (λ (d : Delivery). d .gate .closed) settle-gives

@@ -32,7 +32,8 @@ use Rattle.posting.specs.declared.verdict.Verdict.{Verdict}
 use Rattle.posting.specs.declared.verdict.Verdict.the-variants.{Keeps, Restores, Posts, Unposted}
 use Rattle.posting.specs.Posting.{matches, postVerdict, verdictOf, restored, postedRecord, Ledger, applied, settleLine}
 use Rattle.clearing.specs.Clearing.{settleLines, sweptRecord, swept}
-use Rattle.settlement.specs.Settle.{Settlement, settleDay, settle}
+use Rattle.settlement.specs.Settle.{settleDay, settle}
+use Rattle.admission.specs.Delivery.{Delivery}
 use Rattle.posting.proofs.HeldLaws.{post-room, verdict-post}
 use Rattle.settlement_theorems.proofs.SettleLaws.{line-onward, Passed, settle-elim, before, after, after-used}
 use Rattle.settlement_theorems.proofs.BalanceLaws.{sweep-names, settle-names}
@@ -141,7 +142,7 @@ module _ (g : Gate) (t : Rows) (rep : GateRep g t) (clock : List ℕ) (day : Day
   pub settle-good : GateBase ((settle g t clock day text out) .gate) ((settle g t clock day text out) .rows)
   unfolding settleDay
   settle-good =
-      settle-elim g t clock day text out (λ (d : Settlement). SameNames (withClosed g (d .gate .closed)) (d .gate) → GateBase (d .gate) (d .rows))
+      settle-elim g t clock day text out (λ (d : Delivery). SameNames (withClosed g (d .gate .closed)) (d .gate) → GateBase (d .gate) (d .rows))
       (λ c z s. base-of g t rep)
       (λ p o b s. base-of g t rep)
       (λ p dated next s. day-good p dated next s)

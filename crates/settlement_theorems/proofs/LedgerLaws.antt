@@ -41,7 +41,8 @@ use Rattle.posting.specs.declared.verdict.Verdict.{Verdict}
 use Rattle.posting.specs.declared.verdict.Verdict.the-variants.{Keeps, Restores, Posts, Unposted}
 use Rattle.posting.specs.Posting.{matches, detailsOf, postVerdict, verdictOf, restored, postedRecord, Ledger, applied, settleLine}
 use Rattle.clearing.specs.Clearing.{settleLines, isStray, sweptRecord, swept}
-use Rattle.settlement.specs.Settle.{Settlement, settleDay, settle}
+use Rattle.settlement.specs.Settle.{settleDay, settle}
+use Rattle.admission.specs.Delivery.{Delivery}
 use Rattle.posting.proofs.HeldLaws.{post-room, post-new, verdict-post}
 use Rattle.settlement_theorems.proofs.SettleLaws.{Onward, applied-onward, line-onward, swept-onward, map-at, restores-at, settled-by, before, after, after-used}
 use Rattle.settlement_theorems.proofs.BalanceLaws.{names-credited-at}
@@ -273,4 +274,4 @@ module _ (g : Gate) (t : Rows) (clock : List ℕ) (day : Day) (text out : List �
       at n h = ap (λ (r : Record). r .receipt) (from-at t rs n noRecord h)
 
   pub settle-once : Distinct ((settle g t clock day text out) .gate) ((settle g t clock day text out) .rows)
-  settle-once = settled-by g t clock day text out (λ (d : Settlement). Distinct (d .gate) (d .rows)) (λ _ _. once) (λ _ _. once) (λ _ _. today-once)
+  settle-once = settled-by g t clock day text out (λ (d : Delivery). Distinct (d .gate) (d .rows)) (λ _ _. once) (λ _ _. once) (λ _ _. today-once)

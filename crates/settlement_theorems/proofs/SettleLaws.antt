@@ -41,7 +41,8 @@ use Rattle.posting.specs.declared.verdict.Verdict.the-variants.{Keeps, Restores
 use Rattle.posting.specs.Posting.{matches, isDone, postVerdict, matchVerdict, verdictOf, restored, postedRecord, Ledger, applied, settleLine}
 use Rattle.gate_theorems.proofs.RecordsLaws.{SameKey, key-equal, key-revoked}
 use Rattle.clearing.specs.Clearing.{settleLines, anyMatches, isStray, sweptRecord, sweptGate, sweepGates, swept, anyDone, reportOf}
-use Rattle.settlement.specs.Settle.{Settlement, unsettled, reported, settleDay, settleRead, settle}
+use Rattle.settlement.specs.Settle.{reported, settleDay, settleRead, settle}
+use Rattle.admission.specs.Delivery.{Delivery, undelivered}
 use Rattle.settlement.proofs.DayLaws.{report-length}
 use Rattle.posting.proofs.HeldLaws.{credit-used}
 
@@ -204,7 +205,7 @@ pub record Passed (g : Gate) (t : Rows) (day : Day) (text out : List ℕ) : Type
   pub faultless : registryFault day text ≡ 0
 
 module _ (g : Gate) (t : Rows) (clock : List ℕ) (day : Day) (text out : List ℕ) where
-  pub settle-elim : (P : Settlement → Type 0) → ((code : ℕ) → (code ≡ 0 → ⊥) → P (unsettled code g t out))
+  pub settle-elim : (P : Delivery → Type 0) → ((code : ℕ) → (code ≡ 0 → ⊥) → P (undelivered code g t out))
       → (Passed g t day text out → onDay day (nextDay (g .closed)) ≡ false → dayBefore (g .closed) day ≡ false → P (reported g t (registryLines text) out))
       → (Passed g t day text out → isWritten clock ≡ true → onDay day (nextDay (g .closed)) ≡ true → P (settleDay g t clock day (registryLines text) out))
       → P (settle g t clock day text out)
@@ -225,23 +226,17 @@ module _ (g : Gate) (t : Rows) (clock : List ℕ) (day : Day) (text out : List �
       (λ _. keep 68 (λ e. absurd (omega arith)))
 
   -- the same where the clock and the order of days do not matter
-  pub settled-by : (P : Settlement → Type 0) → ((code : ℕ) → (code ≡ 0 → ⊥) → P (unsettled code g t out)) → (Passed g t day text out → onDay day (nextDay (g .closed)) ≡ false → P (reported g t (registryLines text) out))
+  pub settled-by : (P : Delivery → Type 0) → ((code : ℕ) → (code ≡ 0 → ⊥) → P (undelivered code g t out)) → (Passed g t day text out → onDay day (nextDay (g .closed)) ≡ false → P (reported g t (registryLines text) out))
       → (Passed g t day text out → onDay day (nextDay (g .closed)) ≡ true → P (settleDay g t clock day (registryLines text) out))
       → P (settle g t clock day text out)
   settled-by P keep report settles = settle-elim P keep (λ p off _. report p off) (λ p _ next. settles p next)
 
   -- a fault keeps all
-  pub record Kept (d : Settlement) : Type 0 where
-    pub gates : d .gate ≡ g
-    pub tables : d .rows ≡ t
-    pub buffer : d .report ≡ out
-    pub empty : d .size ≡ 0
-
-  pub fault-keeps : ((settle g t clock day text out) .code ≡ 0 → ⊥) → Kept (settle g t clock day text out)
+  pub fault-keeps : ((settle g t clock day text out) .code ≡ 0 → ⊥) → settle g t clock day text out ≡ undelivered ((settle g t clock day text out) .code) g t out
   unfolding settleDay
   fault-keeps =
-      settled-by (λ (d : Settlement). (d .code ≡ 0 → ⊥) → Kept d)
-      (λ code _ _. record { gates = refl; tables = refl; buffer = refl; empty = refl })
+      settled-by (λ (d : Delivery). (d .code ≡ 0 → ⊥) → d ≡ undelivered (d .code) g t out)
+      (λ code _ _. refl)
       (λ _ _ n. absurd (n refl))
       (λ _ _ n. absurd (n refl))
 
@@ -260,7 +255,7 @@ module _ (g : Gate) (t : Rows) (clock : List ℕ) (day : Day) (text out : List �
   pub after-used : length (after .records) ≡ after .gate .used
   after-used = after-onward .step (length-records t (g .used))
 
-  today-report : (settleDay g t clock day (registryLines text) out) .report
+  today-report : (settleDay g t clock day (registryLines text) out) .out
       ≡ written out 0 (reportOf (registryLines text) (recordsOf ((settleDay g t clock day (registryLines text) out) .rows) ((settleDay g t clock day (registryLines text) out) .gate .used)))
   unfolding settleDay
   today-report =
@@ -268,19 +263,19 @@ module _ (g : Gate) (t : Rows) (clock : List ℕ) (day : Day) (text out : List �
       (sym (ap (recordsOf (rowsFrom t (after .records))) (sym after-used) ∙ records-from t (after .records) noRecord))
 
   -- the report is that of the table as the call leaves it
-  abbrev left : Settlement → List Record
+  abbrev left : Delivery → List Record
   left d = recordsOf (d .rows) (d .gate .used)
 
   pub report-now : (settle g t clock day text out) .code ≡ 0
-      → (settle g t clock day text out) .report ≡ written out 0 (reportOf (registryLines text) (left (settle g t clock day text out)))
+      → (settle g t clock day text out) .out ≡ written out 0 (reportOf (registryLines text) (left (settle g t clock day text out)))
   report-now =
-      settled-by (λ (d : Settlement). d .code ≡ 0 → d .report ≡ written out 0 (reportOf (registryLines text) (left d)))
+      settled-by (λ (d : Delivery). d .code ≡ 0 → d .out ≡ written out 0 (reportOf (registryLines text) (left d)))
       (λ code n e. absurd (n e))
       (λ _ _ _. refl)
       (λ _ _ _. today-report)
 
 -- no used record is lost, and each keeps its key
-pub record KeysLast (g : Gate) (t : Rows) (d : Settlement) : Type 0 where
+pub record KeysLast (g : Gate) (t : Rows) (d : Delivery) : Type 0 where
   pub used : g .used ≤ d .gate .used
   pub keys : (i : ℕ) → i < g .used → SameKey (recordAt t i) (recordAt (d .rows) i)
 
@@ -317,7 +312,7 @@ module _ (g : Gate) (t : Rows) (clock : List ℕ) (day : Day) (text out : List �
   report-room : length (registryLines text) ≤ length out
   unfolding settleDay
   report-room =
-      settled-by g t clock day text out (λ (d : Settlement). d .code ≡ 0 → length (registryLines text) ≤ length out)
+      settled-by g t clock day text out (λ (d : Delivery). d .code ≡ 0 → length (registryLines text) ≤ length out)
       (λ code n e. absurd (n e))
       (λ p _ _. room p)
       (λ p _ _. room p)
@@ -328,25 +323,25 @@ module _ (g : Gate) (t : Rows) (clock : List ℕ) (day : Day) (text out : List �
 
   module _ (i : ℕ) (x : Line) (h : i < length (registryLines text)) where
     -- 49 if a done record of the table as it is left matches the line, else 48
-    pub report-byte : getD ((settle g t clock day text out) .report) i 0 ≡ cond (anyDone (getD (registryLines text) i x) table) 49 48
+    pub report-byte : getD ((settle g t clock day text out) .out) i 0 ≡ cond (anyDone (getD (registryLines text) i x) table) 49 48
     report-byte =
         let n : length (reportOf (registryLines text) table) ≡ length (registryLines text) = report-length (registryLines text) table in
         ap (λ (l : List ℕ). getD l i 0) (report-now g t clock day text out done)
         ∙ written-at out (reportOf (registryLines text) table) i (omega (arith, n, report-room)) (omega (arith, n))
         ∙ report-at (registryLines text) table i 0 x h
 
-    pub report-done : getD ((settle g t clock day text out) .report) i 0 ≡ 49 → DoneAt (getD (registryLines text) i x) table
+    pub report-done : getD ((settle g t clock day text out) .out) i 0 ≡ 49 → DoneAt (getD (registryLines text) i x) table
     report-done e = go (anyDone (getD (registryLines text) i x) table) refl (sym report-byte ∙ e)
       where
         go : (b : Bool) → anyDone (getD (registryLines text) i x) table ≡ b → _≡_ {A = ℕ} (cond b 49 48) 49 → DoneAt (getD (registryLines text) i x) table
         go true y q = done-at (getD (registryLines text) i x) table y
         go false y q = absurd (omega arith)
 
-    pub done-report : DoneAt (getD (registryLines text) i x) table → getD ((settle g t clock day text out) .report) i 0 ≡ 49
+    pub done-report : DoneAt (getD (registryLines text) i x) table → getD ((settle g t clock day text out) .out) i 0 ≡ 49
     done-report d = report-byte ∙ rw (at-done (getD (registryLines text) i x) table (d .place) (d .within) (d .done) (d .fits))
 
   -- the bytes past the lines stay
-  pub report-past : (i : ℕ) → length (registryLines text) ≤ i → getD ((settle g t clock day text out) .report) i 0 ≡ getD out i 0
+  pub report-past : (i : ℕ) → length (registryLines text) ≤ i → getD ((settle g t clock day text out) .out) i 0 ≡ getD out i 0
   report-past i h =
       let n : length (reportOf (registryLines text) table) ≡ length (registryLines text) = report-length (registryLines text) table in
       ap (λ (l : List ℕ). getD l i 0) (report-now g t clock day text out done)
@@ -439,4 +434,4 @@ module _ (g : Gate) (t : Rows) (clock : List ℕ) (day : Day) (text out : List �
       ∙ at
 
   pub other-day : recordAt ((settle g t clock day text out) .rows) i ≡ recordAt t i
-  other-day = settled-by g t clock day text out (λ (d : Settlement). recordAt (d .rows) i ≡ recordAt t i) (λ _ _. refl) (λ _ _. refl) (λ p _. today-other p)
+  other-day = settled-by g t clock day text out (λ (d : Delivery). recordAt (d .rows) i ≡ recordAt t i) (λ _ _. refl) (λ _ _. refl) (λ p _. today-other p)

@@ -9,9 +9,10 @@ use Rattle.fields.specs.Number.{numberOf}
 use Rattle.table.specs.declared.Gate.{Gate}
 use Rattle.table.specs.Table.{Rows}
 use Rattle.ledger.specs.declared.Reply.{Reply}
-use Rattle.gate.specs.Deliver.{Delivery, deliver}
+use Rattle.gate.specs.Deliver.{deliver}
+use Rattle.admission.specs.Delivery.{Delivery}
 use Rattle.opening.specs.Opening.{openAccount, drawFunds}
-use Rattle.settlement.specs.Settle.{Settlement, settle}
+use Rattle.settlement.specs.Settle.{settle}
 
 -- ---- the texts
 -- account12
@@ -192,11 +193,11 @@ unfoldable pub paysCancelled : Delivery
 paysCancelled = deliver (cancels .gate) (cancels .rows) clock4 payment1 blank
 
 -- K9: K1, draw 1, empty registry
-unfoldable pub settlesNone : Settlement
+unfoldable pub settlesNone : Delivery
 settlesNone = settle (draws .gate) (pays .rows) clock5 day20 [] blank
 
 -- K10: K8, registry with K1's line
-unfoldable pub settlesLine : Settlement
+unfoldable pub settlesLine : Delivery
 settlesLine = settle (paysCancelled .gate) (paysCancelled .rows) clock5 day20 line1 blank
 
 -- K11: after K9 a new receipt of that day
@@ -204,5 +205,5 @@ unfoldable pub paysLate : Delivery
 paysLate = deliver (settlesNone .gate) (settlesNone .rows) clock6 payment2 blank
 
 -- K12: after K9 day 2005-09-22
-unfoldable pub settlesLater : Settlement
+unfoldable pub settlesLater : Delivery
 settlesLater = settle (settlesNone .gate) (settlesNone .rows) clock6 day22 [] blank

@@ -61,7 +61,7 @@ pub record K : Type 0 where
   pub k9-balance : balanceAt (settlesNone .gate) 0 ≡ negsuc 0
   -- K10: K8, registry with K1's line: `1`, balance 1012
   pub k10 : settlesLine .code ≡ 0
-  pub k10-report : settlesLine .report ≡ 49 ∷ replicate 511 0
+  pub k10-report : settlesLine .out ≡ 49 ∷ replicate 511 0
   pub k10-size : settlesLine .size ≡ 1
   pub k10-balance : balanceAt (settlesLine .gate) 0 ≡ pos 1012
   -- K11: after K9 a new receipt of that day: 5

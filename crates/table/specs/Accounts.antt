@@ -14,6 +14,7 @@ use Rattle.table.specs.declared.Account.{Account}
 use Rattle.table.specs.declared.Gate.{Gate}
 use Rattle.lists.specs.declared.Found.{Found}
 use Rattle.lists.specs.Lists.{firstFrom}
+use Rattle.table.specs.Table.{Rows, Whole, SameLengths}
 
 -- the account of a number and a type
 unfoldable pub isAccount : Number → ℕ → Account → Bool
@@ -71,3 +72,10 @@ pub record Funds (g : Gate) (b : ℕ) : Type 0 where
   pub places : length (g .accounts) ≡ 256
   pub count : g .count ≤ 256
   pub balances : (i : ℕ) → i < g .count → mag (balanceAt g i) ≤ b
+
+-- whole rows of one length, no more than 4,096, and balances within a bound: what the functions behind the check of a table need
+pub record Backed (g : Gate) (t : Rows) (b : ℕ) : Type 0 where
+  pub whole : Whole t (g .used)
+  pub same : SameLengths t
+  pub size : length (t .nums) ≤ 4096
+  pub funds : Funds g b

@@ -41,3 +41,8 @@ cond-elim P false a b f g = g refl
 pub cond-le : (t : Bool) {a b n : ℕ} → a ≤ n → b ≤ n → cond t a b ≤ n
 cond-le true p q = p
 cond-le false p q = q
+
+-- both ways of a test
+pub by-test : {P : Type 0} (t : Bool) → (t ≡ true → P) → (t ≡ false → P) → P
+by-test true f g = f refl
+by-test false f g = g refl

@@ -137,6 +137,6 @@ module _ (g : Gate) (t : Rows) (places : length (g .accounts) ≡ 256) (good : G
       record {
         whole = w;
         same = record { numbers = good .numbers; dates = good .dates };
-        sound = record { places = places; count = good .count; balances = λ i h. near-mag (balanceAt g i) (bound .balances i h) };
+        funds = record { places = places; count = good .count; balances = λ i h. near-mag (balanceAt g i) (bound .balances i h) };
         size = good .most;
       }

@@ -118,4 +118,4 @@ module _ (g : Gate) (t : Rows) where
       pub table-ready : (s ≡ true → Sound g) → (r : Bool) → (r ≡ true → Whole t (g .used)) → r ≡ true → Ready g t
       table-ready sound r whole y =
           let f = facts (not-false l m) in
-          record { whole = whole y; same = record { numbers = f .second; dates = f .third }; sound = sound (not-false s n); size = f .most }
+          record { whole = whole y; same = record { numbers = f .second; dates = f .third }; funds = sound (not-false s n); size = f .most }

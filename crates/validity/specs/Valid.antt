@@ -15,8 +15,8 @@ use Rattle.table.specs.declared.Gate.{Gate}
 use Rattle.table.specs.declared.Record.{Record}
 use Rattle.lists.specs.Lists.{isFound, allFrom}
 use Rattle.lists.specs.Lent.{lentWell}
-use Rattle.table.specs.Table.{done, cancelled, Rows, recordsOf, Whole, SameLengths}
-use Rattle.table.specs.Accounts.{accountsOf, findAccount, Funds}
+use Rattle.table.specs.Table.{done, cancelled, Rows, recordsOf}
+use Rattle.table.specs.Accounts.{accountsOf, findAccount, Funds, Backed}
 
 -- a balance no further from 0 than 10^13
 unfoldable pub near : ℤ → Bool
@@ -59,8 +59,5 @@ tableGood g t = lentGood g t && (gateGood g && allFrom (recordGood g) 0 (records
 abbrev pub Sound : Gate → Type 0
 Sound g = Funds g 10000000000000
 
-pub record Ready (g : Gate) (t : Rows) : Type 0 where
-  pub whole : Whole t (g .used)
-  pub same : SameLengths t
-  pub sound : Sound g
-  pub size : length (t .nums) ≤ 4096
+abbrev pub Ready : Gate → Rows → Type 0
+Ready g t = Backed g t 10000000000000

@@ -22,11 +22,11 @@ use Rattle.table.specs.declared.Record.{Record}
 use Rattle.table.specs.Table.{Rows, recordsOf}
 use Rattle.validity.specs.Valid.{lentGood, tableGood}
 use Rattle.ledger.specs.declared.Reply.{Reply}
-use Rattle.gate.specs.Deliver.{Delivery}
+use Rattle.admission.specs.Delivery.{Delivery, undelivered}
 use Rattle.opening.specs.Opening.{replies, openAccount, drawFunds}
 use Rattle.validity.proofs.GoodLaws.{good-table}
 use Rattle.gate_theorems.proofs.KeepsLaws.{refused-table}
-use Rattle.settlement.specs.Settle.{Settlement, unsettled, settle}
+use Rattle.settlement.specs.Settle.{settle}
 use Rattle.book.specs.declared.Book.{Book}
 use Rattle.book.specs.declared.Entry.{Entry}
 use Rattle.book.specs.declared.State.{State}
@@ -71,8 +71,8 @@ module _ (u : World) (bad : tableGood (u .gate) (u .table) ≡ false) where
   registry-stays : (day : Day) (text clock out : List ℕ) → (registryArrives u day text clock out) .world ≡ u
   unfolding registryArrives settle
   registry-stays day text clock out =
-      let e : settle (u .gate) (u .table) clock day text out ≡ unsettled 68 (u .gate) (u .table) out = rw bad in
-      ap (λ (d : Settlement). atGate u (d .gate) (d .rows) (sentIf (eqb (d .code) 0) (sentReport day (take (d .size) (d .report))) (u .sent))) e
+      let e : settle (u .gate) (u .table) clock day text out ≡ undelivered 68 (u .gate) (u .table) out = rw bad in
+      ap (λ (d : Delivery). atGate u (d .gate) (d .rows) (sentIf (eqb (d .code) 0) (sentReport day (take (d .size) (d .out))) (u .sent))) e
 
 -- the agent's: a book that is not good
 module _ (u : World) (bad : bookGood (u .book) (u .bookRows) ≡ false) where

@@ -29,10 +29,11 @@ use Rattle.registry.specs.Registry.{registryLines}
 use Rattle.registry.proofs.LinesGood.{lines-good}
 use Rattle.lists.specs.declared.Found.the-variants.{At}
 use Rattle.table.specs.Table.{recordsOf}
-use Rattle.gate.specs.Deliver.{Delivery, deliver}
+use Rattle.gate.specs.Deliver.{deliver}
+use Rattle.admission.specs.Delivery.{Delivery}
 use Rattle.gate_theorems.proofs.AnsweredTheorems.{answerTo as gateAnswer, deliver-text, deliver-told, deliver-silent}
 use Rattle.clearing.specs.Clearing.{reportOf}
-use Rattle.settlement.specs.Settle.{Settlement, settleDay, settle}
+use Rattle.settlement.specs.Settle.{settleDay, settle}
 use Rattle.settlement.proofs.DayLaws.{report-length}
 use Rattle.settlement_theorems.proofs.SettleLaws.{settled-by, fault-keeps, report-now}
 use Rattle.book.specs.Entries.{findEntry}
@@ -166,7 +167,7 @@ module _ (w : World) (day : Day) (text clock out : List ℕ) where
   report-room : (settle (w .gate) (w .table) clock day text out) .code ≡ 0
       → ((settle (w .gate) (w .table) clock day text out) .size ≡ length (registryLines text)) × (length (registryLines text) ≤ length out)
   report-room =
-      settled-by (w .gate) (w .table) clock day text out (λ (d : Settlement). d .code ≡ 0 → (d .size ≡ length (registryLines text)) × (length (registryLines text) ≤ length out))
+      settled-by (w .gate) (w .table) clock day text out (λ (d : Delivery). d .code ≡ 0 → (d .size ≡ length (registryLines text)) × (length (registryLines text) ≤ length out))
       (λ code n z. absurd (n z))
       (λ p off z. (refl, omega (arith, p .room, lines-good day text (p .faultless) .few)))
       (λ p next z. (unfold settleDay in refl, omega (arith, p .room, lines-good day text (p .faultless) .few)))
@@ -175,14 +176,14 @@ module _ (w : World) (day : Day) (text clock out : List ℕ) where
       → (registryArrives w day text clock out) .world .sent ≡ w .sent ++ (sentReport day reportText ∷ [])
   unfolding registryArrives
   report-sent z =
-      let d : Settlement = settle (w .gate) (w .table) clock day text out in
+      let d : Delivery = settle (w .gate) (w .table) clock day text out in
       let r = report-room z in
       let s : List ℕ = reportOf (registryLines text) (recordsOf (d .rows) (d .gate .used)) in
       let l : length s ≡ length (registryLines text) = report-length (registryLines text) (recordsOf (d .rows) (d .gate .used)) in
       let fits : length s ≤ length out = omega (arith, l, r .1) in
       grown (eqb (d .code) 0) _ _ (w .sent) (eq-eqb (d .code) 0 z)
       (ap (sentReport day)
-      (ap (λ (n : ℕ). take n (d .report)) (r .0 ∙ sym l)
+      (ap (λ (n : ℕ). take n (d .out)) (r .0 ∙ sym l)
       ∙ ap (take (length s)) (report-now (w .gate) (w .table) clock day text out z)
       ∙ text-first out s fits))
 
@@ -191,9 +192,9 @@ module _ (w : World) (day : Day) (text clock out : List ℕ) where
   unfolding registryArrives
   report-none n =
       let k = fault-keeps (w .gate) (w .table) clock day text out n in
-      let d : Settlement = settle (w .gate) (w .table) clock day text out in
-      let e = same-sent (eqb (d .code) 0) (sentReport day (take (d .size) (d .report))) (w .sent) (ne-eqb (d .code) 0 n) in
-      λ i. atGate w (k .gates i) (k .tables i) (e i)
+      let d : Delivery = settle (w .gate) (w .table) clock day text out in
+      let e = same-sent (eqb (d .code) 0) (sentReport day (take (d .size) (d .out))) (w .sent) (ne-eqb (d .code) 0 n) in
+      λ i. atGate w (k i .gate) (k i .rows) (e i)
 
 -- ---- which steps send: a writing that gives 0, a request that is answered, a registry that is settled or reported
 abbrev pub sendsBack : Option Sent → ℕ → Bool

@@ -12,5 +12,5 @@ draw-funds-spec =
     (tie.spec
     (λ c κs. search laws)
     (λ c. search laws)
-    (λ c κs. c .before .table-good .ensures .1 (not-false (c .before .table-good .result) (c .if1 .left)) .sound)
+    (λ c κs. c .before .table-good .ensures .1 (not-false (c .before .table-good .result) (c .if1 .left)) .funds)
     (λ c. search laws))

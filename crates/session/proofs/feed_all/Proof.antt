@@ -1,6 +1,6 @@
 use mathlib.Core.Path.{_≡_, _∙_}
 use lib.ListN.{length}
-use Rattle.orders.specs.Sums.{Summable}
+use Rattle.figures.specs.Sums.{Summable}
 use borrow.Author.Needs.{needs}
 use Rattle.session.proofs.feed_all.Statement.{statement}
 use Rattle.session.proofs.feed_all.Tie as tie

@@ -9,7 +9,7 @@ make-change-requires c κs =
     let m = c .before .before .before in
     let s = m .before .before .before .before in
     let t : Rows = record { nums = s .args .nums .now; numbers = s .args .numbers .now; dates = s .args .dates .now } in
-    (s .pre .0, (planned (s .args .g) t (s .args .fault) (s .args .q) (m .make-plan .result) (m .make-plan .ensures) (s .pre .1 .0) (s .pre .0 .sound), s .pre .1 .1))
+    (s .pre .0, (planned (s .args .g) t (s .args .fault) (s .args .q) (m .make-plan .result) (m .make-plan .ensures) (s .pre .1 .0) (s .pre .0 .funds), s .pre .1 .1))
 
 ruleset laws = (decided-code, made-by, needs)
 

@@ -4,6 +4,11 @@ use Rattle.posting.proofs.PostLaws.{few-accounts, at-nums, at-numbers, 
 use Rattle.posting.proofs.applying.restore.Statement.{statement}
 use Rattle.posting.proofs.applying.restore.Tie as tie
 
+credit-at-requires : tie.Need-credit-at-requires
+credit-at-requires c κs =
+    let s = c .before .before .before .before .before .before .before .before .before .before .before .before .before .before in
+    search (s .pre .0 .backed .funds, account-found, needs)
+
 returns : tie.Need-returns
 returns c =
     let a = c .before in
@@ -26,7 +31,7 @@ restore-spec =
     (λ c κs. search laws)
     (λ c κs. search laws)
     (λ c κs. search laws)
-    (λ c κs. search laws)
+    credit-at-requires
     (λ c. search laws)
     (λ c. search laws)
     (λ c. search laws)

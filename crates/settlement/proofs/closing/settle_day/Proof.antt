@@ -9,7 +9,7 @@ write-report-requires c κs =
     let w = c .before .before .before .before .before .before .before in
     let l = w .before .before .before .before .before .before .before in
     let s = l .before .before .before .before .before in
-    let h = w .sweep .ensures .1 .0 .whole in
+    let h = w .sweep .ensures .1 .0 .backed .whole in
     ((h .nums, h .numbers, h .dates, omega (arith, s .pre .1 .0 .few, s .pre .1 .1)), s .pre .1 .0)
 
 returns : tie.Need-returns

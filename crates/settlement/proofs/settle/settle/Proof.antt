@@ -1,32 +1,23 @@
-use mathlib.Core.Path.{sym, _∙_}
-use borrow.Author.Tests.{not-false}
-use Rattle.settlement.proofs.TextLaws.{settle-not-table, settle-no-room, settle-no-clock, settle-fault, settle-read, count-few, held-ready}
+use Rattle.admission.proofs.AdmissionLaws.{admitted-good, admitted-room}
+use Rattle.settlement.proofs.TextLaws.{not-admitted, settle-fault, settle-read, count-few, held-ready}
 use borrow.Author.Needs.{needs}
 use Rattle.settlement.proofs.settle.settle.Statement.{statement}
 use Rattle.settlement.proofs.settle.settle.Tie as tie
 
 settle-text-requires : tie.Need-settle-text-requires
 settle-text-requires c κs =
-    let e = c .before .before .before .before .before .before .before .before .before in
+    let e = c .before .before .before .before .before .before in
     let k = e .before in
-    let y = not-false (k .table-good .result) (e .if1 .left) in
-    (held-ready _ _ (k .table-good .ensures .1 y) (sym (k .table-good .ensures .0) ∙ y), (search (count-few, needs), search needs))
+    let z = e .if1 .left in
+    let good = admitted-good _ _ _ _ _ (k .admit .ensures .0) z in
+    (held-ready _ _ (k .admit .ensures .1 z) good, (search (count-few, needs), admitted-room _ _ _ _ _ (k .admit .ensures .0) z))
 
-ruleset laws = (settle-not-table, settle-no-room, settle-no-clock, settle-fault, settle-read, needs)
+ruleset laws = (not-admitted, settle-fault, settle-read, needs)
 
 pub settle-spec : {M : Type 1} → statement M
 settle-spec =
     tie.close
     (tie.spec
-    (λ c κs. search laws)
-    (λ c. search laws)
-    (λ c. search laws)
-    (λ c. search laws)
-    (λ c. search laws)
-    (λ c. search laws)
-    (λ c. search laws)
-    (λ c. search laws)
-    (λ c. search laws)
     (λ c κs. search laws)
     (λ c. search laws)
     (λ c. search laws)

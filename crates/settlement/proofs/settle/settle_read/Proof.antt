@@ -1,9 +1,9 @@
+use Rattle.settlement.proofs.TextLaws.{read-next, read-past, read-later}
 use borrow.Author.Needs.{needs}
-use Rattle.settlement.proofs.TextLaws.{read-next, read-no-date, read-later, read-before}
 use Rattle.settlement.proofs.settle.settle_read.Statement.{statement}
 use Rattle.settlement.proofs.settle.settle_read.Tie as tie
 
-ruleset laws = (read-next, read-no-date, read-later, read-before, needs)
+ruleset laws = (read-next, read-past, read-later, needs)
 
 pub settle-read-spec : {M : Type 1} → statement M
 settle-read-spec =
@@ -17,10 +17,8 @@ settle-read-spec =
     (λ c. search laws)
     (λ c. search laws)
     (λ c κs. search laws)
-    (λ c. search laws)
     (λ c κs. search laws)
     (λ c. search laws)
-    (λ c κs. search laws)
     (λ c. search laws)
     (λ c. search laws)
     (λ c. search laws)

@@ -1,0 +1,32 @@
+// The sum of a gate's balances.
+use table::Gate;
+ghost use mathlib.Core.Path.{_≡_};
+ghost use Prim.Native.Nat.{_+_, _≤_};
+ghost use lib.IntN.{_+ℤ_};
+ghost use lib.Signed.{mag};
+ghost use Rattle.table.specs.Accounts.{accountsOf};
+ghost use Rattle.figures.specs.Figures.{sumBalances};
+ghost use Rattle.figures.specs.Sums.{Summable};
+
+// a + b
+fn plus(a: i64, b: i64) -> i64
+    requires { ⌜ (mag a ≤ 10000000000000000) × (mag b ≤ 10000000000000000) ⌝ }
+    ensures { λ r. ⌜ (r ≡ a +ℤ b) × (mag r ≤ mag a + mag b + 2) ⌝ }
+{
+    a + b
+}
+
+// The sum of the balances in use, from the last to the first.
+pub fn sum_balances(g: Gate) -> i64
+    requires { ⌜ Summable g ⌝ }
+    ensures { λ r. ⌜ (r ≡ sumBalances (accountsOf g)) × (mag r ≤ 6000000000000000) ⌝ }
+{
+    let mut sum: i64 = 0;
+    let mut i = g.count;
+    while 0 < i {
+        i -= 1;
+        let a = g.accounts[i];
+        sum = plus(a.balance, sum);
+    }
+    sum
+}

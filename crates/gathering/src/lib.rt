@@ -1,0 +1,150 @@
+// What is held of a line of the session's input, gathered from parts of any size.
+ghost use mathlib.Core.Path.{_≡_};
+ghost use lib.ListN.{drop};
+ghost use Rattle.gathering.specs.declared.Held.{Held};
+ghost use Rattle.gathering.specs.Held.{emptied, newHeld};
+ghost use Rattle.gathering.specs.Gather.{taken, asksAt, stepOf, gathered};
+
+// What is held of a line that has not ended: all of it that its answer depends on. `spaces` are those that split fields, `run` the bytes held of the last field.
+pub struct Held {
+    pub bytes: [u8; 2177],
+    pub len: usize,
+    pub spaces: usize,
+    pub run: usize,
+}
+
+// What one byte more does: whether it is held, and the spaces and the run after it.
+pub struct Step {
+    pub keep: bool,
+    pub spaces: usize,
+    pub run: usize,
+}
+
+// A held line, where the input is read on, and whether the line has ended.
+pub struct Gathered {
+    pub held: Held,
+    pub at: usize,
+    pub ended: bool,
+}
+
+// Whether the parameters of an R have begun.
+fn asks(first: u8, spaces: usize) -> bool
+    ensures { λ r. ⌜ r ≡ asksAt first spaces ⌝ }
+{
+    if first != b'R' {
+        return false;
+    }
+    2 <= spaces
+}
+
+// A byte that is held.
+fn held_byte(spaces: usize, run: usize) -> Step
+    ensures { λ r. ⌜ r ≡ taken spaces run ⌝ }
+{
+    Step {
+        keep: true,
+        spaces,
+        run,
+    }
+}
+
+// What the byte b does to a line of `len` bytes that begins with `first`.
+fn step_of(first: u8, len: usize, spaces: usize, run: usize, b: u8) -> Step
+    ensures { λ r. ⌜ r ≡ stepOf first len spaces run b ⌝ }
+{
+    let passed = Step {
+        keep: false,
+        spaces,
+        run,
+    };
+    if 2177 <= len {
+        return passed;
+    }
+    if asks(first, spaces) {
+        if run < 2049 {
+            return held_byte(spaces, run + 1);
+        }
+        return passed;
+    }
+    if b == b' ' {
+        if spaces < 4 {
+            return held_byte(spaces + 1, 0);
+        }
+        return passed;
+    }
+    if run < 31 {
+        return held_byte(spaces, run + 1);
+    }
+    passed
+}
+
+// A held line from its parts.
+fn hold(bytes: [u8; 2177], len: usize, spaces: usize, run: usize) -> Held
+    ensures { λ r. ⌜ _≡_ {A = Held} r (record { bytes = bytes; len = len; spaces = spaces; run = run }) ⌝ }
+{
+    Held {
+        bytes,
+        len,
+        spaces,
+        run,
+    }
+}
+
+// Takes the bytes of the input from `at` on up to the first 0A, which is passed over, or to its end.
+pub fn gather(h: Held, input: &[u8], at: usize) -> Gathered
+    ensures { λ r. ⌜ r ≡ gathered h (drop at (now (input .entry))) at ⌝ }
+{
+    let mut bytes = h.bytes;
+    let mut len = h.len;
+    let mut spaces = h.spaces;
+    let mut run = h.run;
+    let mut i = at;
+    while i < input.len() {
+        let b = input[i];
+        if b == b'\n' {
+            return Gathered {
+                held: hold(bytes, len, spaces, run),
+                at: i + 1,
+                ended: true,
+            };
+        }
+        let s = step_of(bytes[0], len, spaces, run, b);
+        spaces = s.spaces;
+        run = s.run;
+        i += 1;
+        if s.keep {
+            bytes[len] = b;
+            len += 1;
+        }
+    }
+    Gathered {
+        held: hold(bytes, len, spaces, run),
+        at: i,
+        ended: false,
+    }
+}
+
+// A line of which nothing is held.
+pub fn new_held() -> Held
+    ensures { λ r. ⌜ r ≡ newHeld ⌝ }
+{
+    Held {
+        bytes: [0u8; 2177],
+        len: 0,
+        spaces: 0,
+        run: 0,
+    }
+}
+
+// A new line.
+pub fn emptied(h: Held) -> Held
+    ensures { λ r. ⌜ r ≡ emptied h ⌝ }
+{
+    let bytes = h.bytes;
+    Held {
+        bytes,
+        len: 0,
+        spaces: 0,
+        run: 0,
+    }
+}
