@@ -30,8 +30,9 @@ use Rattle.book.proofs.StateLaws.{state-again, state-range, waits}
 use Rattle.book_validity.proofs.PaymentLaws.{SamePayment, same-payment, entry-parts, fields-kept}
 use Rattle.listing.specs.Listing.{isListed, listed, entryLine, registryOf, writeRegistry}
 use Rattle.agent_theorems.proofs.ListedTheorems.{registry-alike, writing-same}
-use Rattle.reporting.specs.Reporting.{Reporting, markedState, markedEntry, marked, unreported, settledBook, awaits, reportOn, takeReport}
-use Rattle.reporting.proofs.ReportingLaws.{marked-none, marked-length, marked-skip, marked-take}
+use Rattle.reporting.specs.Reporting.{Reporting, unreported, settledBook, awaits, reportOn, takeReport}
+use Rattle.marking.specs.Marking.{markedState, markedEntry, marked}
+use Rattle.marking.proofs.MarkingLaws.{marked-none, marked-length, marked-skip, marked-take}
 
 -- ---- the entry that a mark leaves
 mark-same : (e : Entry) (m : ℕ) → SamePayment e (markedEntry e m)

@@ -33,7 +33,7 @@ pub(crate) fn cancel_meaning(code: u64) -> Meaning
 }
 
 // What an answer to the action says.
-pub fn meaning_of(a: Action, code: u64) -> Meaning
+pub(crate) fn meaning_of(a: Action, code: u64) -> Meaning
     ensures { λ r. ⌜ r ≡ meaning a code ⌝ }
 {
     match a {
@@ -45,7 +45,7 @@ pub fn meaning_of(a: Action, code: u64) -> Meaning
 }
 
 // The state that it leaves.
-pub fn turn(m: Meaning, s: State) -> State
+pub(crate) fn turn(m: Meaning, s: State) -> State
     ensures { λ r. ⌜ r ≡ turned m s ⌝ }
 {
     match m {
@@ -68,7 +68,7 @@ pub fn turn(m: Meaning, s: State) -> State
 }
 
 // Whether it turns asked to credited.
-pub fn is_credit(m: Meaning, s: State) -> bool
+pub(crate) fn is_credit(m: Meaning, s: State) -> bool
     ensures { λ r. ⌜ r ≡ credits m s ⌝ }
 {
     match m {

@@ -1,8 +1,8 @@
 // How many entries are on a day: of one day, and of each day of a book in one pass.
 use book::rows;
+use dates::date;
 use days::calendar::Day;
 use days::calendar::DayRead;
-use dates::date;
 ghost use mathlib.Core.Bool.{true};
 ghost use mathlib.Core.Path.{_≡_};
 ghost use Prim.Native.Nat.{_<_, _≤_};

@@ -1,7 +1,7 @@
 // Row 68 of the agent: whether a lent book is in its ranges.
+use crate::counts;
 use book::Book;
 use book::Entry;
-use crate::counts;
 use book::rows;
 use dates::date;
 use fields::amount;

@@ -10,9 +10,9 @@ use Rattle.table.specs.declared.Gate.{Gate}
 use Rattle.table.specs.declared.Record.{Record}
 use Rattle.table.specs.Table.{Rows, recordsOf, rowsFrom, numsOf, datesOf}
 use Rattle.table.proofs.TableLaws.{length-records, rows-kept}
-use Rattle.posting.specs.Posting.{Ledger, settleLine}
+use Rattle.posting.specs.Posting.{Ledger, settleLine, ledgerOf}
 use Rattle.clearing.specs.Clearing.{settleLines}
-use Rattle.posting.specs.Steps.{Held, Left, ledgerOf}
+use Rattle.posting.specs.Steps.{Held, Left}
 use Rattle.clearing.specs.Lines.{LineRows, lineAt, linesOf, Read}
 use Rattle.posting.proofs.HeldLaws.{held-more, Step, line-step, left-size, left-records, left-held}
 use Rattle.clearing.proofs.ReadLaws.{next-line, last-line, read-small}

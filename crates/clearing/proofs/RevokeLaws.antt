@@ -17,7 +17,8 @@ use Rattle.table.proofs.TableLaws.{length-records, rows-set}
 use Rattle.table.specs.Accounts.{Funds}
 use Rattle.ledger.specs.Change.{revoked, debitedAt}
 use Rattle.ledger.proofs.ChangeLaws.{debit-used}
-use Rattle.posting.specs.Steps.{Held, Left, ledgerOf}
+use Rattle.posting.specs.Steps.{Held, Left}
+use Rattle.posting.specs.Posting.{ledgerOf}
 use Rattle.posting.proofs.HeldLaws.{funds-more, funds-moved, small-set, held-small, Step}
 use Rattle.clearing.specs.Steps.{revokedAt}
 

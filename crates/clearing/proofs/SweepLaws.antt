@@ -24,10 +24,10 @@ use Rattle.table.specs.declared.Record.{Record}
 use Rattle.table.specs.Table.{Rows, recordAt, recordsOf, rowsFrom}
 use Rattle.table.specs.Table.{noRecord}
 use Rattle.ledger.specs.Change.{revoked}
-use Rattle.posting.specs.Posting.{matches, Ledger}
+use Rattle.posting.specs.Posting.{matches, Ledger, ledgerOf}
 use Rattle.clearing.specs.Clearing.{anyMatches, isStray, sweptRecord, sweptGate, sweepGates, swept}
 use Rattle.clearing.specs.Lines.{LineRows, lineAt, linesOf}
-use Rattle.posting.specs.Steps.{Held, Left, ledgerOf}
+use Rattle.posting.specs.Steps.{Held, Left}
 use Rattle.clearing.specs.Steps.{revokedAt}
 
 -- ---- whether any line matches a record

@@ -5,9 +5,9 @@ use table::Gate;
 ghost use mathlib.Core.Path.{_≡_};
 ghost use lib.ListN.{length};
 ghost use Rattle.table.specs.Lent.{lent, before, after};
-ghost use Rattle.posting.specs.Posting.{Ledger};
+ghost use Rattle.posting.specs.Posting.{Ledger, ledgerOf};
 ghost use Rattle.clearing.specs.Clearing.{settleLines};
-ghost use Rattle.posting.specs.Steps.{Held, Left, ledgerOf};
+ghost use Rattle.posting.specs.Steps.{Held, Left};
 ghost use Rattle.clearing.specs.Lines.{linesOf, Read, linesLent, linesBefore};
 
 // Settles the lines, one after the other.

@@ -45,7 +45,7 @@ fn line_of(w: [u64; 4], bytes: [u8; 30], date: [u8; 19]) -> Line
 }
 
 // The line at i.
-pub fn line_at(nums: &[[u64; 4]], numbers: &[[u8; 30]], dates: &[[u8; 19]], i: usize) -> Line
+pub(crate) fn line_at(nums: &[[u64; 4]], numbers: &[[u8; 30]], dates: &[[u8; 19]], i: usize) -> Line
     requires { ⌜ (i < length (now nums)) × (i < length (now numbers)) × (i < length (now dates)) ⌝ }
     ensures { λ x. ⌜ x ≡ lineAt (linesBefore nums numbers dates) i ⌝ }
 {

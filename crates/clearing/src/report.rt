@@ -16,7 +16,7 @@ ghost use Rattle.clearing.specs.Clearing.{anyDone, reportOf};
 ghost use Rattle.clearing.specs.Lines.{linesOf, Read, linesLent, linesBefore};
 
 // Whether a record is done and the line matches it.
-pub fn is_done_match(x: Line, r: Record) -> bool
+fn is_done_match(x: Line, r: Record) -> bool
     ensures { λ b. ⌜ b ≡ isDone r && matches x r ⌝ }
 {
     if r.state == table::DONE {
@@ -27,7 +27,7 @@ pub fn is_done_match(x: Line, r: Record) -> bool
 }
 
 // Whether the line matches a done record.
-pub fn any_done(
+fn any_done(
     nums: &[[u64; 6]],
     numbers: &[[u8; 30]],
     dates: &[[[u8; 19]; 3]],
@@ -49,7 +49,7 @@ pub fn any_done(
 }
 
 // The byte of a line.
-pub fn mark(done: bool) -> u8
+fn mark(done: bool) -> u8
     ensures { λ b. ⌜ b ≡ cond done 49 48 ⌝ }
 {
     if done { b'1' } else { b'0' }

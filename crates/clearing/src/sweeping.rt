@@ -1,7 +1,7 @@
 // The sweep: what is done on the day and stands in no line is cancelled.
 use crate::reading;
-use days::calendar::Day;
 use dates::date;
+use days::calendar::Day;
 use ledger::change;
 use posting::matching;
 use table::Gate;
@@ -11,14 +11,14 @@ use table::rows;
 ghost use mathlib.Core.Path.{_≡_};
 ghost use Prim.Native.Nat.{_<_};
 ghost use Rattle.table.specs.Lent.{lent, before, after};
-ghost use Rattle.posting.specs.Posting.{Ledger};
+ghost use Rattle.posting.specs.Posting.{Ledger, ledgerOf};
 ghost use Rattle.clearing.specs.Clearing.{anyMatches, isStray, swept};
-ghost use Rattle.posting.specs.Steps.{Held, Left, ledgerOf};
+ghost use Rattle.posting.specs.Steps.{Held, Left};
 ghost use Rattle.clearing.specs.Steps.{revokedAt};
 ghost use Rattle.clearing.specs.Lines.{linesOf, Read, linesLent, linesBefore};
 
 // Whether any line matches the record.
-pub fn any_matches(
+fn any_matches(
     values: &[[u64; 4]],
     holders: &[[u8; 30]],
     days: &[[u8; 19]],
@@ -40,7 +40,7 @@ pub fn any_matches(
 }
 
 // Whether a record is done, of the day, and matched by no line.
-pub fn is_stray(
+fn is_stray(
     r: Record,
     day: Day,
     values: &[[u64; 4]],
@@ -62,7 +62,7 @@ pub fn is_stray(
 }
 
 // Cancels the record r at i, and takes its amount off its account, where it is known.
-pub fn revoke_at(
+fn revoke_at(
     nums: &mut [[u64; 6]],
     numbers: &mut [[u8; 30]],
     dates: &mut [[[u8; 19]; 3]],

@@ -17,7 +17,7 @@ pub(crate) struct Unit {
 }
 
 // Whether a byte is a hexadecimal digit.
-pub fn is_hex(b: u8) -> bool
+fn is_hex(b: u8) -> bool
     ensures { λ r. ⌜ r ≡ isHex b ⌝ }
 {
     match b {
@@ -29,7 +29,7 @@ pub fn is_hex(b: u8) -> bool
 }
 
 // The value of a hexadecimal digit, 0 of any other byte.
-pub fn hex_value(b: u8) -> u8
+fn hex_value(b: u8) -> u8
     ensures { λ r. ⌜ r ≡ hexValue b ⌝ }
 {
     match b {
@@ -110,7 +110,7 @@ pub fn decode(s: &[u8], dst: &mut [u8]) -> usize
 }
 
 // Whether a byte stands for itself in coded text.
-pub fn is_plain(b: u8) -> bool
+fn is_plain(b: u8) -> bool
     ensures { λ r. ⌜ r ≡ isPlain b ⌝ }
 {
     match b {

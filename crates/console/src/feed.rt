@@ -1,8 +1,8 @@
 // A session's input, fed in parts, or whole.
 use crate::start;
+use figures::print;
 use gathering::Held;
 use orders::Console;
-use figures::print;
 use orders::turn;
 use texts::scan;
 ghost use mathlib.Core.Path.{_≡_};

@@ -16,7 +16,7 @@ pub struct DateRead {
 }
 
 // Whether a T and a time of the day follow the day.
-pub fn has_time(d: [u8; 19]) -> bool
+fn has_time(d: [u8; 19]) -> bool
     ensures { λ r. ⌜ r ≡ clockTime d ⌝ }
 {
     if d[10] != b'T' {

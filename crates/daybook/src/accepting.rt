@@ -1,12 +1,12 @@
 // A payment is accepted at the counter.
+use crate::frozen;
 use book::Book;
 use book::Entry;
 use book::State;
-use book_validity::counts;
 use book::rows;
 use book::states;
+use book_validity::counts;
 use book_validity::valid;
-use crate::frozen;
 use dates::date;
 use days::calendar::DayRead;
 use fields::amount;

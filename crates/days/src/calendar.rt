@@ -14,7 +14,7 @@ pub enum DayRead {
 }
 
 // Whether a year has a 29th of February.
-pub fn is_leap(year: u16) -> bool
+fn is_leap(year: u16) -> bool
     ensures { λ r. ⌜ r ≡ leapYear year ⌝ }
 {
     if year % 4 != 0 {
@@ -27,7 +27,7 @@ pub fn is_leap(year: u16) -> bool
 }
 
 // How many days a month has.
-pub fn days_in(year: u16, month: u8) -> u8
+fn days_in(year: u16, month: u8) -> u8
     ensures { λ r. ⌜ r ≡ daysIn year month ⌝ }
 {
     match month {
@@ -38,7 +38,7 @@ pub fn days_in(year: u16, month: u8) -> u8
 }
 
 // Whether these numbers are a date of 2000 to 2099.
-pub fn is_date(year: u16, month: u8, day: u8) -> bool
+fn is_date(year: u16, month: u8, day: u8) -> bool
     ensures { λ r. ⌜ r ≡ isDate year month day ⌝ }
 {
     if year < 2000 {
@@ -60,7 +60,7 @@ pub fn is_date(year: u16, month: u8, day: u8) -> bool
 }
 
 // The day with these numbers.
-pub fn day_of(year: u16, month: u8, day: u8) -> DayRead
+fn day_of(year: u16, month: u8, day: u8) -> DayRead
     ensures { λ r. ⌜ r ≡ dayOf year month day ⌝ }
 {
     if is_date(year, month, day) {

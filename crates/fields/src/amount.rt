@@ -19,7 +19,7 @@ pub fn is_amount(kopecks: u64) -> bool
 }
 
 // The kopecks that one or two digits after the point give.
-pub fn read_kopecks(f: &[u8]) -> Digits
+fn read_kopecks(f: &[u8]) -> Digits
     ensures { λ r. ⌜ r ≡ kopecksAfter (now (f .entry)) ⌝ }
 {
     let d = digits::read_digits(f, 2);
@@ -36,7 +36,7 @@ pub fn read_kopecks(f: &[u8]) -> Digits
 }
 
 // The kopecks of what stands from the point at p on, or of nothing.
-pub fn kopecks_from(s: &[u8], p: usize) -> Digits
+fn kopecks_from(s: &[u8], p: usize) -> Digits
     ensures { λ r. ⌜ r ≡ kopecksFrom (drop p (now (s .entry))) ⌝ }
 {
     if p < s.len() {

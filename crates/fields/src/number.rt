@@ -18,7 +18,7 @@ pub struct NumberRead {
 }
 
 // Whether a number may have this byte.
-pub fn is_number_byte(b: u8) -> bool
+fn is_number_byte(b: u8) -> bool
     ensures { λ r. ⌜ r ≡ numberByte b ⌝ }
 {
     if b < 33 {
@@ -28,7 +28,7 @@ pub fn is_number_byte(b: u8) -> bool
 }
 
 // Whether each of the bytes is one that a number may have.
-pub fn all_number_bytes(s: &[u8]) -> bool
+fn all_number_bytes(s: &[u8]) -> bool
     ensures { λ r. ⌜ r ≡ every numberByte (now (s .entry)) ⌝ }
 {
     let mut i: usize = 0;

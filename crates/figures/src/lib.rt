@@ -1,3 +1,3 @@
 // What a line of a session prints.
 pub mod print;
-pub mod sums;
+mod sums;

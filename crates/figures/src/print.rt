@@ -31,7 +31,7 @@ fn write_led(lead: u8, n: u64, dst: &mut [u8], at: usize) -> usize
 }
 
 // Writes a number with its sign at the cursor, where it has room.
-pub fn write_signed(z: i64, dst: &mut [u8], at: usize) -> usize
+fn write_signed(z: i64, dst: &mut [u8], at: usize) -> usize
     ensures { λ r. ⌜ (r ≡ cursorAfter (now (dst .entry)) at (signedText z)) × (now (dst .exit) ≡ written (now (dst .entry)) at (signedText z)) ⌝ }
 {
     let n = size_of(z);

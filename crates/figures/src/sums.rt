@@ -17,7 +17,7 @@ fn plus(a: i64, b: i64) -> i64
 }
 
 // The sum of the balances in use, from the last to the first.
-pub fn sum_balances(g: Gate) -> i64
+pub(crate) fn sum_balances(g: Gate) -> i64
     requires { ⌜ Summable g ⌝ }
     ensures { λ r. ⌜ (r ≡ sumBalances (accountsOf g)) × (mag r ≤ 6000000000000000) ⌝ }
 {

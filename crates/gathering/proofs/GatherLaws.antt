@@ -19,7 +19,6 @@ use Rattle.gathering.specs.declared.Gathered.{Gathered}
 use Rattle.gathering.specs.Held.{pushed, inParams, absorbed, absorbAll}
 use Rattle.gathering.specs.Gather.{taken, passed, asksAt, stepOf, gathered}
 
-
 -- ---- one byte
 module _ (first k : ℕ) where
   pub asks-other : (first ≡ 82 → ⊥) → false ≡ asksAt first k

@@ -142,7 +142,7 @@ pub(crate) fn found_record(
 }
 
 // The decision for an instruction, with what it concerns; a fault of its request decides first.
-pub fn make_plan(
+pub(crate) fn make_plan(
     nums: &[[u64; 6]],
     numbers: &[[u8; 30]],
     dates: &[[[u8; 19]; 3]],

@@ -36,7 +36,7 @@ fn ends_field(b: u8) -> usize
 }
 
 // How many fields a line has.
-pub fn count_fields(line: &[u8]) -> usize
+fn count_fields(line: &[u8]) -> usize
     ensures { λ r. ⌜ r ≡ fieldCount (now (line .entry)) ⌝ }
 {
     let mut ended: usize = 0;
@@ -49,7 +49,7 @@ pub fn count_fields(line: &[u8]) -> usize
 }
 
 // Whether a line begins with this letter alone.
-pub fn has_letter(line: &[u8], letter: u8) -> bool
+fn has_letter(line: &[u8], letter: u8) -> bool
     ensures { λ r. ⌜ r ≡ hasLetter letter (now (line .entry)) ⌝ }
 {
     let a = [letter];

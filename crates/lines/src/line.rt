@@ -31,7 +31,7 @@ pub struct LineRead {
 }
 
 // What a text that is no line reads as.
-pub fn no_line() -> LineRead
+fn no_line() -> LineRead
     ensures { λ r. ⌜ r ≡ noLine ⌝ }
 {
     LineRead {

@@ -45,7 +45,7 @@ pub struct RequestRead {
 }
 
 // The readers of the digit fields.
-pub enum Reader {
+enum Reader {
     Receipt,
     Kind,
     Amount,

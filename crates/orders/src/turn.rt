@@ -1,8 +1,8 @@
 // What a line of a session does.
 use crate::Console;
+use dates::date;
 use days::calendar;
 use days::calendar::DayRead;
-use dates::date;
 use fields::codes;
 use fields::number;
 use gate::deliver;

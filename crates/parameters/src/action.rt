@@ -43,7 +43,7 @@ fn later_index(name: &[u8]) -> usize
 }
 
 // A known name's place among the seven, or 7.
-pub fn name_index(name: &[u8]) -> usize
+pub(crate) fn name_index(name: &[u8]) -> usize
     ensures { λ r. ⌜ r ≡ nameIndex (now (name .entry)) ⌝ }
 {
     if scan::same_bytes(name, b"action") {

@@ -27,8 +27,8 @@ use Rattle.table.specs.Accounts.{Funds}
 use Rattle.table.specs.Table.{noRecord}
 use Rattle.ledger.specs.Plan.{isFull}
 use Rattle.ledger.specs.Change.{makeRecord, creditedAt}
-use Rattle.posting.specs.Posting.{matches, isDone, postVerdict, matchVerdict, verdictOf, restored, postedRecord, Ledger, Verdict, Keeps, Restores, Posts, Unposted, applied, settleLine}
-use Rattle.posting.specs.Steps.{Held, Left, ledgerOf}
+use Rattle.posting.specs.Posting.{matches, isDone, postVerdict, matchVerdict, verdictOf, restored, postedRecord, Ledger, Verdict, Keeps, Restores, Posts, Unposted, applied, settleLine, ledgerOf}
+use Rattle.posting.specs.Steps.{Held, Left}
 
 -- ---- balances
 pub funds-more : (g : Gate) (b c : ℕ) → Funds g b → b ≤ c → Funds g c

@@ -23,8 +23,8 @@ use Rattle.ledger.specs.Plan.{Within, isFull}
 use Rattle.table.specs.Accounts.{Funds}
 use Rattle.table.specs.Table.{noRecord}
 use Rattle.ledger.specs.Change.{creditedAt}
-use Rattle.posting.specs.Posting.{matches, isDone, postVerdict, verdictOf, restored, postedRecord, Ledger, Verdict, Keeps, Restores, Posts, Unposted, applied, settleLine}
-use Rattle.posting.specs.Steps.{Held, Left, ledgerOf}
+use Rattle.posting.specs.Posting.{matches, isDone, postVerdict, verdictOf, restored, postedRecord, Ledger, Verdict, Keeps, Restores, Posts, Unposted, applied, settleLine, ledgerOf}
+use Rattle.posting.specs.Steps.{Held, Left}
 use Rattle.posting.proofs.HeldLaws.{post-room, verdict-post, verdict-restore}
 use Rattle.posting.proofs.MatchLaws.{match-within}
 

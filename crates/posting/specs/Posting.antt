@@ -14,9 +14,8 @@ use Rattle.table.specs.declared.Gate.{Gate}
 use Rattle.lists.specs.declared.Found.{Found}
 use Rattle.lists.specs.declared.Found.the-variants.{At, Nothing}
 use Rattle.lists.specs.Lists.{firstFrom}
-use Rattle.table.specs.Table.{done, findRecord}
+use Rattle.table.specs.Table.{Rows, recordsOf, done, noRecord, findRecord}
 use Rattle.table.specs.Accounts.{accountsOf, findAccount, withUsed}
-use Rattle.table.specs.Table.{noRecord}
 use Rattle.ledger.specs.Plan.{isFull}
 use Rattle.ledger.specs.Change.{makeRecord, creditedAt}
 pub use Rattle.posting.specs.declared.verdict.Verdict.{Verdict}
@@ -75,6 +74,9 @@ postedRecord g clock x = makeRecord g clock (detailsOf x)
 pub record Ledger : Type 0 where
   pub gate : Gate
   pub records : List Record
+
+abbrev pub ledgerOf : Gate → Rows → Ledger
+ledgerOf g t = record { gate = g; records = recordsOf t (g .used) }
 
 unfoldable pub applied : List ℕ → Line → Verdict → Ledger → Ledger
 applied clock x Keeps l = l

@@ -2,7 +2,7 @@
 use Prim.Native.Nat.{ℕ, _<_}
 use mathlib.Core.Path.{_≡_}
 use Rattle.table.specs.declared.Gate.{Gate}
-use Rattle.table.specs.Table.{Rows, recordAt, recordsOf, rowsFrom}
+use Rattle.table.specs.Table.{Rows, recordAt, rowsFrom}
 use Rattle.table.specs.Accounts.{Backed}
 use Rattle.posting.specs.Posting.{Ledger}
 
@@ -10,9 +10,6 @@ use Rattle.posting.specs.Posting.{Ledger}
 pub record Held (g : Gate) (t : Rows) (b : ℕ) : Type 0 where
   pub backed : Backed g t b
   pub small : (i : ℕ) → i < g .used → (recordAt t i) .amount < 1000000000
-
-abbrev pub ledgerOf : Gate → Rows → Ledger
-ledgerOf g t = record { gate = g; records = recordsOf t (g .used) }
 
 -- a gate and rows are what a ledger says
 pub record Left (t : Rows) (l : Ledger) (gate : Gate) (rows : Rows) : Type 0 where

@@ -14,8 +14,8 @@ ghost use Prim.Native.Nat.{_<_};
 ghost use lib.ListN.{length};
 ghost use Rattle.table.specs.Table.{recordsOf};
 ghost use Rattle.table.specs.Lent.{lent, before, after};
-ghost use Rattle.posting.specs.Posting.{verdictOf, restored, postedRecord, applied, Restores, Posts, settleLine};
-ghost use Rattle.posting.specs.Steps.{Held, Left, ledgerOf};
+ghost use Rattle.posting.specs.Posting.{verdictOf, restored, postedRecord, applied, Restores, Posts, settleLine, ledgerOf};
+ghost use Rattle.posting.specs.Steps.{Held, Left};
 
 // A record that is done again.
 pub(crate) fn restore_record(r: Record) -> Record

@@ -3,7 +3,7 @@ ghost use mathlib.Core.Path.{_≡_};
 ghost use Rattle.registry.specs.Report.{isMark, isReport};
 
 // Whether a byte is `0` or `1`.
-pub fn is_mark(b: u8) -> bool
+fn is_mark(b: u8) -> bool
     ensures { λ r. ⌜ r ≡ isMark b ⌝ }
 {
     if b < 48 {

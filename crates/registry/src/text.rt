@@ -1,6 +1,6 @@
 // The text of a registry: lines ended by 0D 0A.
-use days::calendar::Day;
 use dates::date;
+use days::calendar::Day;
 use lines::line;
 use lines::line::LineRead;
 use texts::scan;
@@ -51,7 +51,7 @@ pub fn line_at(s: &[u8], at: usize) -> LineRead
 }
 
 // How many lines a text has; an unended rest counts as one.
-pub fn count_lines(s: &[u8]) -> usize
+fn count_lines(s: &[u8]) -> usize
     ensures { λ r. ⌜ r ≡ lineCount (now (s .entry)) ⌝ }
 {
     let mut n: usize = 0;

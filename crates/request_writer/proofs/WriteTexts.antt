@@ -9,7 +9,7 @@ use lib.ListN.{length, take, drop, length-append, length-drop}
 use lib.Seq.{take-append-seam}
 use borrow.Author.Tests.{not-true, not-false}
 use Rattle.texts.specs.Lists.{written, cursorAfter}
-use Rattle.texts.proofs.OutLaws.{over-none, cursor-moves, written-over, written-length, cursor-then, written-then}
+use Rattle.texts.proofs.OutLaws.{text-back, over-none, cursor-moves, written-over, written-length, cursor-then, written-then}
 use Rattle.coding.specs.Url.{coded}
 use Rattle.request_writer.specs.Writes.{bufferAll, cursorAll, joined}
 use Rattle.texts.specs.Digits.{decimal}
@@ -66,16 +66,11 @@ all-written (xs ∷ xss) d at fit =
     (i .0 ∙ written-then d at xs (joined xss) l, i .1 ∙ cursor-then d at xs (joined xss) l)
 
 -- ---- a text that a fresh buffer holds
-pub text-there : (z xs : List ℕ) → length xs ≤ length z → take (cursorAfter z 0 xs) (written z 0 xs) ≡ xs
-text-there z xs h =
-    let f : 0 + length xs ≤ length z = omega arith in
-    rw (← cursor-moves z 0 xs f, ← written-over z 0 xs f, zero-add) (take-append-seam xs (drop (length xs) z))
-
 pub texts-there : (z : List ℕ) (xss : List (List ℕ)) → length (joined xss) ≤ length z → take (cursorAll xss z 0) (bufferAll xss z 0) ≡ joined xss
 texts-there z xss h =
     let f : 0 + length (joined xss) ≤ length z = omega arith in
     let i = all-written xss z 0 f in
-    rw (i .0, i .1) (text-there z (joined xss) h)
+    rw (i .0, i .1) (text-back z (joined xss) h)
 
 -- ---- a name and its value, where the action has the field
 module _ (used : Bool) (before value d : List ℕ) (at : ℕ) where
@@ -100,7 +95,7 @@ module _ (used : Bool) (before value d : List ℕ) (at : ℕ) where
 module _ (used : Bool) (before value xs d : List ℕ) (at : ℕ) (z : List ℕ) (small : length xs ≤ length z) (n : ℕ) (t : List ℕ)
     (en : n ≡ cursorAfter z 0 xs) (et : t ≡ written z 0 xs) (ev : value ≡ take n t) where
   value-is : value ≡ xs
-  value-is = ev ∙ rw (en, et) (text-there z xs small)
+  value-is = ev ∙ rw (en, et) (text-back z xs small)
 
   held-cursor : (r : ℕ) → r ≡ cursorAll (pairTexts used before value) d at → r ≡ cursorAll (pairTexts used before xs) d at
   held-cursor r q = q ∙ rw value-is

@@ -31,7 +31,7 @@ pub fn is_cancel(a: Action) -> bool
 }
 
 // Whether the answer has an authcode.
-pub fn answers_authcode(a: Action, code: u64) -> bool
+fn answers_authcode(a: Action, code: u64) -> bool
     ensures { λ r. ⌜ r ≡ answersAuthcode a code ⌝ }
 {
     match a {
@@ -43,7 +43,7 @@ pub fn answers_authcode(a: Action, code: u64) -> bool
 }
 
 // Whether the answer has a date.
-pub fn answers_date(a: Action, code: u64) -> bool
+fn answers_date(a: Action, code: u64) -> bool
     ensures { λ r. ⌜ r ≡ answersDate a code ⌝ }
 {
     match a {
@@ -55,7 +55,7 @@ pub fn answers_date(a: Action, code: u64) -> bool
 }
 
 // The date of an answer: the record's cancel or credit date, or the clock.
-pub fn answer_date(a: Action, code: u64, r: Record, clock: [u8; 19]) -> [u8; 19]
+fn answer_date(a: Action, code: u64, r: Record, clock: [u8; 19]) -> [u8; 19]
     ensures { λ d. ⌜ d ≡ answerDate a code r clock ⌝ }
 {
     let cancelled = r.cancel;

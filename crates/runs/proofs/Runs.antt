@@ -58,6 +58,7 @@ use Rattle.listing.specs.Listing as LiListing
 use Rattle.answering.specs.Answering as AgAnswering
 use Rattle.writing.specs.Writing as AgWriting
 use Rattle.reporting.specs.Reporting as ReReporting
+use Rattle.marking.specs.Marking as MaMarking
 
 -- ---- what the steps are about
 abbrev pub day19 : Day
@@ -355,7 +356,7 @@ unfolding FiAmount.kopecksAfter FiAmount.amountRead FiAmount.amountBytes
     AgAnswering.answeredEntry AgAnswering.takeAt AgAnswering.takeReceipt AgAnswering.checkCode AgAnswering.takeAnswer
     AgWriting.mayWrite AgWriting.writtenEntry AgWriting.requestOf AgWriting.formsGood AgWriting.isOpen AgWriting.writeAt AgWriting.writeRequest
     AgWriting.checkOf AgWriting.writeCheck
-    ReReporting.markedState ReReporting.marked ReReporting.awaits ReReporting.reportOn ReReporting.takeReport
+    MaMarking.markedState MaMarking.marked ReReporting.awaits ReReporting.reportOn ReReporting.takeReport
     doneSum drawnSum doneOn creditedOn placed byNumber total
     requestArrives registryArrives answerArrives reportArrives opening drawing accepting checking writing freezing listing run codes
 ran =

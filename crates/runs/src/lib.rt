@@ -1,2 +1,1 @@
 // No code: runs of both ends, by computation.
-

@@ -1,8 +1,8 @@
 // Days and written dates.
 use crate::print;
+use dates::date;
 use days::calendar;
 use days::calendar::DayRead;
-use dates::date;
 use texts::scan;
 
 // A day, or the words for none.

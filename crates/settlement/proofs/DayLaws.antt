@@ -12,11 +12,11 @@ use Rattle.table.specs.declared.Gate.{Gate}
 use Rattle.table.specs.declared.Record.{Record}
 use Rattle.table.specs.Table.{Rows, recordsOf, rowsFrom}
 use Rattle.table.specs.Accounts.{withClosed}
-use Rattle.posting.specs.Posting.{Ledger}
+use Rattle.posting.specs.Posting.{Ledger, ledgerOf}
 use Rattle.clearing.specs.Clearing.{settleLines, sweptRecord, swept, reportOf}
 use Rattle.settlement.specs.Settle.{settleDay, reported}
 use Rattle.admission.specs.Delivery.{Delivery}
-use Rattle.posting.specs.Steps.{Left, ledgerOf}
+use Rattle.posting.specs.Steps.{Left}
 use Rattle.clearing.specs.Lines.{LineRows, linesOf, Read}
 use Rattle.clearing.proofs.LinesLaws.{from-from}
 use Rattle.clearing.proofs.ReadLaws.{length-lines}

@@ -13,12 +13,13 @@ use Rattle.table.specs.declared.Gate.{Gate}
 use Rattle.table.specs.Table.{Rows, recordsOf, rowsFrom}
 use Rattle.table.specs.Accounts.{withClosed}
 use Rattle.admission.specs.Delivery.{Delivery, undelivered, admitted}
+use Rattle.posting.specs.Posting.{ledgerOf}
 use Rattle.clearing.specs.Clearing.{settleLines, swept, reportOf}
 
 -- the next day: settled, then closed
 unfoldable pub settleDay : Gate → Rows → List ℕ → Day → List Line → List ℕ → Delivery
 settleDay g t clock day xs out =
-    let l = swept clock day xs (settleLines clock (length (t .nums)) xs (record { gate = g; records = recordsOf t (g .used) })) in
+    let l = swept clock day xs (settleLines clock (length (t .nums)) xs (ledgerOf g t)) in
     record {
       code = 0;
       gate = withClosed (l .gate) day;

@@ -30,11 +30,10 @@ use Rattle.ledger.specs.Plan.{isFull}
 use Rattle.gate_theorems.proofs.RowsLaws.{SameNames, names-same, names-used, names-credited, names-debited}
 use Rattle.posting.specs.declared.verdict.Verdict.{Verdict}
 use Rattle.posting.specs.declared.verdict.Verdict.the-variants.{Keeps, Restores, Posts, Unposted}
-use Rattle.posting.specs.Posting.{matches, verdictOf, Ledger, applied, settleLine}
+use Rattle.posting.specs.Posting.{matches, verdictOf, Ledger, applied, settleLine, ledgerOf}
 use Rattle.clearing.specs.Clearing.{settleLines, isStray, sweptGate, sweepGates, swept}
 use Rattle.settlement.specs.Settle.{settleDay, settle}
 use Rattle.admission.specs.Delivery.{Delivery}
-use Rattle.posting.specs.Steps.{ledgerOf}
 use Rattle.settlement_theorems.specs.Balances.{isAt, creditOf, credits, debitOf, sweptFrom, creditsOn, sweptOn}
 use Rattle.posting.proofs.HeldLaws.{post-room, verdict-post}
 use Rattle.settlement_theorems.proofs.SettleLaws.{settled-by}

@@ -38,7 +38,7 @@ use Rattle.ledger.specs.Change.{revoked, debitedAt}
 use Rattle.ledger.proofs.ChangeLaws.{debit-used}
 use Rattle.posting.specs.declared.verdict.Verdict.{Verdict}
 use Rattle.posting.specs.declared.verdict.Verdict.the-variants.{Keeps, Restores, Posts, Unposted}
-use Rattle.posting.specs.Posting.{matches, isDone, postVerdict, matchVerdict, verdictOf, restored, postedRecord, Ledger, applied, settleLine}
+use Rattle.posting.specs.Posting.{matches, isDone, postVerdict, matchVerdict, verdictOf, restored, postedRecord, Ledger, ledgerOf, applied, settleLine}
 use Rattle.gate_theorems.proofs.RecordsLaws.{SameKey, key-equal, key-revoked}
 use Rattle.clearing.specs.Clearing.{settleLines, anyMatches, isStray, sweptRecord, sweptGate, sweepGates, swept, anyDone, reportOf}
 use Rattle.settlement.specs.Settle.{reported, settleDay, settleRead, settle}
@@ -242,7 +242,7 @@ module _ (g : Gate) (t : Rows) (clock : List ℕ) (day : Day) (text out : List �
 
   -- the ledger that the day's settlement makes
   abbrev pub before : Ledger
-  before = record { gate = g; records = recordsOf t (g .used) }
+  before = ledgerOf g t
 
   abbrev pub after : Ledger
   after = swept clock day (registryLines text) (settleLines clock (length (t .nums)) (registryLines text) before)

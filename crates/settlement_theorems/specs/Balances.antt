@@ -15,9 +15,8 @@ use Rattle.table.specs.Table.{Rows}
 use Rattle.table.specs.Accounts.{accountsOf, findAccount}
 use Rattle.posting.specs.declared.verdict.Verdict.{Verdict}
 use Rattle.posting.specs.declared.verdict.Verdict.the-variants.{Keeps, Restores, Posts, Unposted}
-use Rattle.posting.specs.Posting.{verdictOf, Ledger, settleLine}
+use Rattle.posting.specs.Posting.{verdictOf, Ledger, settleLine, ledgerOf}
 use Rattle.clearing.specs.Clearing.{settleLines, isStray}
-use Rattle.posting.specs.Steps.{ledgerOf}
 
 unfoldable pub isAt : ℕ → Found → Bool
 isAt a (At i) = eqb i a

@@ -66,7 +66,7 @@ fn accounts_good(g: Gate) -> bool
 }
 
 // Whether the gate is in its ranges.
-pub fn gate_good(g: Gate) -> bool
+pub(crate) fn gate_good(g: Gate) -> bool
     ensures { λ r. ⌜ (r ≡ gateGood g) × (r ≡ true → Sound g) ⌝ }
 {
     if 256 < g.count {

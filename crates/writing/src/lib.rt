@@ -2,9 +2,9 @@
 use book::Book;
 use book::Entry;
 use book::State;
-use book_validity::find;
 use book::rows;
 use book::states;
+use book_validity::find;
 use book_validity::valid;
 use daybook::Writing;
 use daybook::frozen;
@@ -26,7 +26,7 @@ ghost use Rattle.book.specs.Lent.{lentBook, bookBefore, bookAfter};
 const REQUEST_ROOM: usize = 512;
 
 // Whether the state allows the writing.
-pub fn may_write(a: Action, s: State) -> bool
+fn may_write(a: Action, s: State) -> bool
     ensures { λ r. ⌜ r ≡ mayWrite a s ⌝ }
 {
     match a {

@@ -6,7 +6,7 @@ use mathlib.Core.Path.{_≡_, _∙_}
 use lib.ListN.{length}
 use Rattle.table.specs.Table.{Rows}
 use Rattle.clearing.specs.Clearing.{settleLines}
-use Rattle.posting.specs.Steps.{ledgerOf}
+use Rattle.posting.specs.Posting.{ledgerOf}
 use Rattle.clearing.specs.Lines.{LineRows, linesOf}
 use Rattle.clearing.proofs.each_line.settle_lines.Statement.{statement}
 use Rattle.clearing.proofs.each_line.settle_lines.Tie as tie
