@@ -34,7 +34,8 @@ use Rattle.daybook.specs.Acceptance.{isFrozen}
 use Rattle.agent_theorems.proofs.DaybookGives.{good-whole}
 use Rattle.answering.specs.declared.meaning.Meaning.{Meaning}
 use Rattle.answering.specs.declared.meaning.Meaning.the-variants.{Paid, Revoked}
-use Rattle.writing.specs.Writing.{Writing, wrote, mayWrite, withState, writtenEntry, requestOf, formsGood, isOpen, writeAt, writeRequest, checkOf, writeCheck}
+use Rattle.writing.specs.Writing.{Writing, wrote, writeAt, writeRequest, writeCheck}
+use Rattle.asking.specs.Asking.{mayWrite, withState, writtenEntry, requestOf, formsGood, isOpen, checkOf}
 use Rattle.answering.specs.Answering.{paymentMeaning, cancelMeaning, meaning, credits, turned, authcodeAfter, answeredEntry, took, takeAt, takeReceipt, isCheck, takeAnswer}
 use Rattle.agent_theorems.proofs.MovedLaws.{placeOf}
 

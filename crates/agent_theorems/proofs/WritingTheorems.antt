@@ -35,7 +35,8 @@ use Rattle.book_validity.proofs.BookLaws.{entry-within}
 use Rattle.book_validity.proofs.PaymentLaws.{entry-parts, SamePayment, same-payment, fields-kept}
 use Rattle.book.proofs.StateLaws.{state-range}
 use Rattle.daybook.specs.Acceptance.{isFrozen}
-use Rattle.writing.specs.Writing.{Writing, unwritten, wrote, mayWrite, writtenEntry, requestOf, formsGood, isOpen, writeAt, writeRequest, checkOf, writeCheck}
+use Rattle.writing.specs.Writing.{Writing, unwritten, wrote, writeAt, writeRequest, writeCheck}
+use Rattle.asking.specs.Asking.{mayWrite, writtenEntry, requestOf, formsGood, isOpen, checkOf}
 use Rattle.writing.proofs.WritingLaws.{check-asked}
 use Rattle.agent_theorems.proofs.MovedLaws.{placeOf, same-place, found-fields, put-same, Left, kept, moved, others-kept, payments-kept, frozen-kept, good-kept, ready-kept}
 

@@ -17,6 +17,7 @@ pub struct Entry {
 }
 
 // The entries in use are the first `used` of the lent rows; their receipts are consecutive from `first`.
+#[repr(C)]
 pub struct Book {
     pub first: u64,
     pub used: usize,

@@ -8,19 +8,21 @@ ghost use lib.ListN.{length};
 ghost use Rattle.registry.specs.Registry.{lineCount, registryLines};
 ghost use Rattle.clearing.specs.Lines.{lineFrom, lineAt, linesWith, linesOf, Read, linesBefore, linesAfter};
 
-// Rows for the 512 lines that a registry may have.
+// The numbers of the 512 lines that a registry may have, none read yet.
 pub fn empty_nums() -> [[u64; 4]; 512]
     ensures { λ r. ⌜ 512 ≡ length r ⌝ }
 {
     [[0u64; 4]; 512]
 }
 
+// Their account numbers.
 pub fn empty_numbers() -> [[u8; 30]; 512]
     ensures { λ r. ⌜ 512 ≡ length r ⌝ }
 {
     [[0u8; 30]; 512]
 }
 
+// Their dates.
 pub fn empty_dates() -> [[u8; 19]; 512]
     ensures { λ r. ⌜ 512 ≡ length r ⌝ }
 {

@@ -17,7 +17,7 @@ pub(crate) struct Unit {
 }
 
 // Whether a byte is a hexadecimal digit.
-fn is_hex(b: u8) -> bool
+pub fn is_hex(b: u8) -> bool
     ensures { λ r. ⌜ r ≡ isHex b ⌝ }
 {
     match b {
@@ -29,7 +29,7 @@ fn is_hex(b: u8) -> bool
 }
 
 // The value of a hexadecimal digit, 0 of any other byte.
-fn hex_value(b: u8) -> u8
+pub fn hex_value(b: u8) -> u8
     ensures { λ r. ⌜ r ≡ hexValue b ⌝ }
 {
     match b {

@@ -23,6 +23,7 @@ ghost use Rattle.book_validity.specs.BookValid.{bookGood, ReadyBook};
 ghost use Rattle.daybook.specs.Acceptance.{acceptanceOf, madeEntry, mayAccept, dayOpen, hasPlace, acceptFault, accept};
 
 // The receipt is 0 with a fault.
+#[repr(C)]
 pub struct Acceptance {
     pub code: u64,
     pub book: Book,

@@ -8,6 +8,7 @@ ghost use Rattle.days.specs.Calendar.{nextDay, onDay};
 ghost use Rattle.daybook.specs.Freezing.{freeze};
 ghost use Rattle.book.specs.Lent.{bookBefore};
 
+#[repr(C)]
 pub struct Freezing {
     pub code: u64,
     pub book: Book,

@@ -2,6 +2,7 @@
 ghost use mathlib.Core.Path.{_≡_};
 ghost use Rattle.days.specs.Calendar.{twoDigits, leapYear, daysIn, isDate, isDay, dayOf, nextDay, dayBefore, sameDay, onDay, upTo, dayPart, dayRead};
 
+#[repr(C)]
 pub struct Day {
     pub year: u16,
     pub month: u8,

@@ -6,6 +6,7 @@ ghost use Rattle.texts.specs.Lists.{every, written, cursorAfter};
 ghost use Rattle.fields.specs.Number.{numberByte, numberText, isNumber, noNumber, numberRead, sameNumber};
 
 // The first `len` bytes count; a number that is read is zero after them.
+#[repr(C)]
 pub struct Number {
     pub bytes: [u8; 30],
     pub len: usize,

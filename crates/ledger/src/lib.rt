@@ -5,6 +5,7 @@ pub mod plan;
 use table::Gate;
 
 // What a call of the gate answers: its code, the gate as it leaves it, and how many bytes of the lent buffer it wrote.
+#[repr(C)]
 pub struct Reply {
     pub code: u64,
     pub gate: Gate,

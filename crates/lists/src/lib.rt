@@ -5,7 +5,7 @@ ghost use Rattle.lists.specs.Lists.{isFound};
 ghost use Rattle.lists.specs.Lent.{lentWell, Lent};
 
 // How many places a table or a book has at most.
-const PLACES_MOST: usize = 4096;
+pub const PLACES_MOST: usize = 4096;
 
 pub enum Found {
     At(usize),

@@ -57,6 +57,7 @@ use Rattle.daybook.specs.Freezing as DaFreezing
 use Rattle.listing.specs.Listing as LiListing
 use Rattle.answering.specs.Answering as AgAnswering
 use Rattle.writing.specs.Writing as AgWriting
+use Rattle.asking.specs.Asking as AsAsking
 use Rattle.reporting.specs.Reporting as ReReporting
 use Rattle.marking.specs.Marking as MaMarking
 
@@ -354,8 +355,8 @@ unfolding FiAmount.kopecksAfter FiAmount.amountRead FiAmount.amountBytes
     DaFreezing.freezeOn DaFreezing.freeze LiListing.isListed LiListing.listed LiListing.registryOf LiListing.listOn LiListing.writeRegistry
     AgAnswering.paymentMeaning AgAnswering.cancelMeaning AgAnswering.meaning AgAnswering.turned AgAnswering.credits AgAnswering.authcodeAfter
     AgAnswering.answeredEntry AgAnswering.takeAt AgAnswering.takeReceipt AgAnswering.checkCode AgAnswering.takeAnswer
-    AgWriting.mayWrite AgWriting.writtenEntry AgWriting.requestOf AgWriting.formsGood AgWriting.isOpen AgWriting.writeAt AgWriting.writeRequest
-    AgWriting.checkOf AgWriting.writeCheck
+    AsAsking.mayWrite AsAsking.writtenEntry AsAsking.requestOf AsAsking.formsGood AsAsking.isOpen AgWriting.writeAt AgWriting.writeRequest
+    AsAsking.checkOf AgWriting.writeCheck
     MaMarking.markedState MaMarking.marked ReReporting.awaits ReReporting.reportOn ReReporting.takeReport
     doneSum drawnSum doneOn creditedOn placed byNumber total
     requestArrives registryArrives answerArrives reportArrives opening drawing accepting checking writing freezing listing run codes

@@ -1,3 +1,0 @@
-mod PartLaws
-mod EscapeLaws
-mod BalanceLaws

@@ -4,53 +4,35 @@ mod asked_vectors;
 mod coding_vectors;
 mod day_vectors;
 mod digit_vectors;
-mod escape;
-mod gate_vectors;
 mod number_vectors;
 mod print;
 mod registry_vectors;
 mod request_vectors;
-mod spoil;
 mod words;
-mod world;
 mod write_vectors;
 
 use texts::scan;
+use vectors::escape;
 use vectors::line;
-use world::World;
 
-// Prints a line and its answer, and hands back the world; the decoded text goes into `space`.
-fn answer_line(
-    line: &[u8],
-    space: &mut [u8],
-    nums: &mut [[u64; 6]],
-    numbers: &mut [[u8; 30]],
-    dates: &mut [[[u8; 19]; 3]],
-    w: World,
-) -> World {
+// Prints a line and its answer; the decoded text goes into `space`.
+fn answer_line(line: &[u8], space: &mut [u8]) {
     io::write_all(1, line);
     if line::is_heading(line) {
-        return w;
+        return;
     }
     io::write_all(1, b": ");
     let n = escape::unescape(scan::after_byte(line, 32), space);
     let text = scan::first_bytes(space, n);
-    words::answer(scan::before_byte(line, 32), text, nums, numbers, dates, w)
+    words::answer(scan::before_byte(line, 32), text);
 }
 
 // Answers each line of s; a last line without its end is a line too.
-fn lines(
-    s: &[u8],
-    space: &mut [u8],
-    nums: &mut [[u64; 6]],
-    numbers: &mut [[u8; 30]],
-    dates: &mut [[[u8; 19]; 3]],
-) {
-    let mut w = world::start(b"");
+fn lines(s: &[u8], space: &mut [u8]) {
     let mut at: usize = 0;
     while at < s.len() {
         let next = line::next_line(s, at);
-        w = answer_line(line::line_at(s, at), space, nums, numbers, dates, w);
+        answer_line(line::line_at(s, at), space);
         io::write_all(1, b"\n");
         at = next;
     }
@@ -59,19 +41,10 @@ fn lines(
 fn main() {
     let mut buffer = io::large_buffer();
     let mut space = io::large_buffer();
-    let mut nums = [[0u64; 6]; 4];
-    let mut numbers = [[0u8; 30]; 4];
-    let mut dates = [[[0u8; 19]; 3]; 4];
     let n = io::read_full(0, &mut buffer);
     if n == buffer.len() {
         io::write_all(1, b"the input is too long\n");
         return;
     }
-    lines(
-        &buffer[..n],
-        &mut space,
-        &mut nums,
-        &mut numbers,
-        &mut dates,
-    );
+    lines(&buffer[..n], &mut space);
 }

@@ -4,64 +4,17 @@ use crate::asked_vectors;
 use crate::coding_vectors;
 use crate::day_vectors;
 use crate::digit_vectors;
-use crate::gate_vectors;
 use crate::number_vectors;
 use crate::print;
 use crate::registry_vectors;
 use crate::request_vectors;
-use crate::spoil;
-use crate::world;
-use crate::world::World;
 use crate::write_vectors;
 use fields::amount::read_amount;
 use fields::codes;
 use vectors::line;
 
-// Runs the word on its text, and hands back the world.
-pub fn answer(
-    word: &[u8],
-    text: &[u8],
-    nums: &mut [[u64; 6]],
-    numbers: &mut [[u8; 30]],
-    dates: &mut [[[u8; 19]; 3]],
-    w: World,
-) -> World {
-    let k = line::place(word, b"deliver deliver-small settle settle-small spoil");
-    if k < 4 {
-        return gate_vectors::send(k, text, nums, numbers, dates, w);
-    }
-    if k == 4 {
-        return spoil::spoil(text, nums, numbers, dates, w);
-    }
-    look(word, text, nums, numbers, dates, w)
-}
-
-// Runs a word that leaves the table as it is.
-fn look(
-    word: &[u8],
-    text: &[u8],
-    nums: &[[u64; 6]],
-    numbers: &[[u8; 30]],
-    dates: &[[[u8; 19]; 3]],
-    w: World,
-) -> World {
-    let k = line::place(word, b"open draw open-many record gate");
-    match k {
-        0 | 1 | 2 => gate_vectors::accounts(k, text, nums, numbers, dates, w),
-        3 => {
-            gate_vectors::record(text, nums, numbers, dates, w);
-            w
-        }
-        4 => world::started(text),
-        _ => {
-            answer_field(word, text);
-            w
-        }
-    }
-}
-
-// Fields, days, and writers into a lent buffer.
-fn answer_field(word: &[u8], text: &[u8]) {
+// Runs the word on its text: fields, days, and writers into a lent buffer.
+pub fn answer(word: &[u8], text: &[u8]) {
     let k = line::place(
         word,
         b"digits20 amount receipt type reason number same date day next before write-amount write-digits put",

@@ -67,7 +67,7 @@ module _ (clock : List ℕ) (cap : ℕ) where
           let free : l .gate .used < cap = has-free (l .gate) cap (post-room (findRecord (x .receipt) (l .records)) f (isFull (l .gate) cap) a post .0) in
           omega (arith, used, free, length-append (l .records) (postedRecord (l .gate) clock x ∷ []))
 
-  lines-room : (xs : List Line) (l : Ledger) → length (l .records) ≡ l .gate .used → length (l .records) ≤ cap → length ((settleLines clock cap xs l) .records) ≤ cap
+  pub lines-room : (xs : List Line) (l : Ledger) → length (l .records) ≡ l .gate .used → length (l .records) ≤ cap → length ((settleLines clock cap xs l) .records) ≤ cap
   unfolding settleLines
   lines-room [] l used room = room
   lines-room (x ∷ xs) l used room = lines-room xs (settleLine clock cap x l) (line-onward clock cap x l .step used) (line-room x l used room)

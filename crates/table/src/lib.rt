@@ -26,6 +26,7 @@ pub struct Record {
     pub cancel: [u8; 19],
 }
 
+#[repr(C)]
 pub struct Account {
     pub number: Number,
     pub kind: u64,
@@ -33,6 +34,7 @@ pub struct Account {
 }
 
 // The accounts in use are the first `count`, the records in use the first `used` of the lent table.
+#[repr(C)]
 pub struct Gate {
     pub accounts: [Account; 256],
     pub count: usize,

@@ -23,6 +23,9 @@ use Rattle.vectors.specs.Lines.{lineAt, isHeading, placeOf, spaced}
 pub rows-size : {A : Type 0} (d : List A) (n : ℕ) → n ≤ length d → n ≡ length (take n d)
 rows-size d n h = sym (length-take-le n d h)
 
+pub part-size : {A : Type 0} (d : List A) (n k : ℕ) → length d ≡ k → n ≤ k → n ≡ length (take n d)
+part-size d n k l h = rows-size d n (omega arith)
+
 -- ---- a line that begins inside the text, and the place behind it
 pub line-is : (s : List ℕ) (at : ℕ) (r l : List ℕ) → r ≡ drop at s → l ≡ take (find 10 r) r → l ≡ lineAt at s
 unfolding lineAt

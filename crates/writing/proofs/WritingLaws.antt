@@ -1,4 +1,4 @@
--- Laws of a request that the agent writes: its parts, and the ways out of a writing.
+-- Laws of a request that the agent writes: the ways out of a writing.
 use Prim.Native.Nat.{ℕ, _≤_, _<_}
 use mathlib.Core.Path.{_≡_, _∙_}
 use mathlib.Core.Bool.{Bool, true, false, not, _&&_, _||_, and-true}
@@ -25,48 +25,8 @@ use Rattle.book.specs.Entries.{BookRows, stateOf, stateNumber, noEntry, entryAt
 use Rattle.book_validity.specs.BookValid.{bookGood, ReadyBook}
 use Rattle.book.proofs.EntryLaws.{getD-entries, book-set}
 use Rattle.daybook.specs.Acceptance.{isFrozen}
-use Rattle.writing.specs.Writing.{Writing, mayWrite, writtenEntry, requestOf, formsGood, isOpen, writeAt, writeRequest, checkOf, writeCheck}
-
--- ---- an action and a state that are known
-pub may-at : (a a′ : Action) (s s′ : State) (r : Bool) → a ≡ a′ → s ≡ s′ → r ≡ mayWrite a′ s′ → r ≡ mayWrite a s
-may-at a a′ s s′ r ea es q = q ∙ rw (ea, es)
-
-pub entry-at : (a a′ : Action) (e r : Entry) → a ≡ a′ → r ≡ writtenEntry a′ e → r ≡ writtenEntry a e
-entry-at a a′ e r ea q = q ∙ rw ea
-
-pub entry-cancel : (a : Action) (e r : Entry) (n : ℕ) → a ≡ Cancel → n ≡ stateNumber CancelAsked
-    → r ≡ record { receipt = e .receipt; number = e .number; kind = e .kind; amount = e .amount; date = e .date; state = n; authcode = e .authcode } → r ≡ writtenEntry a e
-unfolding writtenEntry
-entry-cancel a e r n ea en q = q ∙ rw (en, ea)
-
--- ---- the forms of receipt and reason
-module _ (receipt reason : ℕ) (r : Bool) (er : r ≡ isReceipt receipt) where
-  pub forms-no : (a : Action) → not r ≡ true → false ≡ formsGood a receipt reason
-  unfolding formsGood
-  forms-no Check h = rw (← er, not-true r h)
-  forms-no Payment h = rw (← er, not-true r h)
-  forms-no Status h = rw (← er, not-true r h)
-  forms-no Cancel h = rw (← er, not-true r h)
-
-  forms-for : (a : Action) → not r ≡ false → not (hasReason a) || isReason reason ≡ formsGood a receipt reason
-  unfolding formsGood
-  forms-for Check h = rw (← er, not-false r h)
-  forms-for Payment h = rw (← er, not-false r h)
-  forms-for Status h = rw (← er, not-false r h)
-  forms-for Cancel h = rw (← er, not-false r h)
-
-  pub forms-yes : (a a′ : Action) (x : Bool) → not r ≡ false → a ≡ a′ → x ≡ not (hasReason a′) || isReason reason → x ≡ formsGood a receipt reason
-  forms-yes a a′ x h ea q = q ∙ rw (← ea) (forms-for a h)
-
--- ---- a state and a day that allow it
-module _ (b : Book) (a : Action) (e : Entry) (s : State) (es : s ≡ stateOf (e .state)) (m : Bool) (em : m ≡ mayWrite a s) where
-  pub open-no : not m ≡ true → false ≡ isOpen b a e
-  unfolding isOpen
-  open-no h = rw (← es, ← em, not-true m h)
-
-  pub open-is : (f : Bool) → not m ≡ false → f ≡ isFrozen b (e .date) → not f ≡ isOpen b a e
-  unfolding isOpen
-  open-is f h ef = rw (← es, ← em, not-false m h, ef)
+use Rattle.asking.specs.Asking.{writtenEntry, requestOf, formsGood, isOpen, checkOf}
+use Rattle.writing.specs.Writing.{Writing, writeAt, writeRequest, writeCheck}
 
 -- ---- the entry at i
 module _ (b : Book) (t : BookRows) (i : ℕ) (a : Action) (reason : ℕ) (out : List ℕ) (e : Entry) (ee : e ≡ entryAt t i) (o : Bool) (eo : o ≡ isOpen b a e)

@@ -1,17 +1,11 @@
 // The agent writes a request.
 use book::Book;
-use book::Entry;
-use book::State;
 use book::rows;
-use book::states;
 use book_validity::find;
 use book_validity::valid;
 use daybook::Writing;
-use daybook::frozen;
-use fields::codes;
 use fields::number::Number;
 use lists::Found;
-use message::request::Asked;
 use payments::Action;
 use request_writer::write;
 ghost use mathlib.Core.Path.{_≡_};
@@ -19,94 +13,11 @@ ghost use Prim.Native.Nat.{_<_};
 ghost use Rattle.payments.specs.declared.Action.the-variants.{Payment, Status, Cancel};
 ghost use Rattle.lists.specs.declared.Found.the-variants.{At};
 ghost use Rattle.book_validity.specs.BookValid.{ReadyBook};
-ghost use Rattle.writing.specs.Writing.{writingOf, mayWrite, writtenEntry, requestOf, checkOf, formsGood, isOpen, writeAt, writeRequest, writeCheck};
+ghost use Rattle.writing.specs.Writing.{writingOf, writeAt, writeRequest, writeCheck};
 ghost use Rattle.book.specs.Lent.{lentBook, bookBefore, bookAfter};
 
 // How many bytes a request's buffer has at least.
 const REQUEST_ROOM: usize = 512;
-
-// Whether the state allows the writing.
-fn may_write(a: Action, s: State) -> bool
-    ensures { λ r. ⌜ r ≡ mayWrite a s ⌝ }
-{
-    match a {
-        Action::Check => true,
-        Action::Payment => match s {
-            State::Asked => true,
-            State::Credited => false,
-            State::CancelAsked => false,
-            State::Cancelled => false,
-            State::Unposted => false,
-        },
-        Action::Status => true,
-        Action::Cancel => match s {
-            State::Asked => true,
-            State::Credited => true,
-            State::CancelAsked => true,
-            State::Cancelled => false,
-            State::Unposted => false,
-        },
-    }
-}
-
-// The entry that a writing leaves.
-pub(crate) fn written_entry(a: Action, e: Entry) -> Entry
-    ensures { λ r. ⌜ r ≡ writtenEntry a e ⌝ }
-{
-    let mut next = e;
-    match a {
-        Action::Check => e,
-        Action::Payment => e,
-        Action::Status => e,
-        Action::Cancel => {
-            next.state = states::state_number(State::CancelAsked);
-            next
-        }
-    }
-}
-
-// The request of an entry.
-pub(crate) fn request_of(a: Action, e: Entry, reason: u64) -> Asked
-    ensures { λ r. ⌜ r ≡ requestOf a e reason ⌝ }
-{
-    let number = e.number;
-    let date = e.date;
-    Asked {
-        action: a,
-        number,
-        kind: e.kind,
-        amount: e.amount,
-        receipt: e.receipt,
-        date,
-        reason,
-    }
-}
-
-// Whether a receipt, and a cancel's reason, are well formed.
-pub(crate) fn forms_good(a: Action, receipt: u64, reason: u64) -> bool
-    ensures { λ r. ⌜ r ≡ formsGood a receipt reason ⌝ }
-{
-    if !codes::is_receipt(receipt) {
-        return false;
-    }
-    match a {
-        Action::Check => true,
-        Action::Payment => true,
-        Action::Status => true,
-        Action::Cancel => codes::is_reason(reason),
-    }
-}
-
-// Whether the entry's state and day allow the writing.
-pub(crate) fn is_open(b: Book, a: Action, e: Entry) -> bool
-    ensures { λ r. ⌜ r ≡ isOpen b a e ⌝ }
-{
-    if !may_write(a, states::state_of(e.state)) {
-        return false;
-    }
-    let date = e.date;
-    !frozen::is_frozen(b, date)
-}
 
 // Writes the request of the entry at i.
 pub(crate) fn write_entry(
@@ -123,11 +34,11 @@ pub(crate) fn write_entry(
     ensures { λ r. ⌜ writingOf r (bookAfter nums numbers dates) (now (out .exit)) ≡ writeAt b (bookBefore nums numbers dates) a reason (now (out .entry)) (At i) ⌝ }
 {
     let e = rows::load_entry(nums, numbers, dates, i);
-    if !is_open(b, a, e) {
+    if !asking::is_open(b, a, e) {
         return Writing { code: 63, size: 0 };
     }
-    let size = write::write_request(request_of(a, e, reason), out, 0);
-    rows::store_entry(nums, numbers, dates, i, written_entry(a, e));
+    let size = write::write_request(asking::request_of(a, e, reason), out, 0);
+    rows::store_entry(nums, numbers, dates, i, asking::written_entry(a, e));
     Writing { code: 0, size }
 }
 
@@ -150,7 +61,7 @@ pub(crate) fn write_for(
     if out.len() < REQUEST_ROOM {
         return Writing { code: 50, size: 0 };
     }
-    if !forms_good(a, receipt, reason) {
+    if !asking::forms_good(a, receipt, reason) {
         return Writing { code: 60, size: 0 };
     }
     let found = find::find_entry(nums, numbers, dates, b, receipt);
@@ -212,21 +123,6 @@ pub fn write_cancel(
     )
 }
 
-// The request of a check.
-pub(crate) fn check_of(n: Number, kind: u64, kopecks: u64) -> Asked
-    ensures { λ r. ⌜ r ≡ checkOf n kind kopecks ⌝ }
-{
-    Asked {
-        action: Action::Check,
-        number: n,
-        kind,
-        amount: kopecks,
-        receipt: 0,
-        date: [0u8; 19],
-        reason: 0,
-    }
-}
-
 // Writes a check of an account and an amount.
 pub fn write_check(
     nums: &[[u64; 6]],
@@ -246,7 +142,7 @@ pub fn write_check(
     if out.len() < REQUEST_ROOM {
         return Writing { code: 50, size: 0 };
     }
-    let q = check_of(number, kind, kopecks);
+    let q = asking::check_of(number, kind, kopecks);
     if !write::is_asked(q) {
         return Writing { code: 60, size: 0 };
     }

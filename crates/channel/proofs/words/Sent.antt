@@ -40,7 +40,8 @@ use Rattle.book.specs.Entries.{findEntry}
 use Rattle.book_validity.specs.BookValid.{bookGood}
 use Rattle.listing.specs.Listing.{registryOf, Listing, listOn, writeRegistry}
 use Rattle.listing.proofs.RegistryLaws.{registry-few}
-use Rattle.writing.specs.Writing.{Writing, requestOf, checkOf, writeCheck}
+use Rattle.writing.specs.Writing.{Writing, writeCheck}
+use Rattle.asking.specs.Asking.{requestOf, checkOf}
 use Rattle.book_validity.proofs.PaymentLaws.{entry-parts}
 use Rattle.agent_theorems.proofs.MovedLaws.{same-place, found-fields}
 use Rattle.agent_theorems.proofs.WritingTheorems.{write-cases}

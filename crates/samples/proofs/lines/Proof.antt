@@ -7,10 +7,10 @@ use Rattle.samples.proofs.lines.Statement.{statement}
 use Rattle.samples.proofs.lines.Tie as tie
 
 abbrev Inv-loop : tie.InvT-loop
-Inv-loop s space₀ nums₀ numbers₀ dates₀ w₀ at₀ t10 space nums numbers dates w at = (at ≤ length s + 1) × (length space ≡ length space₀) × (length nums ≡ length nums₀) × (length numbers ≡ length numbers₀) × (length dates ≡ length dates₀)
+Inv-loop s space₀ at₀ t5 space at = (at ≤ length s + 1) × (length space ≡ length space₀)
 
 abbrev μ-loop : tie.MeasureT-loop
-μ-loop s space₀ nums₀ numbers₀ dates₀ w₀ at₀ t10 space nums numbers dates w at = (length s + 1) - at
+μ-loop s space₀ at₀ t5 space at = (length s + 1) - at
 
 ruleset laws = (line-falls, needs)
 
@@ -22,15 +22,10 @@ lines-spec =
     μ-loop
     (λ c. search laws)
     (λ c κs. search laws)
-    (λ c. search laws)
-    (λ c κs. search laws)
     (λ c κs. search laws)
     (λ c κs. search laws)
     (λ c. search laws)
     (λ c κs. search laws)
-    (λ c. search laws)
-    (λ c. search laws)
-    (λ c. search laws)
     (λ c. search laws)
     (λ c. search laws)
     (λ c. search laws)

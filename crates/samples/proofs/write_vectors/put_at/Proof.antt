@@ -1,4 +1,4 @@
-use Rattle.samples.proofs.PartLaws.{part-size}
+use Rattle.vectors.proofs.LineLaws.{part-size}
 use borrow.Author.Needs.{needs}
 use Rattle.samples.proofs.write_vectors.put_at.Statement.{statement}
 use Rattle.samples.proofs.write_vectors.put_at.Tie as tie

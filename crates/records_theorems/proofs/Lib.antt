@@ -1,0 +1,2 @@
+pub mod ListsTheorems
+pub mod Cases
