@@ -38,7 +38,7 @@ pub fn named(name: &[u8], n: u64) {
 
 // A request by its action's word, with or without more behind a hyphen, or else a registry.
 pub fn sent_of(s: &[u8]) -> Sent {
-    let word = scan::before_byte(scan::before_byte(s, 32), 45);
+    let word = scan::before_byte(scan::before_byte(s, b' '), b'-');
     let r = action::read_action(word);
     match r {
         ActionRead::Known(a) => Sent::Request(a),
@@ -48,7 +48,7 @@ pub fn sent_of(s: &[u8]) -> Sent {
 
 // A book from its first receipt, its frozen day and the number of entries lent; at the start it is settled. The gate stays.
 pub fn start(s: &[u8], g: Gate) -> Desk {
-    let rest = scan::after_byte(s, 32);
+    let rest = scan::after_byte(s, b' ');
     let frozen = given::day(rest);
     Desk {
         book: Book {
@@ -57,7 +57,7 @@ pub fn start(s: &[u8], g: Gate) -> Desk {
             frozen,
             settled: true,
         },
-        lent: given::value(scan::after_byte(rest, 32)) as usize,
+        lent: given::value(scan::after_byte(rest, b' ')) as usize,
         gate: g,
         places: 0,
     }
@@ -82,8 +82,8 @@ pub fn accept(
     dates: &mut [[u8; 19]],
     d: Desk,
 ) -> Desk {
-    let second = scan::after_byte(s, 32);
-    let third = scan::after_byte(second, 32);
+    let second = scan::after_byte(s, b' ');
+    let third = scan::after_byte(second, b' ');
     let r = accepting::accept(
         nums,
         numbers,
@@ -92,7 +92,7 @@ pub fn accept(
         given::number(s),
         given::value(second),
         given::value(third),
-        given::date(scan::after_byte(third, 32)),
+        given::date(scan::after_byte(third, b' ')),
     );
     let b = r.book;
     io::print_decimal(1, r.code);
@@ -110,7 +110,7 @@ pub fn accept_many(
     d: Desk,
 ) -> Desk {
     let n = given::value(s);
-    let rest = scan::after_byte(s, 32);
+    let rest = scan::after_byte(s, b' ');
     let mut next = d;
     let mut i: u64 = 0;
     while i < n {
@@ -132,11 +132,11 @@ fn write_request(
     out: &mut [u8],
 ) -> Writing {
     let receipt = given::value(s);
-    let rest = scan::after_byte(s, 32);
+    let rest = scan::after_byte(s, b' ');
     let second = given::value(rest);
     match a {
         Action::Check => {
-            let kopecks = given::value(scan::after_byte(rest, 32));
+            let kopecks = given::value(scan::after_byte(rest, b' '));
             writing::write_check(
                 nums,
                 numbers,
@@ -183,7 +183,7 @@ pub fn write_into(
 pub fn points() -> [u8; 65536]
     ensures { λ r. ⌜ 65536 ≡ length r ⌝ }
 {
-    [46u8; 65536]
+    [b'.'; 65536]
 }
 
 // How many bytes are lent for a writing, by the place of its word: what is asked for, or one less.
@@ -275,7 +275,7 @@ pub fn taken(
     let r = take(
         what,
         s,
-        scan::after_byte(s, 32),
+        scan::after_byte(s, b' '),
         nums,
         numbers,
         dates,
@@ -337,9 +337,9 @@ pub fn spoil(s: &[u8], nums: &mut [[u64; 6]], d: Desk) -> Desk {
     if nums.len() == 0 {
         return d;
     }
-    let v = given::value(scan::after_byte(s, 32));
+    let v = given::value(scan::after_byte(s, b' '));
     let mut w = nums[0];
-    w[place_of(scan::before_byte(s, 32))] = v;
+    w[place_of(scan::before_byte(s, b' '))] = v;
     nums[0] = w;
     d
 }

@@ -47,7 +47,7 @@ pub fn open(
     times: &[[[u8; 19]; 3]],
     d: Desk,
 ) -> Desk {
-    let kind = given::value(scan::after_byte(s, 32));
+    let kind = given::value(scan::after_byte(s, b' '));
     called(
         d,
         opening::open_account(table, owners, times, d.gate, given::number(s), kind),
@@ -62,8 +62,8 @@ pub fn draw(
     times: &[[[u8; 19]; 3]],
     d: Desk,
 ) -> Desk {
-    let rest = scan::after_byte(s, 32);
-    let kopecks = given::value(scan::after_byte(rest, 32));
+    let rest = scan::after_byte(s, b' ');
+    let kopecks = given::value(scan::after_byte(rest, b' '));
     called(
         d,
         opening::draw_funds(
@@ -89,10 +89,10 @@ fn at_gate(
     g: Gate,
     out: &mut [u8],
 ) -> Reply {
-    let rest = scan::after_byte(s, 32);
+    let rest = scan::after_byte(s, b' ');
     match what {
         Sent::Request(_) => {
-            let clock = given::date(scan::after_byte(rest, 32));
+            let clock = given::date(scan::after_byte(rest, b' '));
             deliver::deliver(table, owners, times, g, clock, text, out)
         }
         Sent::Registry => settle::settle(
@@ -142,7 +142,7 @@ fn what_of(k: usize, s: &[u8]) -> Sent {
 
 // What follows the action of a request.
 fn behind(k: usize, s: &[u8]) -> &[u8] {
-    if k == 2 { s } else { scan::after_byte(s, 32) }
+    if k == 2 { s } else { scan::after_byte(s, b' ') }
 }
 
 // What was sent, at the gate, and what the gate wrote, at the agent, unless that is lost: the codes of both.
@@ -159,7 +159,7 @@ fn send_on(
     times: &mut [[[u8; 19]; 3]],
     d: Desk,
 ) -> Desk {
-    let mut back = [46u8; 512];
+    let mut back = [b'.'; 512];
     let r = at_gate(what, s, text, table, owners, times, d.gate, &mut back);
     desk::named(b" ", r.code);
     let g = r.gate;

@@ -53,8 +53,8 @@ fn answer_line(
     let p = line::least(d.places, owners.len());
     let q = line::least(d.places, times.len());
     let next = words::answer(
-        scan::before_byte(line, 32),
-        scan::after_byte(line, 32),
+        scan::before_byte(line, b' '),
+        scan::after_byte(line, b' '),
         &mut nums[..n],
         &mut numbers[..m],
         &mut dates[..k],

@@ -66,7 +66,7 @@ fn at_agent(
         1 => desk::accept_many(text, nums, numbers, dates, d),
         2 => desk::taken(
             desk::sent_of(text),
-            scan::after_byte(text, 32),
+            scan::after_byte(text, b' '),
             nums,
             numbers,
             dates,

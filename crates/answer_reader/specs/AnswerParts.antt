@@ -1,4 +1,4 @@
--- How the code walks through an answer: by places in its text.
+-- How the code walks through an answer: by places in its text. Cited by inner contracts only: it needs no belief.
 use Prim.Native.Nat.{ℕ}
 use mathlib.Core.List.{List}
 use mathlib.Core.Bool.{false, cond}

@@ -1,4 +1,4 @@
--- How the code makes the text of an answer: piece by piece, in a buffer that holds it up to the cursor.
+-- How the code makes the text of an answer: piece by piece, in a buffer that holds it up to the cursor. Cited by inner contracts only: it needs no belief.
 use Prim.Native.Nat.{ℕ}
 use mathlib.Core.Path.{_≡_}
 use mathlib.Core.List.{List, [], _++_}

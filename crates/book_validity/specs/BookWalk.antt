@@ -1,4 +1,4 @@
--- How the check of a book counts: a slot for each day of the hundred years. No contract above this crate cites it.
+-- How the check of a book counts: a slot for each day of the hundred years. Cited by inner contracts only: it needs no belief.
 use Prim.Native.Nat.{ℕ, _+_, _-_, _*_}
 use Rattle.days.specs.declared.calendar.Day.{Day}
 

@@ -1,4 +1,4 @@
--- The lines of a registry once they are read, in three rows: line i has four numbers, the bytes of its account's number, and its date.
+-- The lines of a registry once they are read, in three rows: line i has four numbers, the bytes of its account's number, and its date. Cited by inner contracts only: it needs no belief.
 use Prim.Native.Nat.{ℕ, _<_, _≤_}
 use mathlib.Core.List.{List, [], _∷_}
 use denote.Ref.{RefT}

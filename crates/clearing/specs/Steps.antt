@@ -1,4 +1,4 @@
--- What a record that is swept leaves.
+-- What a record that is swept leaves. Cited by inner contracts only: it needs no belief.
 use Prim.Native.Nat.{ℕ}
 use mathlib.Core.List.{List}
 use lib.ListN.{set}

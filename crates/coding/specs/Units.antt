@@ -1,4 +1,4 @@
--- What the walk of the code and the laws need: the unit at the head of coded text, how many bytes code a byte, and which bytes coded text has.
+-- What the walk of the code and the laws need: the unit at the head of coded text, how many bytes code a byte, and which bytes coded text has. Cited by inner contracts only: it needs no belief.
 -- No public contract cites these.
 use Prim.Native.Nat.{ℕ, _+_, _*_}
 use mathlib.Core.List.{List, [], _∷_}

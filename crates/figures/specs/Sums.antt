@@ -1,4 +1,4 @@
--- What the functions that print a line's figures rest on.
+-- What the functions that print a line's figures rest on. Cited by inner contracts only: it needs no belief.
 use mathlib.Core.List.{List, [], _∷_, _++_}
 use Prim.Native.Nat.{ℕ}
 use Rattle.texts.specs.Digits.{decimal}

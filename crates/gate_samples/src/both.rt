@@ -109,7 +109,7 @@ fn over_lent(
 fn over_records(records: [Record; 4], w: World, call: Call, text: &[u8], room: usize) -> Left {
     let n = line::least(w.lent, 4);
     let k = line::least(room, 512);
-    let mut out = [46u8; 512];
+    let mut out = [b'.'; 512];
     let desk = lending::call_first(records, n, w.gate, call, text, &mut out[..k]);
     let reply = desk.reply;
     let records = desk.records;
@@ -156,7 +156,7 @@ pub fn run(
 ) -> Left {
     let before = held(nums, numbers, dates);
     let k = line::least(room, 512);
-    let mut out = [46u8; 512];
+    let mut out = [b'.'; 512];
     let reply = over_lent(nums, numbers, dates, w, call, text, &mut out[..k]);
     let records = held(nums, numbers, dates);
     let left = Left {

@@ -22,7 +22,7 @@ fn answered(w: World, r: Reply) -> World {
 
 // The type before the first space; 1000 where there is none.
 fn kind(s: &[u8]) -> u64 {
-    let d = digits::read_digits(scan::before_byte(s, 32), 3);
+    let d = digits::read_digits(scan::before_byte(s, b' '), 3);
     match d {
         Digits::Value(v) => v,
         Digits::Malformed => 1000,
@@ -31,7 +31,7 @@ fn kind(s: &[u8]) -> u64 {
 
 // A clock of nineteen bytes; nineteen zeros for any other text.
 fn clock(s: &[u8]) -> [u8; 19] {
-    if scan::find_byte(s, 32) == 19 {
+    if scan::find_byte(s, b' ') == 19 {
         given::date(s)
     } else {
         [0u8; 19]
@@ -55,11 +55,11 @@ pub fn account_call(
 // The call of a line that opens an account, or draws from one.
 fn account_of(opening: bool, s: &[u8]) -> Call {
     let number = given::number(s);
-    let rest = scan::after_byte(s, 32);
+    let rest = scan::after_byte(s, b' ');
     if opening {
         return records::opening_call(number, kind(rest));
     }
-    let kopecks = given::value(scan::after_byte(rest, 32));
+    let kopecks = given::value(scan::after_byte(rest, b' '));
     records::drawing_call(number, kind(rest), kopecks)
 }
 
@@ -120,9 +120,9 @@ pub fn send(
     dates: &mut [[[u8; 19]; 3]],
     w: World,
 ) -> World {
-    let rest = scan::after_byte(s, 32);
+    let rest = scan::after_byte(s, b' ');
     if 2 <= k {
-        let text = scan::after_byte(rest, 32);
+        let text = scan::after_byte(rest, b' ');
         let call = records::registry_call(clock(rest), given::day(s));
         return told(w, both::run(nums, numbers, dates, w, call, text, room(k)));
     }
@@ -145,7 +145,7 @@ fn show_written(out: &[u8], size: usize) {
         io::write_all(1, b" ");
         io::write_all(1, scan::first_bytes(out, size));
     }
-    let points = [46u8; 512];
+    let points = [b'.'; 512];
     if !scan::same_bytes(scan::bytes_from(out, size), scan::bytes_from(&points, size)) {
         io::write_all(1, b" and more");
     }

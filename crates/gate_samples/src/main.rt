@@ -26,9 +26,9 @@ fn answer_line(
         return w;
     }
     io::write_all(1, b": ");
-    let n = escape::unescape(scan::after_byte(line, 32), space);
+    let n = escape::unescape(scan::after_byte(line, b' '), space);
     let text = scan::first_bytes(space, n);
-    words::answer(scan::before_byte(line, 32), text, nums, numbers, dates, w)
+    words::answer(scan::before_byte(line, b' '), text, nums, numbers, dates, w)
 }
 
 // Answers each line of s; a last line without its end is a line too.

@@ -17,9 +17,9 @@ pub fn spoil(
     w: World,
 ) -> World {
     io::write_all(1, b"ok");
-    let value = scan::after_byte(s, 32);
+    let value = scan::after_byte(s, b' ');
     let k = line::place(
-        scan::before_byte(s, 32),
+        scan::before_byte(s, b' '),
         b"receipt amount state authcode account date credit cancel used count closed holder holder-type balance debt lengths",
     );
     if k < 8 {

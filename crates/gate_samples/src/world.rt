@@ -13,7 +13,7 @@ pub struct World {
 
 // A new world from a closed day and the number of records lent.
 pub fn start(s: &[u8]) -> World {
-    let lent = given::value(scan::after_byte(s, 32)) as usize;
+    let lent = given::value(scan::after_byte(s, b' ')) as usize;
     World {
         gate: given::no_gate(given::day(s)),
         lent,

@@ -1,4 +1,4 @@
--- The bytes of a line gathered from a part of the input: what one byte does to the numbers of a held line, and all of them up to the line's end.
+-- The bytes of a line gathered from a part of the input: what one byte does to the numbers of a held line, and all of them up to the line's end. Cited by inner contracts only: it needs no belief.
 use Prim.Native.Nat.{ℕ, _+_}
 use mathlib.Core.List.{List}
 use mathlib.Core.Bool.{Bool, true, false, cond, _&&_}

@@ -5,6 +5,18 @@ ghost use Rattle.gathering.specs.declared.Held.{Held};
 ghost use Rattle.gathering.specs.Held.{emptied, newHeld};
 ghost use Rattle.gathering.specs.Gather.{taken, asksAt, stepOf, gathered};
 
+// How many bytes of a field are held: one more than the longest form of any has.
+const FIELD_HELD: usize = 31;
+
+// How many bytes of the parameters of an R are held: one more than are looked at.
+const PARAMS_HELD: usize = 2049;
+
+// How many spaces that split fields are held: a fifth field is one too many.
+const SPACES_HELD: usize = 4;
+
+// How many bytes of a line are held.
+const LINE_HELD: usize = 2177;
+
 // What is held of a line that has not ended: all of it that its answer depends on. `spaces` are those that split fields, `run` the bytes held of the last field.
 pub struct Held {
     pub bytes: [u8; 2177],
@@ -57,22 +69,22 @@ fn step_of(first: u8, len: usize, spaces: usize, run: usize, b: u8) -> Step
         spaces,
         run,
     };
-    if 2177 <= len {
+    if LINE_HELD <= len {
         return passed;
     }
     if asks(first, spaces) {
-        if run < 2049 {
+        if run < PARAMS_HELD {
             return held_byte(spaces, run + 1);
         }
         return passed;
     }
     if b == b' ' {
-        if spaces < 4 {
+        if spaces < SPACES_HELD {
             return held_byte(spaces + 1, 0);
         }
         return passed;
     }
-    if run < 31 {
+    if run < FIELD_HELD {
         return held_byte(spaces, run + 1);
     }
     passed

@@ -1,4 +1,4 @@
--- How the code puts a line together and takes it apart.
+-- How the code puts a line together and takes it apart. Cited by inner contracts only: it needs no belief.
 use Prim.Native.Nat.{ℕ}
 use mathlib.Core.List.{List, _∷_, _++_}
 use lib.ListN.{replicate}

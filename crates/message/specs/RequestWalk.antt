@@ -1,4 +1,4 @@
--- How the code reads the fields of a request, in two halves: no contract above the walk cites it.
+-- How the code reads the fields of a request, in two halves. Cited by inner contracts only: it needs no belief.
 use Prim.Native.Nat.{ℕ}
 use mathlib.Core.List.{List, [], _∷_}
 use mathlib.Core.Bool.{cond}

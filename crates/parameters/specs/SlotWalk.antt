@@ -1,4 +1,4 @@
--- How the code finds a name's place, and how it holds what is gathered: as the ends of each value in the text.
+-- How the code finds a name's place, and how it holds what is gathered: as the ends of each value in the text. Cited by inner contracts only: it needs no belief.
 use Prim.Native.Nat.{ℕ, _-_}
 use mathlib.Core.List.{List, [], _∷_}
 use mathlib.Core.Bool.{true, false, cond}

@@ -1,4 +1,4 @@
--- What the functions behind the checks of a settlement start from and leave.
+-- What the functions behind the checks of a settlement start from and leave. Cited by inner contracts only: it needs no belief.
 use Prim.Native.Nat.{ℕ, _<_}
 use mathlib.Core.Path.{_≡_}
 use Rattle.table.specs.declared.Gate.{Gate}

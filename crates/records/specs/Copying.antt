@@ -1,4 +1,4 @@
--- Document 01, "The shape of each place": how the code walks, from the lent records to rows of 4,096 places and back.
+-- Document 01, "The shape of each place": how the code walks, from the lent records to rows of 4,096 places and back. Cited by inner contracts only: it needs no belief.
 use mathlib.Core.Path.{_≡_}
 use mathlib.Core.Bool.{cond}
 use mathlib.Core.List.{List, _++_}

@@ -1,4 +1,4 @@
--- How the code writes a request, text by text: no contract above the walk cites it.
+-- How the code writes a request, text by text. Cited by inner contracts only: it needs no belief.
 use Prim.Native.Nat.{ℕ}
 use mathlib.Core.List.{List, [], _∷_, _++_}
 use mathlib.Core.Bool.{Bool, cond}

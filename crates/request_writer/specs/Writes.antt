@@ -1,4 +1,4 @@
--- Texts written one after the other at a cursor: what the buffer then holds, and where the cursor is.
+-- Texts written one after the other at a cursor: what the buffer then holds, and where the cursor is. Cited by inner contracts only: it needs no belief.
 use Prim.Native.Nat.{ℕ}
 use mathlib.Core.List.{List, [], _∷_, _++_}
 use Rattle.texts.specs.Lists.{written, cursorAfter}

@@ -15,11 +15,11 @@ use vectors::given;
 
 // The answer to an action.
 pub fn answer(s: &[u8]) {
-    let ActionRead::Known(a) = action::read_action(scan::before_byte(s, 32)) else {
+    let ActionRead::Known(a) = action::read_action(scan::before_byte(s, b' ')) else {
         io::write_all(1, b"unknown action");
         return;
     };
-    show_read(read::read_answer(a, scan::after_byte(s, 32)));
+    show_read(read::read_answer(a, scan::after_byte(s, b' ')));
 }
 
 // A check's answer with a message of so many bytes; 78 bytes stand before it.
@@ -63,13 +63,13 @@ fn show_answer(x: Answer) {
 
 // The bytes of an answer from code, authcode and date; `-` gives none.
 pub fn write_answer(s: &[u8]) {
-    let rest = scan::after_byte(s, 32);
-    let date = given::date(scan::after_byte(rest, 32));
+    let rest = scan::after_byte(s, b' ');
+    let date = given::date(scan::after_byte(rest, b' '));
     let x = Answer {
         code: given::value(s),
-        authorized: is_given(scan::before_byte(rest, 32)),
+        authorized: is_given(scan::before_byte(rest, b' ')),
         authcode: given::value(rest),
-        dated: is_given(scan::after_byte(rest, 32)),
+        dated: is_given(scan::after_byte(rest, b' ')),
         date,
     };
     let mut space = [0u8; 512];

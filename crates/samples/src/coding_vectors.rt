@@ -7,12 +7,12 @@ use texts::scan;
 
 // The parameters of `GET` and a target, or of `POST` and a body, in brackets.
 pub fn parameters(s: &[u8]) {
-    let rest = scan::after_byte(s, 32);
-    if scan::same_bytes(scan::before_byte(s, 32), b"GET") {
+    let rest = scan::after_byte(s, b' ');
+    if scan::same_bytes(scan::before_byte(s, b' '), b"GET") {
         bracketed(params::parameters(Method::Get, rest, b""));
         return;
     }
-    if scan::same_bytes(scan::before_byte(s, 32), b"POST") {
+    if scan::same_bytes(scan::before_byte(s, b' '), b"POST") {
         bracketed(params::parameters(Method::Post, b"/x?y", rest));
         return;
     }

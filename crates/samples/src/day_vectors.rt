@@ -46,11 +46,11 @@ pub fn next(s: &[u8]) {
 
 // Whether the first of two days, split by a space, comes before the second.
 pub fn before(s: &[u8]) {
-    let DayRead::Good(a) = calendar::read_day(scan::before_byte(s, 32)) else {
+    let DayRead::Good(a) = calendar::read_day(scan::before_byte(s, b' ')) else {
         io::write_all(1, b"no date");
         return;
     };
-    let DayRead::Good(b) = calendar::read_day(scan::after_byte(s, 32)) else {
+    let DayRead::Good(b) = calendar::read_day(scan::after_byte(s, b' ')) else {
         io::write_all(1, b"no date");
         return;
     };

@@ -22,9 +22,9 @@ fn answer_line(line: &[u8], space: &mut [u8]) {
         return;
     }
     io::write_all(1, b": ");
-    let n = escape::unescape(scan::after_byte(line, 32), space);
+    let n = escape::unescape(scan::after_byte(line, b' '), space);
     let text = scan::first_bytes(space, n);
-    words::answer(scan::before_byte(line, 32), text);
+    words::answer(scan::before_byte(line, b' '), text);
 }
 
 // Answers each line of s; a last line without its end is a line too.

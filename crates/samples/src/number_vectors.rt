@@ -20,8 +20,8 @@ pub fn number(s: &[u8]) {
 
 // Whether two numbers, split by a space, are equal.
 pub fn same(s: &[u8]) {
-    let a = read_number(scan::before_byte(s, 32));
-    let b = read_number(scan::after_byte(s, 32));
+    let a = read_number(scan::before_byte(s, b' '));
+    let b = read_number(scan::after_byte(s, b' '));
     if !a.ok {
         print::fault(2);
         return;

@@ -11,7 +11,7 @@ use vectors::given;
 
 // The fault of a registry of a day, and the lines of one without.
 pub fn check(s: &[u8]) {
-    let rest = scan::after_byte(s, 32);
+    let rest = scan::after_byte(s, b' ');
     let fault = text::check_registry(given::day(s), rest);
     print::fault(fault);
     if fault == 0 {
@@ -70,13 +70,13 @@ fn write_lines(n: u64, dst: &mut [u8]) -> usize {
 
 // The fault of so many lines, `ended` or with a `rest` behind them.
 pub fn many_lines(s: &[u8]) {
-    let Digits::Value(n) = digits::read_digits(scan::before_byte(s, 32), 3) else {
+    let Digits::Value(n) = digits::read_digits(scan::before_byte(s, b' '), 3) else {
         print::malformed();
         return;
     };
     let mut space = io::large_buffer();
     let at = write_lines(n, &mut space);
-    let e = add_rest(scan::after_byte(s, 32), &mut space, at);
+    let e = add_rest(scan::after_byte(s, b' '), &mut space, at);
     let day = given::day(b"2005-09-20");
     print::fault(text::check_registry(day, scan::first_bytes(&space, e)));
 }
@@ -91,7 +91,7 @@ fn add_rest(word: &[u8], dst: &mut [u8], at: usize) -> usize {
 
 // Whether a text is a report of so many lines.
 pub fn is_report(s: &[u8]) {
-    if report::is_report(scan::after_byte(s, 32), given::value(s) as usize) {
+    if report::is_report(scan::after_byte(s, b' '), given::value(s) as usize) {
         io::write_all(1, b"good");
     } else {
         print::fault(65);

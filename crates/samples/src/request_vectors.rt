@@ -18,7 +18,7 @@ pub fn request(s: &[u8]) {
 
 // The same of a text with `&` behind it, up to so many bytes in all.
 pub fn long_request(s: &[u8]) {
-    let Digits::Value(n) = digits::read_digits(scan::before_byte(s, 32), 4) else {
+    let Digits::Value(n) = digits::read_digits(scan::before_byte(s, b' '), 4) else {
         print::malformed();
         return;
     };
@@ -27,7 +27,7 @@ pub fn long_request(s: &[u8]) {
         return;
     }
     let mut space = [b'&'; 4096];
-    out::put_bytes(scan::after_byte(s, 32), &mut space, 0);
+    out::put_bytes(scan::after_byte(s, b' '), &mut space, 0);
     request(scan::first_bytes(&space, n as usize));
 }
 

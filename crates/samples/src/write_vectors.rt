@@ -26,15 +26,15 @@ pub fn write_value(as_amount: bool, s: &[u8]) {
 
 // Writes the text behind a cursor and a size into so many points.
 pub fn put(s: &[u8]) {
-    let Digits::Value(at) = digits::read_digits(scan::before_byte(s, 32), 20) else {
+    let Digits::Value(at) = digits::read_digits(scan::before_byte(s, b' '), 20) else {
         print::malformed();
         return;
     };
-    put_at(scan::after_byte(s, 32), at as usize);
+    put_at(scan::after_byte(s, b' '), at as usize);
 }
 
 fn put_at(s: &[u8], at: usize) {
-    let Digits::Value(size) = digits::read_digits(scan::before_byte(s, 32), 2) else {
+    let Digits::Value(size) = digits::read_digits(scan::before_byte(s, b' '), 2) else {
         print::malformed();
         return;
     };
@@ -44,7 +44,7 @@ fn put_at(s: &[u8], at: usize) {
     }
     let mut space = [b'.'; 64];
     let n = size as usize;
-    put_into(scan::after_byte(s, 32), &mut space[..n], at);
+    put_into(scan::after_byte(s, b' '), &mut space[..n], at);
 }
 
 // Prints the cursor that is handed back, and the whole buffer.

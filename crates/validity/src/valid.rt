@@ -25,30 +25,30 @@ fn wide(b: u8) -> usize
     b as usize
 }
 
-// The slot of an account's hint.
+// The slot of an account's hint. There are many more slots than accounts, so names that run in sequence have slots of their own.
 fn slot(n: Number, kind: u64) -> usize
-    ensures { λ r. ⌜ r < 2048 ⌝ }
+    ensures { λ r. ⌜ r < 8192 ⌝ }
 {
     let len = n.len;
-    let mut h = (kind % 2048) as usize;
+    let mut h = (kind % 8192) as usize;
     let mut i: usize = 0;
     while i < 30 {
         if len <= i {
             return h;
         }
-        h = (h * 33 + wide(n.bytes[i])) % 2048;
+        h = (h * 33 + wide(n.bytes[i])) % 8192;
         i += 1;
     }
     h
 }
 
 // For each slot the place of an account that has it, or any place: a guess that is to be tested.
-fn hints(g: Gate) -> [u8; 2048]
+fn hints(g: Gate) -> [u8; 8192]
     requires { ⌜ g .count ≤ 256 ⌝ }
     ensures { λ r. ⌜ length (g .accounts) ≡ 256 ⌝ }
 {
     let count = g.count;
-    let mut places = [0u8; 2048];
+    let mut places = [0u8; 8192];
     let mut i: usize = 0;
     while i < count {
         let a = g.accounts[i];

@@ -23,10 +23,16 @@ fn hex_unit(h: u8, l: u8) -> Unit
     ensures { λ r. ⌜ r ≡ hexUnit h l ⌝ }
 {
     if !url::is_hex(h) {
-        return Unit { byte: 92, width: 1 };
+        return Unit {
+            byte: b'\\',
+            width: 1,
+        };
     }
     if !url::is_hex(l) {
-        return Unit { byte: 92, width: 1 };
+        return Unit {
+            byte: b'\\',
+            width: 1,
+        };
     }
     Unit {
         byte: url::hex_value(h) * 16 + url::hex_value(l),
@@ -45,9 +51,15 @@ fn unit_of(b: u8, c: u8, h: u8, l: u8) -> Unit
         b't' => Unit { byte: 9, width: 2 },
         b'r' => Unit { byte: 13, width: 2 },
         b'n' => Unit { byte: 10, width: 2 },
-        b'\\' => Unit { byte: 92, width: 2 },
+        b'\\' => Unit {
+            byte: b'\\',
+            width: 2,
+        },
         b'x' => hex_unit(h, l),
-        _ => Unit { byte: 92, width: 1 },
+        _ => Unit {
+            byte: b'\\',
+            width: 1,
+        },
     }
 }
 

@@ -16,7 +16,7 @@ ghost use Rattle.vectors.specs.Given.{valueGiven, dayGiven, numberGiven,
 pub fn value(s: &[u8]) -> u64
     ensures { λ r. ⌜ r ≡ valueGiven (now (s .entry)) ⌝ }
 {
-    let d = digits::read_digits(scan::before_byte(s, 32), 20);
+    let d = digits::read_digits(scan::before_byte(s, b' '), 20);
     match d {
         Digits::Value(v) => v,
         Digits::Malformed => 0,
@@ -27,7 +27,7 @@ pub fn value(s: &[u8]) -> u64
 pub fn day(s: &[u8]) -> Day
     ensures { λ r. ⌜ r ≡ dayGiven (now (s .entry)) ⌝ }
 {
-    let r = calendar::read_day(scan::before_byte(s, 32));
+    let r = calendar::read_day(scan::before_byte(s, b' '));
     match r {
         DayRead::Good(d) => d,
         DayRead::NoDate => Day {
@@ -42,7 +42,7 @@ pub fn day(s: &[u8]) -> Day
 pub fn number(s: &[u8]) -> Number
     ensures { λ r. ⌜ r ≡ numberGiven (now (s .entry)) ⌝ }
 {
-    let field = scan::before_byte(s, 32);
+    let field = scan::before_byte(s, b' ');
     let mut bytes = [0u8; 30];
     out::put_bytes(scan::first_bytes(field, 30), &mut bytes, 0);
     Number {
@@ -55,7 +55,7 @@ pub fn number(s: &[u8]) -> Number
 pub fn date(s: &[u8]) -> [u8; 19]
     ensures { λ r. ⌜ r ≡ dateGiven (now (s .entry)) ⌝ }
 {
-    let field = scan::before_byte(s, 32);
+    let field = scan::before_byte(s, b' ');
     let mut date = [0u8; 19];
     out::put_bytes(scan::first_bytes(field, 19), &mut date, 0);
     date

@@ -29,7 +29,7 @@ pub fn is_heading(line: &[u8]) -> bool
     if line.len() == 0 {
         return true;
     }
-    line[0] == 35
+    line[0] == b'#'
 }
 
 // The place of a word among others that one space splits, or their number where it is none of them.
@@ -40,7 +40,7 @@ pub fn place(word: &[u8], words: &[u8]) -> usize
     let mut i: usize = 0;
     while at <= words.len() {
         let rest = scan::bytes_from(words, at);
-        let p = scan::find_byte(rest, 32);
+        let p = scan::find_byte(rest, b' ');
         if scan::same_bytes(scan::first_bytes(rest, p), word) {
             return i;
         }

@@ -7,7 +7,7 @@ use Rattle.validity.proofs.valid.hints.Statement.{statement}
 use Rattle.validity.proofs.valid.hints.Tie as tie
 
 abbrev Inv-loop : tie.InvT-loop
-Inv-loop g count places₀ i₀ places i = (i ≤ count) × (length places ≡ 2048)
+Inv-loop g count places₀ i₀ places i = (i ≤ count) × (length places ≡ 8192)
 
 abbrev μ-loop : tie.MeasureT-loop
 μ-loop g count places₀ i₀ places i = count - i

@@ -4,7 +4,7 @@ use Rattle.validity.proofs.valid.slot.Statement.{statement}
 use Rattle.validity.proofs.valid.slot.Tie as tie
 
 abbrev Inv-loop : tie.InvT-loop
-Inv-loop kind n len h₀ i₀ h i = (i ≤ 30) × (h < 2048)
+Inv-loop kind n len h₀ i₀ h i = (i ≤ 30) × (h < 8192)
 
 abbrev μ-loop : tie.MeasureT-loop
 μ-loop kind n len h₀ i₀ h i = 30 - i
