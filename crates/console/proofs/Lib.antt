@@ -1,3 +1,4 @@
+pub mod SummableLaws
 pub mod CutLaws
 pub mod HeldLaws
 pub mod FeedLaws

@@ -24,7 +24,7 @@ use Rattle.gathering.specs.Gather.{gathered}
 use Rattle.gathering.specs.Held.{newHeld}
 use Rattle.console.specs.Session.{emptyGate, newConsole, newFed, sessionText}
 use Rattle.console.specs.Parts.{Part, before, printedAt, feedPart, lastPart, Run, runAll, EndedAt}
-use Rattle.orders.proofs.SummableLaws.{turn-summable, none-summable}
+use Rattle.console.proofs.SummableLaws.{turn-summable, none-summable}
 use Rattle.figures.proofs.PrintLaws.{printed-length}
 use Rattle.console.proofs.FeedLaws.{holding, gathered-on, gathered-in, fed-ended, fed-rest, session-fed}
 
