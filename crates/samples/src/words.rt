@@ -24,7 +24,7 @@ pub fn answer(word: &[u8], text: &[u8]) {
         1 => print::value_or_fault(read_amount(text), 3),
         2 => print::value_or_fault(codes::read_receipt(text), 4),
         3 => print::value_or_fault(codes::read_kind(text), 2),
-        4 => print::value_or_fault(codes::read_reason(text), b' '),
+        4 => print::value_or_fault(codes::read_reason(text), 32),
         5 => number_vectors::number(text),
         6 => number_vectors::same(text),
         7 => day_vectors::written_date(text),
