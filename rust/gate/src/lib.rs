@@ -2,8 +2,8 @@
 //!
 //! A payment number counts once, and on a settled day both books show one list, whatever the net loses, delays, repeats
 //! or reorders: that is a theorem about the calls behind [`Gate`] and [`Book`]. This crate hands values over to them
-//! and makes their codes [`Fault`]s. What no proof covers, the boundary and the back end, is tested: against an
-//! independent twin (`rust/compare`) and in a simulation of both ends (`rust/simulate`).
+//! and makes their codes [`Fault`]s. What no proof covers, the boundary and the back end, is tested: against a
+//! twin that shares no code with it (`rust/compare`) and in a simulation of both ends (`rust/simulate`).
 //!
 //! A day at both ends:
 //!
