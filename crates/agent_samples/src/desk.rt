@@ -1,8 +1,8 @@
 // What the vectors keep from line to line: the book, the gate, and how many entries and records are lent. What the agent does.
+use acceptance::accepting;
 use book::Book;
 use book::rows;
 use daybook::Writing;
-use daybook::accepting;
 use daybook::freezing;
 use parameters::action;
 use parameters::action::ActionRead;

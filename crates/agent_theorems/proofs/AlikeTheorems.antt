@@ -14,7 +14,7 @@ use Rattle.book.specs.declared.Entry.{Entry}
 use Rattle.book.specs.Entries.{BookRows, noEntry, entryAt, entriesOf, bookWith}
 use Rattle.book_validity.specs.BookValid.{bookGood, ReadyBook}
 use Rattle.book.proofs.EntryLaws.{EntryRoom, entries-set, getD-entries}
-use Rattle.daybook.specs.Acceptance.{isFrozen}
+use Rattle.daybook.specs.Freezing.{isFrozen}
 use Rattle.listing.specs.Listing.{isListed, listed, registryOf, writeRegistry}
 use Rattle.agent_theorems.proofs.ListedTheorems.{registry-same, writing-same, unfrozen-off, listed-set}
 use Rattle.answering.specs.Answering.{takeAnswer}

@@ -29,7 +29,7 @@ use Rattle.book.proofs.StateLaws.{number-again, state-range, waits}
 use Rattle.book_validity.proofs.PaymentLaws.{entry-parts, SamePayment, fields-kept}
 use Rattle.answering.specs.declared.meaning.Meaning.{Meaning}
 use Rattle.answering.specs.declared.meaning.Meaning.the-variants.{Paid, Revoked, Silent}
-use Rattle.daybook.specs.Acceptance.{isFrozen}
+use Rattle.daybook.specs.Freezing.{isFrozen}
 use Rattle.answering.specs.Answering.{Taking, meaning, credits, turned, authcodeAfter, answeredEntry, took, takeAt, takeReceipt, isCheck, checkCode, takeAnswer}
 use Rattle.answering.proofs.MeaningLaws.{payment-silent, cancel-silent}
 use Rattle.agent_theorems.proofs.MovedLaws.{placeOf, same-place, found-fields, put-same, Left, kept, moved, others-kept, payments-kept, frozen-kept, good-kept, ready-kept}

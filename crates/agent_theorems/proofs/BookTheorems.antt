@@ -30,7 +30,8 @@ use Rattle.lists.specs.Lent.{Lent}
 use Rattle.lists.proofs.LentLaws.{lent-facts, facts-lent}
 use Rattle.book_validity.proofs.BookLaws.{good-lent, good-book, good-room, added-good, frozen-good}
 use Rattle.daybook.specs.declared.freezing.Freezing.{Freezing}
-use Rattle.daybook.specs.Acceptance.{Acceptance, isFrozen, nextReceipt, madeEntry, mayAccept, dayOpen, hasPlace, withEntry, acceptFault, accept}
+use Rattle.acceptance.specs.Acceptance.{Acceptance, nextReceipt, madeEntry, mayAccept, dayOpen, hasPlace, withEntry, acceptFault, accept}
+use Rattle.daybook.specs.Freezing.{isFrozen}
 use Rattle.daybook.specs.Freezing.{froze, frozenOn, freezeOn, freeze}
 use Rattle.listing.specs.Listing.{registryOf, writeRegistry}
 use Rattle.agent_theorems.proofs.ListedTheorems.{registry-same, writing-same, unfrozen-off, listed-more}

@@ -26,7 +26,8 @@ use Rattle.book.specs.Entries.{BookRows, stateNumber, WholeBook, entriesOf, boo
 use Rattle.book_validity.specs.BookValid.{dayCount, bookGood}
 use Rattle.book.proofs.EntryLaws.{book-more}
 use Rattle.book_validity.proofs.BookLaws.{good-lent}
-use Rattle.daybook.specs.Acceptance.{isFrozen, nextReceipt, madeEntry, mayAccept, hasPlace, acceptFault, accept}
+use Rattle.acceptance.specs.Acceptance.{nextReceipt, madeEntry, mayAccept, hasPlace, acceptFault, accept}
+use Rattle.daybook.specs.Freezing.{isFrozen}
 use Rattle.daybook.specs.Freezing.{freezeOn, freeze}
 use Rattle.listing.specs.Listing.{listed, entryLine, registryOf, Listing, listOn, writeRegistry}
 use Rattle.listing.proofs.RegistryLaws.{registry-few}

@@ -30,7 +30,7 @@ use Rattle.book_validity.specs.BookValid.{bookGood}
 use Rattle.book.proofs.EntryLaws.{getD-entries, book-set}
 use Rattle.book_validity.proofs.BookLaws.{good-book, entry-here}
 use Rattle.book_validity.proofs.PaymentLaws.{EntryParts, entry-parts}
-use Rattle.daybook.specs.Acceptance.{isFrozen}
+use Rattle.daybook.specs.Freezing.{isFrozen}
 use Rattle.agent_theorems.proofs.DaybookGives.{good-whole}
 use Rattle.answering.specs.declared.meaning.Meaning.{Meaning}
 use Rattle.answering.specs.declared.meaning.Meaning.the-variants.{Paid, Revoked}

@@ -27,7 +27,7 @@ use Rattle.book.specs.declared.Entry.{Entry}
 use Rattle.book.specs.Entries.{BookRows, isCancelled, entriesOf}
 use Rattle.book_validity.specs.BookValid.{entryFields, inTurn, entryGood, dayCount, bookGood}
 use Rattle.book_validity.proofs.BookLaws.{good-book}
-use Rattle.daybook.specs.Acceptance.{isFrozen}
+use Rattle.daybook.specs.Freezing.{isFrozen}
 use Rattle.listing.specs.Listing.{isListed, listed, entryLine, registryOf, Listing, unlisted, listOn, writeRegistry}
 use Rattle.listing.proofs.RegistryLaws.{entry-line, entries-all}
 

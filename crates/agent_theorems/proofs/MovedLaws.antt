@@ -18,7 +18,7 @@ use Rattle.book.proofs.EntryLaws.{EntryRoom, entry-other, entry-same, getD-entr
 use Rattle.lists.proofs.LentLaws.{lent-facts}
 use Rattle.book_validity.proofs.BookLaws.{good-book, good-lent, good-room, put-good, entry-within}
 use Rattle.book_validity.proofs.PaymentLaws.{SamePayment, same-payment}
-use Rattle.daybook.specs.Acceptance.{isFrozen}
+use Rattle.daybook.specs.Freezing.{isFrozen}
 
 -- ---- what is found
 -- the place of a receipt

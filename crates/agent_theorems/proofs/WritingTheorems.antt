@@ -34,7 +34,7 @@ use Rattle.book.proofs.EntryLaws.{getD-entries, length-entries, entry-from, boo
 use Rattle.book_validity.proofs.BookLaws.{entry-within}
 use Rattle.book_validity.proofs.PaymentLaws.{entry-parts, SamePayment, same-payment, fields-kept}
 use Rattle.book.proofs.StateLaws.{state-range}
-use Rattle.daybook.specs.Acceptance.{isFrozen}
+use Rattle.daybook.specs.Freezing.{isFrozen}
 use Rattle.writing.specs.Writing.{Writing, unwritten, wrote, writeAt, writeRequest, writeCheck}
 use Rattle.asking.specs.Asking.{mayWrite, writtenEntry, requestOf, formsGood, isOpen, checkOf}
 use Rattle.writing.proofs.WritingLaws.{check-asked}

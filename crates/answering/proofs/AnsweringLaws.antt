@@ -19,7 +19,7 @@ use Rattle.book.specs.Entries.{BookRows, stateOf, stateNumber, noEntry, entryAt
 use Rattle.book_validity.specs.BookValid.{bookGood, ReadyBook}
 use Rattle.book.proofs.EntryLaws.{getD-entries, book-set}
 use Rattle.answering.specs.declared.meaning.Meaning.{Meaning}
-use Rattle.daybook.specs.Acceptance.{isFrozen}
+use Rattle.daybook.specs.Freezing.{isFrozen}
 use Rattle.answering.specs.Answering.{Taking, meaning, turned, credits, authcodeAfter, answeredEntry, takeAt, takeReceipt, isCheck, checkCode, takeAnswer}
 
 -- ---- the authcode after an answer

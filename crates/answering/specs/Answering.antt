@@ -19,7 +19,7 @@ use Rattle.book.specs.Entries.{BookRows, stateOf, stateNumber, noEntry, entries
 use Rattle.book_validity.specs.BookValid.{bookGood}
 use Rattle.answering.specs.declared.meaning.Meaning.{Meaning}
 use Rattle.answering.specs.declared.meaning.Meaning.the-variants.{Paid, Revoked, Silent}
-use Rattle.daybook.specs.Acceptance.{isFrozen}
+use Rattle.daybook.specs.Freezing.{isFrozen}
 
 -- what an answer answers and leaves
 pub record Taking : Type 0 where

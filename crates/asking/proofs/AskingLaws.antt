@@ -24,7 +24,7 @@ use Rattle.book.specs.declared.State.the-variants.{CancelAsked}
 use Rattle.book.specs.Entries.{BookRows, stateOf, stateNumber, noEntry, entryAt, entriesOf, bookWith, findEntry}
 use Rattle.book_validity.specs.BookValid.{bookGood, ReadyBook}
 use Rattle.book.proofs.EntryLaws.{getD-entries, book-set}
-use Rattle.daybook.specs.Acceptance.{isFrozen}
+use Rattle.daybook.specs.Freezing.{isFrozen}
 use Rattle.asking.specs.Asking.{mayWrite, writtenEntry, formsGood, isOpen}
 
 -- ---- an action and a state that are known

@@ -12,7 +12,7 @@ use Rattle.book.specs.declared.Entry.{Entry}
 use Rattle.book.specs.declared.State.{State}
 use Rattle.book.specs.declared.State.the-variants.{Asked, Credited, CancelAsked, Cancelled, Unposted}
 use Rattle.book.specs.Entries.{stateOf, stateNumber}
-use Rattle.daybook.specs.Acceptance.{isFrozen}
+use Rattle.daybook.specs.Freezing.{isFrozen}
 
 -- a payment while it is asked, a status always, a cancel until the payment is cancelled or unposted
 unfoldable pub mayWrite : Action → State → Bool

@@ -1,4 +1,3 @@
-pub mod ReadLaws
 pub mod LinesLaws
 pub mod RevokeLaws
 pub mod SweepLaws

@@ -13,9 +13,9 @@ use Rattle.table.proofs.TableLaws.{length-records, rows-kept}
 use Rattle.posting.specs.Posting.{Ledger, settleLine, ledgerOf}
 use Rattle.clearing.specs.Clearing.{settleLines}
 use Rattle.posting.specs.Steps.{Held, Left}
-use Rattle.clearing.specs.Lines.{LineRows, lineAt, linesOf, Read}
+use Rattle.line_rows.specs.Lines.{LineRows, lineAt, linesOf, Read}
 use Rattle.posting.proofs.HeldLaws.{held-more, Step, line-step, left-size, left-records, left-held}
-use Rattle.clearing.proofs.ReadLaws.{next-line, last-line, read-small}
+use Rattle.line_rows.proofs.ReadLaws.{next-line, last-line, read-small}
 
 -- ---- rows from rows
 pub from-from : (t : Rows) (rs qs : List Record) → length rs ≤ length qs → rowsFrom (rowsFrom t rs) qs ≡ rowsFrom t qs

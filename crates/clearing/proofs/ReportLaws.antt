@@ -16,8 +16,8 @@ use Rattle.table.specs.Table.{Rows, recordAt, recordsOf}
 use Rattle.table.proofs.TableLaws.{length-records, getD-records}
 use Rattle.posting.specs.Posting.{matches, isDone}
 use Rattle.clearing.specs.Clearing.{anyDone, reportOf}
-use Rattle.clearing.specs.Lines.{LineRows, lineAt, linesOf}
-use Rattle.clearing.proofs.ReadLaws.{next-line, last-line}
+use Rattle.line_rows.specs.Lines.{LineRows, lineAt, linesOf}
+use Rattle.line_rows.proofs.ReadLaws.{next-line, last-line}
 
 pub done-tested : (x : Line) (r : Record) → r .state ≡ 1 → (b : Bool) → b ≡ matches x r → b ≡ isDone r && matches x r
 done-tested x r h b e = e ∙ rw (eq-eqb _ _ h)

@@ -13,7 +13,7 @@ use Rattle.posting.proofs.HeldLaws.{held-more, Step, left-records, left-held}
 use Rattle.clearing.proofs.LinesLaws.{from-from}
 use Rattle.clearing.proofs.RevokeLaws.{revoke-step}
 use Rattle.posting.proofs.PostLaws.{at-nums, at-numbers, at-dates}
-use Rattle.clearing.proofs.ReadLaws.{next-line, last-line}
+use Rattle.line_rows.proofs.ReadLaws.{next-line, last-line}
 use borrow.Author.Tests.{eq-eqb, ne-eqb, not-true, not-false}
 use Rattle.days.specs.declared.calendar.Day.{Day}
 use Rattle.days.specs.Calendar.{onDay}
@@ -26,7 +26,7 @@ use Rattle.table.specs.Table.{noRecord}
 use Rattle.ledger.specs.Change.{revoked}
 use Rattle.posting.specs.Posting.{matches, Ledger, ledgerOf}
 use Rattle.clearing.specs.Clearing.{anyMatches, isStray, sweptRecord, sweptGate, sweepGates, swept}
-use Rattle.clearing.specs.Lines.{LineRows, lineAt, linesOf}
+use Rattle.line_rows.specs.Lines.{LineRows, lineAt, linesOf}
 use Rattle.posting.specs.Steps.{Held, Left}
 use Rattle.clearing.specs.Steps.{revokedAt}
 

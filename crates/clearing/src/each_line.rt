@@ -1,5 +1,5 @@
 // The lines of a registry, in their order.
-use crate::reading;
+use line_rows::reading;
 use posting::applying;
 use table::Gate;
 ghost use mathlib.Core.Path.{_≡_};
@@ -8,7 +8,7 @@ ghost use Rattle.table.specs.Lent.{lent, before, after};
 ghost use Rattle.posting.specs.Posting.{Ledger, ledgerOf};
 ghost use Rattle.clearing.specs.Clearing.{settleLines};
 ghost use Rattle.posting.specs.Steps.{Held, Left};
-ghost use Rattle.clearing.specs.Lines.{linesOf, Read, linesLent, linesBefore};
+ghost use Rattle.line_rows.specs.Lines.{linesOf, Read, linesLent, linesBefore};
 
 // Settles the lines, one after the other.
 pub fn settle_lines(

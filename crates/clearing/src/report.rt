@@ -1,5 +1,5 @@
 // The report: a byte for each line, 1 where it stands done in the table.
-use crate::reading;
+use line_rows::reading;
 use lines::line::Line;
 use posting::matching;
 use table::Record;
@@ -13,7 +13,7 @@ ghost use Rattle.table.specs.Table.{recordsOf};
 ghost use Rattle.table.specs.Lent.{before};
 ghost use Rattle.posting.specs.Posting.{matches, isDone};
 ghost use Rattle.clearing.specs.Clearing.{anyDone, reportOf};
-ghost use Rattle.clearing.specs.Lines.{linesOf, Read, linesLent, linesBefore};
+ghost use Rattle.line_rows.specs.Lines.{linesOf, Read, linesLent, linesBefore};
 
 // Whether a record is done and the line matches it.
 fn is_done_match(x: Line, r: Record) -> bool

@@ -1,8 +1,8 @@
 // The sweep: what is done on the day and stands in no line is cancelled.
-use crate::reading;
 use dates::date;
 use days::calendar::Day;
 use ledger::change;
+use line_rows::reading;
 use posting::matching;
 use table::Gate;
 use table::Record;
@@ -15,7 +15,7 @@ ghost use Rattle.posting.specs.Posting.{Ledger, ledgerOf};
 ghost use Rattle.clearing.specs.Clearing.{anyMatches, isStray, swept};
 ghost use Rattle.posting.specs.Steps.{Held, Left};
 ghost use Rattle.clearing.specs.Steps.{revokedAt};
-ghost use Rattle.clearing.specs.Lines.{linesOf, Read, linesLent, linesBefore};
+ghost use Rattle.line_rows.specs.Lines.{linesOf, Read, linesLent, linesBefore};
 
 // Whether any line matches the record.
 fn any_matches(

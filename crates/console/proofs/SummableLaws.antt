@@ -37,7 +37,7 @@ use Rattle.validity.proofs.RangeLaws.{near-mag}
 use Rattle.table.proofs.SignedLaws.{mag-up}
 use Rattle.ledger.specs.declared.Reply.{Reply}
 use Rattle.opening.specs.Opening.{openTo, openAccount, drawOn, drawFrom, drawFunds}
-use Rattle.ledger.specs.Plan.{isShort}
+use Rattle.planning.specs.Plan.{isShort}
 use Rattle.ledger.specs.Change.{debitedAt}
 use Rattle.gate.specs.Deliver.{instructionIn, deliver, respond}
 use Rattle.admission.specs.Delivery.{Delivery}

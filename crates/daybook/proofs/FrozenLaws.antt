@@ -6,7 +6,7 @@ use Prim.Native.Nat.{ℕ}
 use Rattle.days.specs.Calendar.{upTo}
 use Rattle.dates.specs.Date.{dateDay}
 use Rattle.book.specs.declared.Book.{Book}
-use Rattle.daybook.specs.Acceptance.{isFrozen}
+use Rattle.daybook.specs.Freezing.{isFrozen}
 
 pub frozen-is : (b : Book) (d : List ℕ) (t : Bool) → t ≡ upTo (b .frozen) (dateDay d) → t ≡ isFrozen b d
 unfolding isFrozen

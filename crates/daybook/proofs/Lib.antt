@@ -1,3 +1,2 @@
 pub mod FrozenLaws
 pub mod FreezeLaws
-pub mod AcceptLaws

@@ -1,2 +1,1 @@
-pub mod Acceptance
 pub mod Freezing

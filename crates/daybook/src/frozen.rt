@@ -2,7 +2,7 @@
 use book::Book;
 use dates::date;
 ghost use mathlib.Core.Path.{_≡_};
-ghost use Rattle.daybook.specs.Acceptance.{isFrozen};
+ghost use Rattle.daybook.specs.Freezing.{isFrozen};
 
 // Whether a date is on or before the frozen day.
 pub fn is_frozen(b: Book, written: [u8; 19]) -> bool

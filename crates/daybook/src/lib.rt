@@ -1,5 +1,4 @@
-// The agent at the counter and at the end of the day: payments accepted, days frozen, registries written.
-pub mod accepting;
+// The agent's days: frozen one after the other, and a date that is frozen.
 pub mod freezing;
 pub mod frozen;
 

@@ -1,8 +1,8 @@
 // The calls of the agent.
+use acceptance::accepting;
+use acceptance::accepting::Acceptance;
 use book::Book;
 use daybook::Writing;
-use daybook::accepting;
-use daybook::accepting::Acceptance;
 use daybook::freezing;
 use daybook::freezing::Freezing;
 use days::calendar::Day;
@@ -13,7 +13,7 @@ use reporting::taking::Reporting;
 ghost use mathlib.Core.Path.{_≡_};
 ghost use Rattle.payments.specs.declared.Action.the-variants.{Check, Payment, Status, Cancel};
 ghost use Rattle.book.specs.Lent.{bookBefore, bookAfter};
-ghost use Rattle.daybook.specs.Acceptance.{acceptanceOf, accept};
+ghost use Rattle.acceptance.specs.Acceptance.{acceptanceOf, accept};
 ghost use Rattle.daybook.specs.Freezing.{freeze};
 ghost use Rattle.listing.specs.Listing.{listingOf, writeRegistry};
 ghost use Rattle.writing.specs.Writing.{writingOf, writeRequest, writeCheck};

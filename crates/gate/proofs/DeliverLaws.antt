@@ -29,7 +29,7 @@ use Rattle.answers.specs.Answer.{answerBytes}
 use Rattle.table.specs.declared.Record.{Record}
 use Rattle.table.specs.declared.Gate.{Gate}
 use Rattle.table.specs.Table.{Rows, recordsOf}
-use Rattle.ledger.specs.Plan.{planOf}
+use Rattle.planning.specs.Plan.{planOf}
 use Rattle.ledger.specs.Change.{executed, Made}
 use Rattle.rules.specs.Answering.{answerOf}
 use Rattle.gate.specs.Deliver.{instructionOf, respond, deliver}

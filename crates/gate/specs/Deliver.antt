@@ -10,10 +10,10 @@ use Rattle.message.specs.Request.{requestRead}
 use Rattle.answers.specs.Answer.{answerBytes}
 use Rattle.table.specs.declared.Gate.{Gate}
 use Rattle.table.specs.Table.{Rows, recordsOf, rowsFrom}
-use Rattle.ledger.specs.declared.plan.Plan.{Plan}
+use Rattle.planning.specs.declared.plan.Plan.{Plan}
 use Rattle.admission.specs.Delivery.{Delivery, admitted}
 use Rattle.rules.specs.Answering.{answerOf}
-use Rattle.ledger.specs.Plan.{planOf}
+use Rattle.planning.specs.Plan.{planOf}
 use Rattle.ledger.specs.Change.{Changed, executed}
 
 -- what a request of this wire asks, whatever the wire

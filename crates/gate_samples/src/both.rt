@@ -2,11 +2,11 @@
 use crate::lending;
 use crate::same;
 use crate::world::World;
+use calls::Call;
+use calls::What;
 use fields::number::Number;
 use gate::deliver;
 use ledger::Reply;
-use records::Call;
-use records::What;
 use settlement::settle;
 use table::Gate;
 use table::Record;

@@ -3,9 +3,9 @@ use crate::both;
 use crate::both::Left;
 use crate::world;
 use crate::world::World;
+use calls::Call;
 use fields::number::Number;
 use ledger::Reply;
-use records::Call;
 use table::Record;
 use table::rows;
 use texts::digits;
@@ -57,10 +57,10 @@ fn account_of(opening: bool, s: &[u8]) -> Call {
     let number = given::number(s);
     let rest = scan::after_byte(s, b' ');
     if opening {
-        return records::opening_call(number, kind(rest));
+        return calls::opening_call(number, kind(rest));
     }
     let kopecks = given::value(scan::after_byte(rest, b' '));
-    records::drawing_call(number, kind(rest), kopecks)
+    calls::drawing_call(number, kind(rest), kopecks)
 }
 
 // `a` and the digits of i.
@@ -78,7 +78,7 @@ fn open_next(
     dates: &mut [[[u8; 19]; 3]],
     w: World,
 ) -> Reply {
-    let call = records::opening_call(named(i), 1);
+    let call = calls::opening_call(named(i), 1);
     let a = both::run(nums, numbers, dates, w, call, b"", 512);
     let r = a.reply;
     r
@@ -123,10 +123,10 @@ pub fn send(
     let rest = scan::after_byte(s, b' ');
     if 2 <= k {
         let text = scan::after_byte(rest, b' ');
-        let call = records::registry_call(clock(rest), given::day(s));
+        let call = calls::registry_call(clock(rest), given::day(s));
         return told(w, both::run(nums, numbers, dates, w, call, text, room(k)));
     }
-    let call = records::request_call(clock(s));
+    let call = calls::request_call(clock(s));
     told(w, both::run(nums, numbers, dates, w, call, rest, room(k)))
 }
 

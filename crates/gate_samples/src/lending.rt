@@ -1,6 +1,6 @@
 // Records by value, of which the first are lent to a call.
+use calls::Call;
 use ledger::Reply;
-use records::Call;
 use table::Gate;
 use table::Record;
 ghost use mathlib.Core.Path.{_≡_};

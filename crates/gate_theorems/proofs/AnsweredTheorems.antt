@@ -29,10 +29,10 @@ use Rattle.rules.specs.declared.decision.Standing.{Standing}
 use Rattle.rules.specs.declared.decision.View.{View}
 use Rattle.rules.specs.declared.decision.Change.{Change}
 use Rattle.rules.specs.declared.decision.Change.the-variants.{Keep, Append, Revoke}
-use Rattle.ledger.specs.declared.plan.Plan.{Plan}
+use Rattle.planning.specs.declared.plan.Plan.{Plan}
 use Rattle.rules.specs.Decision.{isFault, faultCode, decision}
 use Rattle.table.specs.Table.{noRecord}
-use Rattle.ledger.specs.Plan.{recordFound, standingOf, accountOf, viewOf, planWith, planOf}
+use Rattle.planning.specs.Plan.{recordFound, standingOf, accountOf, viewOf, planWith, planOf}
 use Rattle.ledger.specs.Change.{nextAuthcode, makeRecord, revoked, Changed, changed}
 use Rattle.rules.specs.Answering.{settles, answersAuthcode, answersDate, answerDate, answerOf}
 use Rattle.gate.specs.Deliver.{instructionIn, respond, deliver}

@@ -32,7 +32,7 @@ use Rattle.ledger.specs.declared.Reply.{Reply}
 use Rattle.payments.specs.declared.Action.the-variants.{Payment}
 use Rattle.payments.specs.declared.Instruction.{Instruction}
 use Rattle.message.specs.Request.{requestRead}
-use Rattle.ledger.specs.Plan.{isShort}
+use Rattle.planning.specs.Plan.{isShort}
 use Rattle.ledger.specs.Change.{debitedAt}
 use Rattle.gate.specs.Deliver.{instructionIn, respond, deliver}
 use Rattle.admission.specs.Delivery.{Delivery}

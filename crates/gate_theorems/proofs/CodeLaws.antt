@@ -42,7 +42,7 @@ use Rattle.rules.specs.declared.decision.Change.the-variants.{Keep, Append, Rev
 use Rattle.rules.specs.declared.decision.Decided.{Decided}
 use Rattle.rules.specs.Decision.{checkCode, paymentNew, cancelDone, decisionOn, isFault, faultCode, decision}
 use Rattle.table.specs.Table.{noRecord}
-use Rattle.ledger.specs.Plan.{recordFound, standingOf}
+use Rattle.planning.specs.Plan.{recordFound, standingOf}
 use Rattle.rules.specs.Answering.{isCancel, answersAuthcode, answersDate, answerDate, answerOf}
 use Rattle.rules.proofs.DecisionLaws.{decision-cases}
 use Rattle.validity.proofs.GoodLaws.{record-good, used-few}

@@ -30,10 +30,10 @@ use Rattle.table.specs.Accounts.{isAccount, accountsOf, findAccount, noAccount,
 use Rattle.validity.specs.Valid.{tableGood}
 use Rattle.table.proofs.TableLaws.{length-records, getD-records, receipt-within, from-at, rows-as}
 use Rattle.rules.specs.declared.decision.Change.the-variants.{Append, Revoke}
-use Rattle.ledger.specs.declared.plan.Plan.{Plan}
+use Rattle.planning.specs.declared.plan.Plan.{Plan}
 use Rattle.rules.specs.Decision.{paymentNew, cancelDone, decisionOn, decision}
 use Rattle.table.specs.Table.{noRecord}
-use Rattle.ledger.specs.Plan.{dateClosed, accountOf, dateOf, isFull, viewOf, planWith, planOf}
+use Rattle.planning.specs.Plan.{dateClosed, accountOf, dateOf, isFull, viewOf, planWith, planOf}
 use Rattle.rules.specs.Answering.{isCancel}
 use Rattle.ledger.specs.Change.{makeRecord, revoked, debitedAt, changed}
 use Rattle.gate.specs.Deliver.{instructionIn, respondBy, respond, deliver}

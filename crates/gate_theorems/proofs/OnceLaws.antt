@@ -22,7 +22,7 @@ use Rattle.table.specs.Accounts.{noAccount, balanceAt, withBalance, debited}
 use Rattle.table.proofs.TableLaws.{length-records, records-from}
 use Rattle.rules.specs.declared.decision.Change.the-variants.{Append}
 use Rattle.table.specs.Table.{noRecord}
-use Rattle.ledger.specs.Plan.{recordFound, standingOf, accountOf, viewOf, planWith, planOf}
+use Rattle.planning.specs.Plan.{recordFound, standingOf, accountOf, viewOf, planWith, planOf}
 use Rattle.ledger.specs.Change.{debitedAt}
 use Rattle.gate.specs.Deliver.{instructionIn, respond, deliver}
 use Rattle.admission.specs.Delivery.{Delivery}

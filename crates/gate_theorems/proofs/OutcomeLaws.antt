@@ -21,10 +21,10 @@ use Rattle.rules.specs.declared.decision.Standing.the-variants.{Unrecorded, Don
 use Rattle.rules.specs.declared.decision.View.{View}
 use Rattle.rules.specs.declared.decision.Change.{Change}
 use Rattle.rules.specs.declared.decision.Change.the-variants.{Keep, Append, Revoke}
-use Rattle.ledger.specs.declared.plan.Plan.{Plan}
+use Rattle.planning.specs.declared.plan.Plan.{Plan}
 use Rattle.rules.specs.declared.decision.Decided.{Decided}
 use Rattle.rules.specs.Decision.{isFault, faultCode}
-use Rattle.ledger.specs.Plan.{recordFound, standingOf, dateClosed, accountOf, dateOf, isShort, isFull, viewOf, planWith, planOf}
+use Rattle.planning.specs.Plan.{recordFound, standingOf, dateClosed, accountOf, dateOf, isShort, isFull, viewOf, planWith, planOf}
 use Rattle.rules.specs.Answering.{isCancel}
 use Rattle.ledger.specs.Change.{makeRecord, revoked, creditedAt, debitedAt, changed}
 use Rattle.gate.specs.Deliver.{answered, respond}

@@ -18,7 +18,7 @@ use Rattle.table.specs.Table.{findRecord, hasReceipt}
 use Rattle.lists.proofs.ListLaws.{found-none}
 use Rattle.table.proofs.TableLaws.{length-records, getD-records, from-at}
 use Rattle.table.specs.Table.{noRecord}
-use Rattle.ledger.specs.Plan.{dateClosed}
+use Rattle.planning.specs.Plan.{dateClosed}
 use Rattle.ledger.specs.Change.{makeRecord, revoked}
 use Rattle.gate.specs.Deliver.{instructionIn, respond, deliver}
 use Rattle.admission.specs.Delivery.{Delivery}

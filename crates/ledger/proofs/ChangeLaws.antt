@@ -19,11 +19,11 @@ use Rattle.validity.specs.Valid.{Sound, Ready, tableGood}
 use Rattle.table.proofs.TableLaws.{rows-set, rows-more, rows-kept}
 use Rattle.rules.specs.declared.decision.Change.{Change}
 use Rattle.rules.specs.declared.decision.Change.the-variants.{Keep, Append, Revoke}
-use Rattle.ledger.specs.declared.plan.Plan.{Plan}
-use Rattle.ledger.specs.Plan.{Within, recordFound, standingOf, accountOf, isFull, viewOf, planWith, planOf, Planned}
+use Rattle.planning.specs.declared.plan.Plan.{Plan}
+use Rattle.planning.specs.Plan.{Within, recordFound, standingOf, accountOf, isFull, viewOf, planWith, planOf, Planned}
 use Rattle.table.specs.Accounts.{Funds}
 use Rattle.ledger.specs.Change.{makeRecord, revoked, creditedAt, debitedAt, replacedAt, changed, executed, Made}
-use Rattle.ledger.proofs.PlanLaws.{found-within, found-amount, account-within}
+use Rattle.planning.proofs.PlanLaws.{found-within, found-amount, account-within}
 use Rattle.rules.proofs.DecisionLaws.{append-of}
 
 pub sound-funds : (g : Gate) → Sound g → Funds g 10000000000000000

@@ -14,7 +14,7 @@ use Rattle.table.specs.Table.{done, cancelled, Rows, rowsFrom}
 use Rattle.table.specs.Accounts.{credited, debited, withUsed}
 use Rattle.rules.specs.declared.decision.Change.{Change}
 use Rattle.rules.specs.declared.decision.Change.the-variants.{Keep, Append, Revoke}
-use Rattle.ledger.specs.declared.plan.Plan.{Plan}
+use Rattle.planning.specs.declared.plan.Plan.{Plan}
 
 -- the nth record has authcode n
 unfoldable pub nextAuthcode : Gate → ℕ

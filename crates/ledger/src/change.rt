@@ -1,9 +1,9 @@
 // The three changes that a decision may make: none, a record more, its record cancelled.
-use crate::plan;
-use crate::plan::Plan;
 use lists::Found;
 use payments::Details;
 use payments::Instruction;
+use planning::plan;
+use planning::plan::Plan;
 use rules::decision::Change;
 use table::Gate;
 use table::Record;
@@ -18,7 +18,7 @@ ghost use Rattle.table.specs.Table.{recordsOf, rowsFrom, Whole};
 ghost use Rattle.table.specs.Lent.{lent, before, after};
 ghost use Rattle.table.specs.Accounts.{withUsed};
 ghost use Rattle.validity.specs.Valid.{Ready, tableGood};
-ghost use Rattle.ledger.specs.Plan.{Within, planOf, Planned};
+ghost use Rattle.planning.specs.Plan.{Within, planOf, Planned};
 ghost use Rattle.table.specs.Accounts.{Funds};
 ghost use Rattle.ledger.specs.Change.{makeRecord, revoked, creditedAt, debitedAt, replacedAt, executed, Made};
 

@@ -1,6 +1,5 @@
 // The gate's ledger: what a request finds in accounts and table, and the changes that a decision makes there. No wire text.
 pub mod change;
-pub mod plan;
 
 use table::Gate;
 

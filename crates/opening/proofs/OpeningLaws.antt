@@ -21,7 +21,7 @@ use Rattle.table.specs.Accounts.{isAccount, accountsOf, findAccount, balanceAt,
 use Rattle.validity.specs.Valid.{Sound, tableGood}
 use Rattle.lists.proofs.ListLaws.{search-within}
 use Rattle.ledger.specs.declared.Reply.{Reply}
-use Rattle.ledger.specs.Plan.{Within}
+use Rattle.planning.specs.Plan.{Within}
 use Rattle.opening.specs.Opening.{replies, openTo, openAccount, drawOn, drawFrom, drawFunds}
 
 module _ (n : Number) (k : ℕ) where

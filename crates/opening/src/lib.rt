@@ -13,7 +13,7 @@ ghost use Rattle.fields.specs.Codes.{isKind};
 ghost use Rattle.fields.specs.Number.{isNumber};
 ghost use Rattle.table.specs.Lent.{before};
 ghost use Rattle.validity.specs.Valid.{Sound};
-ghost use Rattle.ledger.specs.Plan.{Within};
+ghost use Rattle.planning.specs.Plan.{Within};
 ghost use Rattle.opening.specs.Opening.{openTo, openAccount, drawOn, drawFrom, drawFunds};
 
 // Whether number and type are well formed.

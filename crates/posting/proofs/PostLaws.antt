@@ -19,7 +19,7 @@ use Rattle.table.specs.Table.{Rows, recordAt, recordsOf, rowsWith, findRecord}
 use Rattle.table.specs.Accounts.{accountsOf, findAccount, balanceAt, credited, withUsed}
 use Rattle.table.proofs.TableLaws.{getD-records, rows-set, rows-more, rows-kept}
 use Rattle.table.proofs.AccountLaws.{holder-within}
-use Rattle.ledger.specs.Plan.{Within, isFull}
+use Rattle.planning.specs.Plan.{Within, isFull}
 use Rattle.table.specs.Accounts.{Funds}
 use Rattle.table.specs.Table.{noRecord}
 use Rattle.ledger.specs.Change.{creditedAt}

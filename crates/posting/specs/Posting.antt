@@ -16,7 +16,7 @@ use Rattle.lists.specs.declared.Found.the-variants.{At, Nothing}
 use Rattle.lists.specs.Lists.{firstFrom}
 use Rattle.table.specs.Table.{Rows, recordsOf, done, noRecord, findRecord}
 use Rattle.table.specs.Accounts.{accountsOf, findAccount, withUsed}
-use Rattle.ledger.specs.Plan.{isFull}
+use Rattle.planning.specs.Plan.{isFull}
 use Rattle.ledger.specs.Change.{makeRecord, creditedAt}
 pub use Rattle.posting.specs.declared.verdict.Verdict.{Verdict}
 pub use Rattle.posting.specs.declared.verdict.Verdict.the-variants.{Keeps, Restores, Posts, Unposted}

@@ -1,56 +1,19 @@
--- A call by what it asks for, and one that row 68 refuses.
+-- Each call over records is the call over their rows.
 use Prim.Native.Nat.{ℕ}
-use mathlib.Core.Path.{_≡_, refl, ap}
-use mathlib.Core.Bool.{false}
+use mathlib.Core.Path.{_≡_, refl}
 use mathlib.Core.List.{List}
 use lib.ListN.{length}
 use Rattle.days.specs.declared.calendar.Day.{Day}
 use Rattle.fields.specs.declared.number.Number.{Number}
 use Rattle.table.specs.declared.Gate.{Gate}
 use Rattle.table.specs.declared.Record.{Record}
-use Rattle.table.specs.Table.{Rows}
-use Rattle.ledger.specs.declared.Reply.{Reply}
-use Rattle.validity.specs.Valid.{tableGood}
 use Rattle.opening.specs.Opening.{openAccount, drawFunds}
 use Rattle.gate.specs.Deliver.{deliver}
-use Rattle.admission.specs.Delivery.{Delivery, deliveryOf, undelivered}
+use Rattle.admission.specs.Delivery.{deliveryOf}
 use Rattle.settlement.specs.Settle.{settle}
-use Rattle.records.specs.declared.Call.{Call}
-use Rattle.records.specs.declared.What.{What}
-use Rattle.records.specs.declared.What.the-variants.{Request, Registry, Opening, Drawing}
-use Rattle.records.specs.Records.{rowsOf, callWith, callOn, backFrom, callRecords, requestCall, registryCall, openingCall, drawingCall}
+use Rattle.calls.specs.Calls.{callWith, callOn, requestCall, registryCall, openingCall, drawingCall}
+use Rattle.records.specs.Records.{rowsOf, backFrom, callRecords}
 
--- what its own function gave is the call
-module _ (g : Gate) (c : Call) (text out : List ℕ) (t : Rows) where
-  pub call-request : (d : Delivery) → d ≡ deliver g t (c .clock) text out → c .what ≡ Request → d ≡ callOn g c text out t
-  unfolding callOn callWith
-  call-request d e h = rw h e
-
-  pub call-registry : (d : Delivery) → d ≡ settle g t (c .clock) (c .day) text out → c .what ≡ Registry → d ≡ callOn g c text out t
-  unfolding callOn callWith
-  call-registry d e h = rw h e
-
-  pub call-opening : (r : Reply) → r ≡ openAccount g t (c .number) (c .kind) → c .what ≡ Opening → deliveryOf r t out ≡ callOn g c text out t
-  unfolding callOn callWith
-  call-opening r e h = rw h (ap (λ (x : Reply). deliveryOf x t out) e)
-
-  pub call-drawing : (r : Reply) → r ≡ drawFunds g t (c .number) (c .kind) (c .kopecks) → c .what ≡ Drawing → deliveryOf r t out ≡ callOn g c text out t
-  unfolding callOn callWith
-  call-drawing r e h = rw h (ap (λ (x : Reply). deliveryOf x t out) e)
-
--- a table that is not good: 68, and all is kept
-with-refused : (w : What) (g : Gate) (c : Call) (text out : List ℕ) (t : Rows) → tableGood g t ≡ false → callWith w g c text out t ≡ undelivered 68 g t out
-unfolding callWith deliver settle openAccount drawFunds
-with-refused Request g c text out t h = rw h
-with-refused Registry g c text out t h = rw h
-with-refused Opening g c text out t h = rw h
-with-refused Drawing g c text out t h = rw h
-
-pub call-refused : (g : Gate) (c : Call) (text out : List ℕ) (t : Rows) → tableGood g t ≡ false → callOn g c text out t ≡ undelivered 68 g t out
-unfolding callOn
-call-refused g c text out t h = with-refused (c .what) g c text out t h
-
--- ---- each call over records is the call over their rows
 module _ (g : Gate) (ts : List Record) (text out : List ℕ) where
   pub request-is : (clock : List ℕ) → callRecords g ts (requestCall clock) text out ≡ backFrom (length ts) (deliver g (rowsOf ts) clock text out)
   unfolding callRecords callOn callWith

@@ -39,13 +39,13 @@ use denote.Triple.Call.{calls-at}
 use denote.Triple.Clauses.{ensured, lasts}
 use Rattle.table.specs.Table.{Rows}
 use Rattle.admission.specs.Delivery.{Delivery, deliveryOf}
-use Rattle.records.specs.Records.{callOn}
+use Rattle.calls.specs.Calls.{callOn}
 use Rattle.records.specs.Copying.{Sized, onPart}
 use Rattle.table.specs.declared.Gate.{Gate}
 use Rattle.ledger.specs.declared.Reply.{Reply}
-use Rattle.records.specs.declared.Call.{Call}
-use Rattle.records.proofs.Call as Y
-use Rattle.records.proofs.Call.Laws as Y′
+use Rattle.calls.specs.declared.Call.{Call}
+use Rattle.calls.proofs.Call as Y
+use Rattle.calls.proofs.Call.Laws as Y′
 use Rattle.records.proofs.Types.{NumsR, NumbersR, DatesR, replyOf, ref, Lies, TextOwn, OutOwn}
 use Rattle.table.proofs.Gate as G
 use Rattle.table.proofs.Gate.Laws as G′

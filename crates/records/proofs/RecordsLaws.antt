@@ -23,12 +23,13 @@ use Rattle.table.specs.Table.{Rows, noRecord, numsOf, datesOf, recordFrom, reco
 use Rattle.validity.specs.Valid.{tableGood}
 use Rattle.table.proofs.TableLaws.{length-records, from-at, from-more, from-whole, records-from}
 use Rattle.admission.specs.Delivery.{Delivery, undelivered}
-use Rattle.records.specs.Records.{rowsOf, Called, calledOf, backFrom, callOn, callRecords}
+use Rattle.records.specs.Records.{rowsOf, Called, calledOf, backFrom, callRecords}
+use Rattle.calls.specs.Calls.{callOn}
 use Rattle.records.specs.Copying.{rowsIn, filled, restored, Sized, firstRows, onRows, onFirst, onPart}
-use Rattle.records.specs.declared.Call.{Call}
+use Rattle.calls.specs.declared.Call.{Call}
 use Rattle.records.proofs.Types.{replyOf}
 use Rattle.records.proofs.PartLaws.{part-called, part-refused}
-use Rattle.records.proofs.CallLaws.{call-refused}
+use Rattle.calls.proofs.CallLaws.{call-refused}
 
 -- ---- the rows of a list
 abbrev bytesOf : Record → List ℕ

@@ -9,7 +9,8 @@ use Rattle.admission.specs.Delivery.{Delivery, deliveryOf}
 use Rattle.settlement_theorems.specs.Cases as C
 use Rattle.settlement_theorems.specs.Cases.{emptyGate, emptyRows, blank, clock2, clock3, clock5, clock6, payment1, cancel1, line1, payment2, day20, day22, opens, atStart, pays, paysAgain, draws, cancelsDrawn, cancels, paysCancelled, settlesNone, settlesLine, paysLate, settlesLater}
 use Rattle.settlement_theorems.proofs.Cases.{cases}
-use Rattle.records.specs.Records.{rowsOf, callWith, callOn, Called, backFrom}
+use Rattle.records.specs.Records.{rowsOf, Called, backFrom}
+use Rattle.calls.specs.Calls.{callWith, callOn}
 use Rattle.records_theorems.specs.Lists.{CallMade, overRecords, overRows}
 use Rattle.records_theorems.specs.Claims.{request, registry, opening, draw, pay, drawn, cancelled, closed, start, run, KRecords}
 use Rattle.records_theorems.proofs.ListsTheorems.{lists-are}

@@ -24,13 +24,15 @@ use Rattle.gate_theorems.proofs.OutcomeLaws.{Outcome, stays, appends, revokes, 
 use Rattle.posting.specs.Posting.{Ledger}
 use Rattle.clearing.specs.Clearing.{settleLines, swept, sweptRecord}
 use Rattle.registry.specs.Registry.{registryLines}
-use Rattle.settlement.specs.Settle.{settleDay, settle}
+use Rattle.settlement.specs.Settle.{settle}
+use Rattle.closing.specs.Closing.{settleDay}
 use Rattle.settlement_theorems.proofs.SettleLaws.{settled-by}
 use Rattle.settlement_theorems.proofs.GoodTheorems.{lines-room}
-use Rattle.records.specs.declared.Call.{Call}
-use Rattle.records.specs.declared.What.{What}
-use Rattle.records.specs.declared.What.the-variants.{Request, Registry, Opening, Drawing}
-use Rattle.records.specs.Records.{rowsOf, callWith, callOn, Called, backFrom, callRecords}
+use Rattle.calls.specs.declared.Call.{Call}
+use Rattle.calls.specs.declared.What.{What}
+use Rattle.calls.specs.declared.What.the-variants.{Request, Registry, Opening, Drawing}
+use Rattle.records.specs.Records.{rowsOf, Called, backFrom, callRecords}
+use Rattle.calls.specs.Calls.{callWith, callOn}
 use Rattle.records.proofs.RecordsLaws.{records-are, rows-from}
 use Rattle.records_theorems.specs.Lists.{CallMade, overRecords, overRows}
 

@@ -2,8 +2,9 @@
 use Prim.Native.Nat.{ℕ}
 use mathlib.Core.List.{List, [], _∷_}
 use Rattle.admission.specs.Delivery.{Delivery}
-use Rattle.records.specs.declared.Call.{Call}
-use Rattle.records.specs.Records.{callOn, Called, callRecords}
+use Rattle.calls.specs.declared.Call.{Call}
+use Rattle.records.specs.Records.{Called, callRecords}
+use Rattle.calls.specs.Calls.{callOn}
 
 -- a call with its text and the buffer that is lent to it
 pub record CallMade : Type 0 where

@@ -43,16 +43,17 @@ use Rattle.table.specs.Table as TaTable
 use Rattle.validity.specs.Valid as VaValid
 use Rattle.rules.specs.Decision as RuDecision
 use Rattle.rules.specs.Answering as RuAnswering
-use Rattle.ledger.specs.Plan as LePlan
+use Rattle.planning.specs.Plan as LePlan
 use Rattle.ledger.specs.Change as LeChange
 use Rattle.gate.specs.Deliver as GaDeliver
 use Rattle.opening.specs.Opening as OpOpening
 use Rattle.posting.specs.Posting as PoPosting
 use Rattle.clearing.specs.Clearing as ClClearing
+use Rattle.closing.specs.Closing as ClClosing
 use Rattle.settlement.specs.Settle as SeSettle
 use Rattle.book_validity.specs.BookValid as BoBookValid
 use Rattle.book.specs.Entries as BoEntries
-use Rattle.daybook.specs.Acceptance as DaAcceptance
+use Rattle.acceptance.specs.Acceptance as AcAcceptance
 use Rattle.daybook.specs.Freezing as DaFreezing
 use Rattle.listing.specs.Listing as LiListing
 use Rattle.answering.specs.Answering as AgAnswering
@@ -347,11 +348,11 @@ unfolding FiAmount.kopecksAfter FiAmount.amountRead FiAmount.amountBytes
     OpOpening.openTo OpOpening.openAccount OpOpening.drawOn OpOpening.drawFrom OpOpening.drawFunds
     PoPosting.matches PoPosting.verdictOf PoPosting.restored PoPosting.postedRecord PoPosting.applied PoPosting.settleLine ClClearing.settleLines
     ClClearing.anyMatches ClClearing.isStray ClClearing.sweptRecord ClClearing.sweptGate ClClearing.sweepGates ClClearing.swept ClClearing.anyDone ClClearing.reportOf
-    SeSettle.settleDay SeSettle.settleRead SeSettle.settle
+    ClClosing.settleDay SeSettle.settleRead SeSettle.settle
     BoBookValid.entryFields BoBookValid.inTurn BoBookValid.entryGood BoBookValid.dayCount BoBookValid.daysGood BoBookValid.bookHead BoBookValid.bookGood
     BoEntries.stateNumber BoEntries.stateOf BoEntries.entriesOf BoEntries.bookFrom BoEntries.findEntry
-    DaAcceptance.isFrozen DaAcceptance.nextReceipt DaAcceptance.madeEntry DaAcceptance.mayAccept DaAcceptance.hasPlace DaAcceptance.acceptFault
-    DaAcceptance.accept
+    DaFreezing.isFrozen AcAcceptance.nextReceipt AcAcceptance.madeEntry AcAcceptance.mayAccept AcAcceptance.hasPlace AcAcceptance.acceptFault
+    AcAcceptance.accept
     DaFreezing.freezeOn DaFreezing.freeze LiListing.isListed LiListing.listed LiListing.registryOf LiListing.listOn LiListing.writeRegistry
     AgAnswering.paymentMeaning AgAnswering.cancelMeaning AgAnswering.meaning AgAnswering.turned AgAnswering.credits AgAnswering.authcodeAfter
     AgAnswering.answeredEntry AgAnswering.takeAt AgAnswering.takeReceipt AgAnswering.checkCode AgAnswering.takeAnswer

@@ -20,11 +20,12 @@ use Rattle.table.specs.declared.Record.{Record}
 use Rattle.table.specs.Table.{Rows, recordAt}
 use Rattle.validity.specs.Valid.{rangesGood, recordGood, authcodeGood, tableGood, Ready}
 use Rattle.validity.proofs.GoodLaws.{good-table}
-use Rattle.settlement.specs.Settle.{reported, settleDay, settleRead, settle}
+use Rattle.settlement.specs.Settle.{settleRead, settle}
+use Rattle.closing.specs.Closing.{reported, settleDay}
 use Rattle.admission.specs.Delivery.{Delivery, admission}
 use Rattle.admission.proofs.AdmissionLaws.{refused-by, admitted-by}
 use Rattle.posting.specs.Steps.{Held}
-use Rattle.clearing.specs.Lines.{LineRows, linesOf}
+use Rattle.line_rows.specs.Lines.{LineRows, linesOf}
 
 -- ---- what the checks give to the functions behind them
 good-amount : (g : Gate) (i : ℕ) (r : Record) → recordGood g i r ≡ true → r .amount < 1000000000

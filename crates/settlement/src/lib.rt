@@ -1,3 +1,2 @@
 // Settlement of the table by a day's registry.
-mod closing;
 pub mod settle;

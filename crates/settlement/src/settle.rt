@@ -1,9 +1,7 @@
 // A registry delivered to the gate.
-use crate::closing;
-use clearing::reading;
-use clearing::report;
 use days::calendar::Day;
 use ledger::Reply;
+use line_rows::reading;
 use registry::text;
 use table::Gate;
 ghost use mathlib.Core.Bool.{not, _&&_};
@@ -13,46 +11,10 @@ ghost use lib.ListN.{length};
 ghost use Rattle.days.specs.Calendar.{isDay, dayBefore};
 ghost use Rattle.registry.specs.Registry.{lineCount, registryLines};
 ghost use Rattle.table.specs.Lent.{lent, before, after};
-ghost use Rattle.settlement.specs.Settle.{reported, settleRead, settle};
+ghost use Rattle.settlement.specs.Settle.{settleRead, settle};
 ghost use Rattle.admission.specs.Delivery.{deliveryOf};
 ghost use Rattle.posting.specs.Steps.{Held};
-ghost use Rattle.clearing.specs.Lines.{linesOf, Read, linesLent, linesBefore};
-
-// Writes the report of a day that was closed before; nothing is settled.
-fn report_day(
-    nums: &[[u64; 6]],
-    numbers: &[[u8; 30]],
-    dates: &[[[u8; 19]; 3]],
-    g: Gate,
-    values: &[[u64; 4]],
-    holders: &[[u8; 30]],
-    days: &[[u8; 19]],
-    count: usize,
-    out: &mut [u8],
-) -> Reply
-    requires { ⌜ Held g (lent nums numbers dates) 10000000000000 ⌝ }
-    requires { ⌜ Read (linesLent values holders days) count × (512 ≤ length (now out)) ⌝ }
-    ensures { λ r. ⌜ deliveryOf r (before nums numbers dates) (now (out .exit))
-        ≡ reported g (before nums numbers dates) (linesOf (linesBefore values holders days) count) (now (out .entry)) ⌝ }
-{
-    let used = g.used;
-    report::write_report(
-        nums,
-        numbers,
-        dates,
-        used,
-        values,
-        holders,
-        days,
-        count,
-        out,
-    );
-    Reply {
-        code: 0,
-        gate: g,
-        size: count,
-    }
-}
+ghost use Rattle.line_rows.specs.Lines.{linesOf, Read, linesLent, linesBefore};
 
 // Whether the day is a date up to the closed one.
 fn is_past(closed: Day, day: Day) -> bool
@@ -100,7 +62,7 @@ pub(crate) fn settle_read(
         );
     }
     if is_past(closed, day) {
-        return report_day(nums, numbers, dates, g, values, holders, days, count, out);
+        return closing::report_day(nums, numbers, dates, g, values, holders, days, count, out);
     }
     Reply {
         code: 55,

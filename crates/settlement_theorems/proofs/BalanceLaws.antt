@@ -26,13 +26,14 @@ use Rattle.lists.proofs.ListLaws.{search-within}
 use Rattle.table.specs.Table.{Rows, findRecord}
 use Rattle.table.specs.Accounts.{isAccount, accountsOf, findAccount, noAccount, withBalance, balanceAt, gateBalance, credited, debited, withClosed}
 use Rattle.ledger.specs.Change.{creditedAt, debitedAt}
-use Rattle.ledger.specs.Plan.{isFull}
+use Rattle.planning.specs.Plan.{isFull}
 use Rattle.gate_theorems.proofs.RowsLaws.{SameNames, names-same, names-used, names-credited, names-debited}
 use Rattle.posting.specs.declared.verdict.Verdict.{Verdict}
 use Rattle.posting.specs.declared.verdict.Verdict.the-variants.{Keeps, Restores, Posts, Unposted}
 use Rattle.posting.specs.Posting.{matches, verdictOf, Ledger, applied, settleLine, ledgerOf}
 use Rattle.clearing.specs.Clearing.{settleLines, isStray, sweptGate, sweepGates, swept}
-use Rattle.settlement.specs.Settle.{settleDay, settle}
+use Rattle.settlement.specs.Settle.{settle}
+use Rattle.closing.specs.Closing.{settleDay}
 use Rattle.admission.specs.Delivery.{Delivery}
 use Rattle.settlement_theorems.specs.Balances.{isAt, creditOf, credits, debitOf, sweptFrom, creditsOn, sweptOn}
 use Rattle.posting.proofs.HeldLaws.{post-room, verdict-post}

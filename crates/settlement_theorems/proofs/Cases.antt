@@ -8,7 +8,7 @@ use Rattle.table.specs.Accounts.{findAccount}
 use Rattle.gate.specs.Deliver.{deliver}
 use Rattle.opening.specs.Opening.{openAccount, drawFunds}
 use Rattle.rules.specs.Answering as EA
-use Rattle.ledger.specs.Plan as LP
+use Rattle.planning.specs.Plan as LP
 use Rattle.ledger.specs.Change as LC
 use Rattle.gate.specs.Deliver as D
 use Rattle.rules.specs.Decision as E
@@ -35,13 +35,14 @@ use Rattle.registry.specs.Registry as RR
 use Rattle.settlement.specs.Settle.{settle}
 use Rattle.posting.specs.Posting as PO
 use Rattle.clearing.specs.Clearing as CL
+use Rattle.closing.specs.Closing as CG
 use Rattle.settlement.specs.Settle as S
 use Rattle.settlement_theorems.specs.Claims.{K}
 use Rattle.settlement_theorems.specs.Cases.{opens, atStart, pays, paysAgain, draws, cancelsDrawn, cancels, paysCancelled, settlesNone, settlesLine, paysLate, settlesLater}
 
 -- every definition on the way is computed
 pub cases : K
-unfolding opens atStart pays paysAgain draws cancelsDrawn cancels paysCancelled settlesNone settlesLine paysLate settlesLater T.recordsOf TL.tab TL.firstFrom TL.allFrom A.isAccount A.findAccount VA.tableGood LE.lentWell VA.gateGood VA.accountGood VA.near VA.recordGood VA.rangesGood VA.stateGood VA.accountKnown VA.authcodeGood L.every L.eqList N.numberByte N.isNumber N.sameNumber C.leapYear C.daysIn C.isDate C.dayOf C.twoDigits C.dayPart W.clockTime W.dateDay L.find G.digitsRead G.rangeRead M.kopecksAfter M.amountRead N.isNumberText N.numberRead W.dateRead T.rowsFrom T.findRecord A.credited A.debited L.written L.cursorAfter C.dayBefore LP.isFull LC.nextAuthcode LC.revoked deliver D.respond LP.planOf LP.planWith LP.viewOf LP.dateOf LP.accountOf EA.isCancel LP.dateClosed LC.changed LC.makeRecord EA.answerOf EA.answersAuthcode EA.answersDate EA.answerDate E.decisionOn E.isFault E.faultCode E.decision E.paymentNew E.checkCode E.cancelDone G.fixed G.decimal U.isHex U.hexValue U.wellCoded U.decoded P.splitAt MN.nameIndex MN.actionWord MN.actionOf MS.addPiece MS.gatherFrom MS.gathered MR.held MR.fieldOf MR.refused MR.firstFault MR.fieldFault MR.askedOf MR.fieldsRead MR.requestRead AN.element AN.messageOf AN.answerBytes openAccount O.openTo A.opened drawFunds O.drawFrom O.drawOn settle S.settleRead S.settleDay PO.matches PO.verdictOf PO.restored PO.postedRecord PO.applied PO.settleLine CL.settleLines CL.anyMatches CL.isStray CL.sweptRecord CL.sweptGate CL.sweepGates CL.swept CL.anyDone CL.reportOf RR.splitLines RR.countOf RR.lineCount RR.goodLine RR.goodLines RR.heldLines RR.registryLines RR.rising RR.registryFault RL.lineRead C.sameDay C.nextDay
+unfolding opens atStart pays paysAgain draws cancelsDrawn cancels paysCancelled settlesNone settlesLine paysLate settlesLater T.recordsOf TL.tab TL.firstFrom TL.allFrom A.isAccount A.findAccount VA.tableGood LE.lentWell VA.gateGood VA.accountGood VA.near VA.recordGood VA.rangesGood VA.stateGood VA.accountKnown VA.authcodeGood L.every L.eqList N.numberByte N.isNumber N.sameNumber C.leapYear C.daysIn C.isDate C.dayOf C.twoDigits C.dayPart W.clockTime W.dateDay L.find G.digitsRead G.rangeRead M.kopecksAfter M.amountRead N.isNumberText N.numberRead W.dateRead T.rowsFrom T.findRecord A.credited A.debited L.written L.cursorAfter C.dayBefore LP.isFull LC.nextAuthcode LC.revoked deliver D.respond LP.planOf LP.planWith LP.viewOf LP.dateOf LP.accountOf EA.isCancel LP.dateClosed LC.changed LC.makeRecord EA.answerOf EA.answersAuthcode EA.answersDate EA.answerDate E.decisionOn E.isFault E.faultCode E.decision E.paymentNew E.checkCode E.cancelDone G.fixed G.decimal U.isHex U.hexValue U.wellCoded U.decoded P.splitAt MN.nameIndex MN.actionWord MN.actionOf MS.addPiece MS.gatherFrom MS.gathered MR.held MR.fieldOf MR.refused MR.firstFault MR.fieldFault MR.askedOf MR.fieldsRead MR.requestRead AN.element AN.messageOf AN.answerBytes openAccount O.openTo A.opened drawFunds O.drawFrom O.drawOn settle S.settleRead CG.settleDay PO.matches PO.verdictOf PO.restored PO.postedRecord PO.applied PO.settleLine CL.settleLines CL.anyMatches CL.isStray CL.sweptRecord CL.sweptGate CL.sweepGates CL.swept CL.anyDone CL.reportOf RR.splitLines RR.countOf RR.lineCount RR.goodLine RR.goodLines RR.heldLines RR.registryLines RR.rising RR.registryFault RL.lineRead C.sameDay C.nextDay
 cases =
     record {
       opening = refl;

@@ -20,9 +20,10 @@ use Rattle.table.specs.declared.Record.{Record}
 use Rattle.table.specs.Table.{Rows, recordsOf}
 use Rattle.validity.specs.Valid.{tableGood}
 use Rattle.clearing.specs.Clearing.{anyDone, reportOf}
-use Rattle.settlement.specs.Settle.{settleDay, settleRead, settle}
+use Rattle.settlement.specs.Settle.{settleRead, settle}
+use Rattle.closing.specs.Closing.{settleDay}
 use Rattle.admission.specs.Delivery.{Delivery}
-use Rattle.settlement.proofs.DayLaws.{report-length}
+use Rattle.closing.proofs.DayLaws.{report-length}
 use Rattle.settlement_theorems.proofs.SettleLaws.{settled-by, report-now}
 
 -- every byte of a report is a mark

@@ -25,14 +25,15 @@ use Rattle.table.specs.Accounts.{accountsOf, findAccount, withClosed}
 use Rattle.validity.specs.Valid.{recordGood, accountKnown}
 use Rattle.table.proofs.TableLaws.{length-records, getD-records, from-at, from-whole, whole-from}
 use Rattle.table.specs.Table.{noRecord}
-use Rattle.ledger.specs.Plan.{isFull}
+use Rattle.planning.specs.Plan.{isFull}
 use Rattle.gate_theorems.proofs.RowsLaws.{SameNames}
 use Rattle.gate_theorems.proofs.KeptLaws.{GateRep, GateBase, gate-facts, base-of, names-apart}
 use Rattle.posting.specs.declared.verdict.Verdict.{Verdict}
 use Rattle.posting.specs.declared.verdict.Verdict.the-variants.{Keeps, Restores, Posts, Unposted}
 use Rattle.posting.specs.Posting.{matches, postVerdict, verdictOf, restored, postedRecord, Ledger, applied, settleLine}
 use Rattle.clearing.specs.Clearing.{settleLines, sweptRecord, swept}
-use Rattle.settlement.specs.Settle.{settleDay, settle}
+use Rattle.settlement.specs.Settle.{settle}
+use Rattle.closing.specs.Closing.{settleDay}
 use Rattle.admission.specs.Delivery.{Delivery}
 use Rattle.posting.proofs.HeldLaws.{post-room, verdict-post}
 use Rattle.settlement_theorems.proofs.SettleLaws.{line-onward, Passed, settle-elim, before, after, after-used}

@@ -33,7 +33,7 @@ use Rattle.table.specs.Accounts.{accountsOf, findAccount, withUsed}
 use Rattle.validity.specs.Valid.{stateGood, accountKnown, recordGood}
 use Rattle.table.proofs.TableLaws.{length-records, getD-records, from-at}
 use Rattle.table.specs.Table.{noRecord}
-use Rattle.ledger.specs.Plan.{isFull}
+use Rattle.planning.specs.Plan.{isFull}
 use Rattle.ledger.specs.Change.{makeRecord, revoked, creditedAt}
 use Rattle.gate_theorems.proofs.RecordsLaws.{Distinct}
 use Rattle.gate_theorems.proofs.RowsLaws.{SameNames, names-used, names-credited, good-there, made-good, state-good, revoked-good}
@@ -41,7 +41,8 @@ use Rattle.posting.specs.declared.verdict.Verdict.{Verdict}
 use Rattle.posting.specs.declared.verdict.Verdict.the-variants.{Keeps, Restores, Posts, Unposted}
 use Rattle.posting.specs.Posting.{matches, detailsOf, postVerdict, verdictOf, restored, postedRecord, Ledger, applied, settleLine}
 use Rattle.clearing.specs.Clearing.{settleLines, isStray, sweptRecord, swept}
-use Rattle.settlement.specs.Settle.{settleDay, settle}
+use Rattle.settlement.specs.Settle.{settle}
+use Rattle.closing.specs.Closing.{settleDay}
 use Rattle.admission.specs.Delivery.{Delivery}
 use Rattle.posting.proofs.HeldLaws.{post-room, post-new, verdict-post}
 use Rattle.settlement_theorems.proofs.SettleLaws.{Onward, applied-onward, line-onward, swept-onward, map-at, restores-at, settled-by, before, after, after-used}

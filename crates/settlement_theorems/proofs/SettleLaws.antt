@@ -33,7 +33,7 @@ use Rattle.validity.specs.Valid.{tableGood}
 use Rattle.table.proofs.TableLaws.{length-records, getD-records, from-at, records-from}
 use borrow.Author.Tests.{leb-true, eqb-true, eqb-false, not-true}
 use Rattle.table.specs.Table.{noRecord}
-use Rattle.ledger.specs.Plan.{isFull}
+use Rattle.planning.specs.Plan.{isFull}
 use Rattle.ledger.specs.Change.{revoked, debitedAt}
 use Rattle.ledger.proofs.ChangeLaws.{debit-used}
 use Rattle.posting.specs.declared.verdict.Verdict.{Verdict}
@@ -41,9 +41,10 @@ use Rattle.posting.specs.declared.verdict.Verdict.the-variants.{Keeps, Restores
 use Rattle.posting.specs.Posting.{matches, isDone, postVerdict, matchVerdict, verdictOf, restored, postedRecord, Ledger, ledgerOf, applied, settleLine}
 use Rattle.gate_theorems.proofs.RecordsLaws.{SameKey, key-equal, key-revoked}
 use Rattle.clearing.specs.Clearing.{settleLines, anyMatches, isStray, sweptRecord, sweptGate, sweepGates, swept, anyDone, reportOf}
-use Rattle.settlement.specs.Settle.{reported, settleDay, settleRead, settle}
+use Rattle.settlement.specs.Settle.{settleRead, settle}
+use Rattle.closing.specs.Closing.{reported, settleDay}
 use Rattle.admission.specs.Delivery.{Delivery, undelivered}
-use Rattle.settlement.proofs.DayLaws.{report-length}
+use Rattle.closing.proofs.DayLaws.{report-length}
 use Rattle.posting.proofs.HeldLaws.{credit-used}
 
 true-not-false : true ≡ false → ⊥

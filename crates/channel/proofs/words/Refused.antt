@@ -35,7 +35,7 @@ use Rattle.book.specs.Entries.{BookRows, entriesOf}
 use Rattle.book_validity.specs.BookValid.{bookGood}
 use Rattle.book_validity.proofs.BookLaws.{good-lent, good-book}
 use Rattle.daybook.specs.declared.freezing.Freezing.{Freezing}
-use Rattle.daybook.specs.Acceptance.{Acceptance, acceptFault, accept}
+use Rattle.acceptance.specs.Acceptance.{Acceptance, acceptFault, accept}
 use Rattle.daybook.specs.Freezing.{froze, freeze}
 use Rattle.listing.specs.Listing.{Listing, unlisted, writeRegistry}
 use Rattle.writing.specs.Writing.{Writing, unwritten, writeRequest, writeCheck}

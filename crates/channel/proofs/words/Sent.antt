@@ -33,8 +33,9 @@ use Rattle.gate.specs.Deliver.{deliver}
 use Rattle.admission.specs.Delivery.{Delivery}
 use Rattle.gate_theorems.proofs.AnsweredTheorems.{answerTo as gateAnswer, deliver-text, deliver-told, deliver-silent}
 use Rattle.clearing.specs.Clearing.{reportOf}
-use Rattle.settlement.specs.Settle.{settleDay, settle}
-use Rattle.settlement.proofs.DayLaws.{report-length}
+use Rattle.settlement.specs.Settle.{settle}
+use Rattle.closing.specs.Closing.{settleDay}
+use Rattle.closing.proofs.DayLaws.{report-length}
 use Rattle.settlement_theorems.proofs.SettleLaws.{settled-by, fault-keeps, report-now}
 use Rattle.book.specs.Entries.{findEntry}
 use Rattle.book_validity.specs.BookValid.{bookGood}

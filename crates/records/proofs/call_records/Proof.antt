@@ -42,7 +42,7 @@ use Rattle.records.proofs.RecordsLaws.{empty, all-calls}
 use Rattle.table.specs.declared.Record.{Record}
 use Rattle.table.specs.declared.Gate.{Gate}
 use Rattle.ledger.specs.declared.Reply.{Reply}
-use Rattle.records.specs.declared.Call.{Call}
+use Rattle.calls.specs.declared.Call.{Call}
 use Rattle.records.proofs.Lent.{lies-in, array-out}
 use Rattle.records.proofs.Types.{NumsR, NumbersR, DatesR, replyOf, ref, Lies, TextOwn}
 use Rattle.records.proofs.CallsOut.{ToRows, FromRows, calls-to-rows, calls-from-rows}
@@ -52,8 +52,8 @@ use Rattle.table.proofs.Gate as G
 use Rattle.table.proofs.Gate.Laws as G′
 use Rattle.ledger.proofs.Reply as D
 use Rattle.ledger.proofs.Reply.Laws as D′
-use Rattle.records.proofs.Call as Y
-use Rattle.records.proofs.Call.Laws as Y′
+use Rattle.calls.proofs.Call as Y
+use Rattle.calls.proofs.Call.Laws as Y′
 use Rattle.records.proofs.to_rows.Symbol as tr-def
 use Rattle.records.proofs.to_rows.Symbol.{name as #records·to-rows}
 use Rattle.records.proofs.to_rows.Met as tr-thm

@@ -1,13 +1,13 @@
 use borrow.Author.Needs.{needs}
 use Rattle.clearing.proofs.LinesLaws.{Going, going-start, going-held, going-last, going-on, going-end, ledger-end}
-use Rattle.clearing.proofs.ReadLaws.{read-nums, read-numbers, read-dates, read-small}
+use Rattle.line_rows.proofs.ReadLaws.{read-nums, read-numbers, read-dates, read-small}
 use Prim.Native.Nat.{_≤_, _-_}
 use mathlib.Core.Path.{_≡_, _∙_}
 use lib.ListN.{length}
 use Rattle.table.specs.Table.{Rows}
 use Rattle.clearing.specs.Clearing.{settleLines}
 use Rattle.posting.specs.Posting.{ledgerOf}
-use Rattle.clearing.specs.Lines.{LineRows, linesOf}
+use Rattle.line_rows.specs.Lines.{LineRows, linesOf}
 use Rattle.clearing.proofs.each_line.settle_lines.Statement.{statement}
 use Rattle.clearing.proofs.each_line.settle_lines.Tie as tie
 

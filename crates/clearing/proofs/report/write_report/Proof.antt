@@ -1,13 +1,13 @@
 use borrow.Author.Needs.{needs}
 use Rattle.clearing.proofs.ReportLaws.{report-end, report-on, report-place}
-use Rattle.clearing.proofs.ReadLaws.{read-nums, read-numbers, read-dates}
+use Rattle.line_rows.proofs.ReadLaws.{read-nums, read-numbers, read-dates}
 use Prim.Native.Nat.{_≤_, _-_}
 use mathlib.Core.Path.{_≡_}
 use lib.ListN.{length, drop}
 use Rattle.texts.specs.Lists.{over}
 use Rattle.table.specs.Table.{recordsOf}
 use Rattle.clearing.specs.Clearing.{reportOf}
-use Rattle.clearing.specs.Lines.{LineRows, linesOf}
+use Rattle.line_rows.specs.Lines.{LineRows, linesOf}
 use Rattle.clearing.proofs.report.write_report.Statement.{statement}
 use Rattle.clearing.proofs.report.write_report.Tie as tie
 

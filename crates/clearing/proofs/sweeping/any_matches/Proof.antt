@@ -1,11 +1,11 @@
 use borrow.Author.Needs.{needs}
 use Rattle.clearing.proofs.SweepLaws.{any-none, any-here, any-pass}
-use Rattle.clearing.proofs.ReadLaws.{read-nums, read-numbers, read-dates}
+use Rattle.line_rows.proofs.ReadLaws.{read-nums, read-numbers, read-dates}
 use Prim.Native.Nat.{_≤_, _-_}
 use mathlib.Core.Path.{_≡_}
 use lib.ListN.{drop}
 use Rattle.clearing.specs.Clearing.{anyMatches}
-use Rattle.clearing.specs.Lines.{LineRows, linesOf}
+use Rattle.line_rows.specs.Lines.{LineRows, linesOf}
 use Rattle.clearing.proofs.sweeping.any_matches.Statement.{statement}
 use Rattle.clearing.proofs.sweeping.any_matches.Tie as tie
 

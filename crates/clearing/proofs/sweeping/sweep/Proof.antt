@@ -4,7 +4,7 @@ use Prim.Native.Nat.{_≤_, _-_}
 use mathlib.Core.Path.{_≡_}
 use lib.ListN.{length}
 use Rattle.table.specs.Table.{Rows}
-use Rattle.clearing.specs.Lines.{LineRows, linesOf}
+use Rattle.line_rows.specs.Lines.{LineRows, linesOf}
 use Rattle.clearing.proofs.sweeping.sweep.Statement.{statement}
 use Rattle.clearing.proofs.sweeping.sweep.Tie as tie
 

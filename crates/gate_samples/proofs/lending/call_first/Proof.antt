@@ -52,7 +52,7 @@ use denote.Exit.{yes}
 use Rattle.table.specs.declared.Record.{Record}
 use Rattle.table.specs.declared.Gate.{Gate}
 use Rattle.ledger.specs.declared.Reply.{Reply}
-use Rattle.records.specs.declared.Call.{Call}
+use Rattle.calls.specs.declared.Call.{Call}
 use Rattle.records.specs.Records.{Called, calledOf, callRecords}
 use Rattle.records.proofs.Lent.{lies-in, lies-apart}
 use Rattle.records.proofs.Types.{ref, TextOwn, OutOwn}
@@ -64,8 +64,8 @@ use Rattle.table.proofs.Gate as G
 use Rattle.table.proofs.Gate.Laws as G′
 use Rattle.ledger.proofs.Reply as D
 use Rattle.ledger.proofs.Reply.Laws as D′
-use Rattle.records.proofs.Call as Y
-use Rattle.records.proofs.Call.Laws as Y′
+use Rattle.calls.proofs.Call as Y
+use Rattle.calls.proofs.Call.Laws as Y′
 use Rattle.gate_samples.proofs.lending.Desk as K
 use Rattle.gate_samples.proofs.lending.Desk.Laws as K′
 use Rattle.records.proofs.call_records as de

@@ -1,6 +1,6 @@
 use borrow.Author.Needs.{needs}
 use Rattle.ledger.proofs.ChangeLaws.{replaced, nothing-replaced}
-use Rattle.ledger.proofs.PlanLaws.{place-below}
+use Rattle.planning.proofs.PlanLaws.{place-below}
 use Rattle.ledger.proofs.change.replace_at.Statement.{statement}
 use Rattle.ledger.proofs.change.replace_at.Tie as tie
 

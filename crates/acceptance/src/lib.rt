@@ -1,0 +1,2 @@
+// A payment taken at the counter, entered in the book.
+pub mod accepting;

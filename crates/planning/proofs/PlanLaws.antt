@@ -1,0 +1,146 @@
+-- Laws of what the gate looks up for a request.
+use Prim.Native.Nat.{ℕ, _≤_, _<_}
+use native.Mathlib.Nat.{zero-add}
+use native.Mathlib.Omega.{arith}
+use mathlib.Core.Path.{_≡_, refl, sym, _∙_}
+use mathlib.Core.Bool.{Bool, true, false}
+use mathlib.Core.List.{List}
+use lib.Dec.{leb}
+use lib.IntN.{pos}
+use lib.Signed.{ltZ}
+use lib.ListN.{length, getD}
+use lib.Seq.{length-take-le}
+use borrow.Author.Tests.{eq-eqb, ne-eqb}
+use Rattle.days.specs.Calendar.{upTo}
+use Rattle.dates.specs.Date.{dateDay}
+use Rattle.payments.specs.declared.Instruction.{Instruction}
+use Rattle.table.specs.declared.Record.{Record}
+use Rattle.table.specs.declared.Gate.{Gate}
+use Rattle.lists.specs.declared.Found.{Found}
+use Rattle.lists.specs.declared.Found.the-variants.{At, Nothing}
+use Rattle.lists.specs.Lists.{isFound, allFrom}
+use Rattle.table.specs.Table.{Rows, recordAt, recordsOf, hasReceipt, findRecord}
+use Rattle.table.specs.Accounts.{isAccount, accountsOf, findAccount, balanceAt}
+use Rattle.fields.specs.declared.number.Number.{Number}
+use Rattle.fields.specs.Amount.{isAmount}
+use Rattle.fields.specs.Codes.{isReceipt}
+use Rattle.texts.proofs.Tests.{and-left, and-right}
+use Rattle.texts.proofs.DigitLaws.{within-high}
+use Rattle.validity.specs.Valid.{Sound, rangesGood, authcodeGood, recordGood, gateGood, lentGood, tableGood}
+use Rattle.table.proofs.TableLaws.{length-records, getD-records}
+use Rattle.lists.proofs.ListLaws.{search-within, all-at}
+use Rattle.rules.specs.declared.decision.Standing.{Standing}
+use Rattle.rules.specs.declared.decision.Standing.the-variants.{Done, Cancelled}
+use Rattle.rules.specs.declared.decision.View.{View}
+use Rattle.rules.specs.declared.decision.Decided.{Decided}
+use Rattle.planning.specs.declared.plan.Plan.{Plan}
+use Rattle.rules.specs.Decision.{decision}
+use Rattle.planning.specs.Plan.{planWith, planOf, Within, recordFound, standingOf, dateClosed, accountOf, dateOf, isShort, isFull, viewOf}
+use Rattle.table.specs.Table.{noRecord}
+use Rattle.rules.specs.Answering.{isCancel}
+
+-- ---- a place that was found
+pub place-below : (used n i : ℕ) (f : Found) → f ≡ At i → Within f used → used ≤ n → i < n
+place-below used n i f e w h = let l : i < used = w .at i e in omega arith
+
+-- ---- the record's standing
+module _ (f : Found) (r : Record) (i : ℕ) (is : f ≡ At i) where
+  pub stands-done : r .state ≡ 1 → (s : Standing) → s ≡ Done → s ≡ standingOf f r
+  stands-done e s q = q ∙ rw (is, eq-eqb _ _ e)
+
+  pub stands-cancelled : (r .state ≡ 1 → ⊥) → (s : Standing) → s ≡ Cancelled → s ≡ standingOf f r
+  stands-cancelled n s q = q ∙ rw (is, ne-eqb _ _ n)
+
+-- ---- dates and accounts that a request concerns
+pub closed-day : (g : Gate) (d : List ℕ) (b : Bool) → b ≡ upTo (g .closed) (dateDay d) → b ≡ dateClosed g d
+unfolding dateClosed
+closed-day g d b e = e
+
+module _ (g : Gate) (q : Instruction) (r : Record) (t : Bool) (et : t ≡ isCancel (q .action)) where
+  pub account-record : t ≡ true → (f : Found) → f ≡ findAccount (r .number) (r .kind) (accountsOf g) → f ≡ accountOf g q r
+  unfolding accountOf
+  account-record h f e = e ∙ rw (← et, h)
+
+  pub account-own : t ≡ false → (f : Found) → f ≡ findAccount (q .details .number) (q .details .kind) (accountsOf g) → f ≡ accountOf g q r
+  unfolding accountOf
+  account-own h f e = e ∙ rw (← et, h)
+
+  pub date-record : t ≡ true → (d : List ℕ) → d ≡ r .date → d ≡ dateOf q r
+  unfolding dateOf
+  date-record h d e = e ∙ rw (← et, h)
+
+  pub date-own : t ≡ false → (d : List ℕ) → d ≡ q .details .date → d ≡ dateOf q r
+  unfolding dateOf
+  date-own h d e = e ∙ rw (← et, h)
+
+-- ---- balances
+module _ (g : Gate) (f : Found) (n : ℕ) where
+  pub account-place : (a : ℕ) → f ≡ At a → Sound g → Within f (g .count) → a < 256
+  account-place a e s w = let h : a < g .count = w .at a e in omega (arith, s .count)
+
+  pub short-at : (a : ℕ) → f ≡ At a → (t : Bool) → t ≡ ltZ (balanceAt g a) (pos n) → t ≡ isShort g f n
+  short-at a e t q = q ∙ rw e
+
+  pub short-none : f ≡ Nothing → false ≡ isShort g f n
+  short-none e = rw e
+
+pub view-is : (g : Gate) (lent : ℕ) (q : Instruction) (r : Record) (account : Found) (k c s : Bool) (d : List ℕ)
+    → k ≡ isFound account → d ≡ dateOf q r → c ≡ dateClosed g d → s ≡ isShort g account (r .amount)
+    → record { known = k; full = leb lent (g .used); closed = c; short = s } ≡ viewOf g lent q r account
+unfolding viewOf isFull
+view-is g lent q r account k c s d ek ed ec es = rw (ek, ec, ed, es)
+
+-- ---- the record that was found
+module _ (t : Rows) (used : ℕ) (f : Found) where
+  pub record-at : (i : ℕ) → f ≡ At i → Within f used → (r : Record) → r ≡ recordAt t i → r ≡ recordFound (recordsOf t used) f
+  record-at i e w r q = q ∙ rw e (sym (getD-records t used i noRecord (w .at i e)))
+
+  pub record-none : f ≡ Nothing → (r : Record) → r ≡ noRecord → r ≡ recordFound (recordsOf t used) f
+  record-none e r q = q ∙ rw e
+
+-- ---- what the check of row 68 gives for a plan
+module _ (g : Gate) (t : Rows) (good : tableGood g t ≡ true) where
+  records-good : allFrom (recordGood g) 0 (recordsOf t (g .used)) ≡ true
+  unfolding tableGood
+  records-good = and-right (gateGood g) _ (and-right (lentGood g t) _ good)
+
+  -- a record's amount is in its range
+  record-amount : (i : ℕ) → i < g .used → isAmount ((getD (recordsOf t (g .used)) i noRecord) .amount) ≡ true
+  unfolding recordGood rangesGood
+  record-amount i h =
+      let r : Record = getD (recordsOf t (g .used)) i noRecord in
+      let l : i < length (recordsOf t (g .used)) = rw (length-records t (g .used)) h in
+      let a : recordGood g i r ≡ true = all-at (recordGood g) (recordsOf t (g .used)) noRecord i records-good l in
+      let b : rangesGood r ≡ true = and-left (rangesGood r) _ (and-right (authcodeGood i r) _ a) in
+      and-left (isAmount (r .amount)) _ (and-right (isReceipt (r .receipt)) _ b)
+
+  module _ (x : ℕ) (f : Found) (is : f ≡ findRecord x (recordsOf t (g .used))) where
+    pub found-within : Within f (g .used)
+    unfolding findRecord
+    found-within = record { at = λ i e. rw (zero-add, length-records t (g .used)) at (search-within (hasReceipt x) 0 (recordsOf t (g .used)) i (sym is ∙ e)) }
+
+    pub found-amount : (r : Record) → r ≡ recordFound (recordsOf t (g .used)) f → r .amount < 1000000000
+    found-amount r e = rw e (go f refl)
+      where
+        go : (h : Found) → f ≡ h → (recordFound (recordsOf t (g .used)) h) .amount < 1000000000
+        go (At i) q = let b = within-high 1 999999999 ((getD (recordsOf t (g .used)) i noRecord) .amount) (record-amount i (found-within .at i q)) in omega arith
+        go Nothing q = omega arith
+
+-- an account that was looked for is in use
+pub account-within : (g : Gate) (q : Instruction) (r : Record) (f : Found) → Sound g → f ≡ accountOf g q r → Within f (g .count)
+unfolding accountOf findAccount
+account-within g q r f s is = go (isCancel (q .action)) refl
+  where
+    inside : (n : Number) (k : ℕ) → f ≡ findAccount n k (accountsOf g) → Within f (g .count)
+    inside n k e =
+        record { at = λ i h. rw (zero-add, length-take-le (g .count) (g .accounts) (omega (arith, s .count, s .places))) at (search-within (isAccount n k) 0 (accountsOf g) i (sym e ∙ h)) }
+
+    go : (z : Bool) → isCancel (q .action) ≡ z → Within f (g .count)
+    go true z = inside (r .number) (r .kind) (is ∙ rw z)
+    go false z = inside (q .details .number) (q .details .kind) (is ∙ rw z)
+
+pub plan-is : (g : Gate) (rs : List Record) (lent fault : ℕ) (q : Instruction) (f : Found) (r : Record) (k : Found) (v : View) (s : Standing) (d : Decided)
+    → f ≡ findRecord (q .details .receipt) rs → r ≡ recordFound rs f → k ≡ accountOf g q r → v ≡ viewOf g lent q r k → s ≡ standingOf f r
+    → d ≡ decision fault (q .action) s v → (p : Plan) → p ≡ record { decided = d; found = f; payment = r; account = k } → p ≡ planOf g rs lent fault q
+unfolding planOf planWith
+plan-is g rs lent fault q f r k v s d ef er ek ev es ed p e = e ∙ rw (ed, ev, es, ek, er, ef)
