@@ -186,7 +186,7 @@ impl Gates {
         if owned.balances() != balances {
             return Some(format!("lent balances {balances:?}\nowned {:?}", owned.balances()));
         }
-        let same = |(a, b): (roosteryore::Record, &twin::ledger::Record)| {
+        let same = |(a, b): (roosteryore::Record, &twin::owned::Record)| {
             let (receipt, cancel) = (a.payment.receipt, a.cancel.unwrap_or_default());
             (receipt, a.done, a.credit, cancel) == (b.payment.receipt, b.done, b.credit, b.cancel)
         };

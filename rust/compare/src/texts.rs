@@ -18,7 +18,9 @@ pub fn start_day(chance: &mut Chance) -> Day {
 
 /// A day as the twin counts it on, or the same where there is none.
 pub fn next_day(day: Day) -> Day {
-    crate::sides::day(day).next().map_or(day, |next| Day::new(next.year, next.month, next.day))
+    let own = crate::sides::day(day);
+    let next = if own.is_real() { own.day_after() } else { None };
+    next.map_or(day, |next| Day::new(next.year, next.month, next.day))
 }
 
 /// A day up to three after this one.

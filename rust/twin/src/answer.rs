@@ -1,171 +1,182 @@
-//! Answers: written by the gate, read by the agent.
-use crate::date::{Date, read_date};
-use crate::fields::read_digits;
+//! The gate's answers, written and read.
+
+use crate::codes::*;
+use crate::date::{self, Date};
+use crate::fields;
 use crate::request::Action;
+use crate::scan::Scan;
 use crate::writer::Writer;
 
-/// An answer's code, and where it has them authcode and date.
+const XML_LINE: &[u8] = b"<?xml version=\"1.0\" encoding=\"windows-1251\"?>";
+
+/// What an answer says; its message follows from the code and is not kept when read.
 #[derive(Clone, Copy, Debug, PartialEq, Eq)]
-pub struct Answer {
-    /// The code.
-    pub code: u64,
-    /// The record's place, from 1.
-    pub authcode: Option<u64>,
-    /// The date.
-    pub date: Option<Date>,
+pub(crate) struct Answer {
+    pub(crate) code: u64,
+    pub(crate) authcode: Option<u64>,
+    pub(crate) date: Option<Date>,
 }
 
-const XML: &[u8] = b"<?xml version=\"1.0\" encoding=\"windows-1251\"?>";
-
-/// The most bytes that a message may have.
-const MESSAGE_MOST: usize = 512;
-
-fn message(code: u64) -> Option<&'static [u8]> {
-    match code {
-        30 => Some(b"table full"),
-        31 => Some(b"bad request"),
-        32 => Some(b"bad reason"),
-        _ => None,
-    }
-}
-
-/// Writes an answer and gives its size.
-pub fn write_answer(answer: &Answer, out: &mut [u8]) -> usize {
-    let mut writer = Writer::new(out);
-    writer.put(XML);
-    writer.put(b"<response><code>");
-    writer.put_digits(answer.code);
-    writer.put(b"</code>");
-    if let Some(authcode) = answer.authcode {
-        writer.put(b"<authcode>");
-        writer.put_digits(authcode);
-        writer.put(b"</authcode>");
-    }
-    if let Some(date) = answer.date {
-        writer.put(b"<date>");
-        writer.put(&date);
-        writer.put(b"</date>");
-    }
-    if let Some(message) = message(answer.code) {
-        writer.put(b"<message>");
-        writer.put(message);
-        writer.put(b"</message>");
-    }
-    writer.put(b"</response>");
-    writer.size
-}
-
-/// What is still to be read.
-struct Reader<'a>(&'a [u8]);
-
-impl<'a> Reader<'a> {
-    /// Passes these bytes; none where others stand here.
-    fn pass(&mut self, text: &[u8]) -> Option<()> {
-        self.0 = self.0.strip_prefix(text)?;
-        Some(())
+impl Answer {
+    /// A code alone.
+    pub(crate) fn bare(code: u64) -> Answer {
+        Answer { code, authcode: None, date: None }
     }
 
-    fn pass_blanks(&mut self) {
-        let count = self.0.iter().take_while(|byte| b" \t\r\n".contains(byte)).count();
-        self.0 = &self.0[count..];
+    /// A code with the time at which it was given.
+    pub(crate) fn timed(code: u64, clock: &Date) -> Answer {
+        Answer { code, authcode: None, date: Some(*clock) }
     }
 
-    /// Passes a tag after which blanks may stand.
-    fn pass_tag(&mut self, tag: &[u8]) -> Option<()> {
-        self.pass(tag)?;
-        self.pass_blanks();
-        Some(())
+    /// What is said of the record at a place.
+    pub(crate) fn of_record(code: u64, place: usize, date: &Date) -> Answer {
+        Answer { code, authcode: Some(place as u64 + 1), date: Some(*date) }
     }
 
-    /// The content of an element if it opens here; an element that is opened has to be closed.
-    fn element(&mut self, open: &[u8], close: &[u8]) -> Option<Option<&'a [u8]>> {
-        if self.pass(open).is_none() {
-            return Some(None);
+    fn message(&self) -> Option<&'static [u8]> {
+        match self.code {
+            TABLE_FULL => Some(b"table full"),
+            BAD_REQUEST => Some(b"bad request"),
+            BAD_REASON => Some(b"bad reason"),
+            _ => None,
         }
-        let (content, rest) = self.0.split_at(self.0.iter().position(|&byte| byte == b'<')?);
-        self.0 = rest;
-        self.pass_tag(close)?;
-        Some(Some(content))
+    }
+
+    /// Writes the answer and tells its length; 512 bytes are always enough.
+    pub(crate) fn write(&self, out: &mut [u8]) -> usize {
+        let mut writer = Writer::new(out);
+        writer.put(XML_LINE).put(b"<response><code>").put_digits(self.code).put(b"</code>");
+        if let Some(authcode) = self.authcode {
+            writer.put(b"<authcode>").put_digits(authcode).put(b"</authcode>");
+        }
+        if let Some(date) = &self.date {
+            writer.put(b"<date>").put(date).put(b"</date>");
+        }
+        if let Some(message) = self.message() {
+            writer.put(b"<message>").put(message).put(b"</message>");
+        }
+        writer.put(b"</response>").written()
+    }
+
+    /// Reads an answer to a request of this action; none where its template does not allow the text.
+    pub(crate) fn read(action: Action, text: &[u8]) -> Option<Answer> {
+        let mut scan = Scan { rest: text };
+        tag(&mut scan, XML_LINE)?;
+        tag(&mut scan, b"<response>")?;
+        let code = element(&mut scan, b"<code>", b"/code>", 4)?.and_then(|text| fields::read_digits(text, 4))?;
+        let authcode = element(&mut scan, b"<authcode>", b"/authcode>", 15)?;
+        let date = element(&mut scan, b"<date>", b"/date>", 19)?;
+        element(&mut scan, b"<message>", b"/message>", 512)?;
+        tag(&mut scan, b"</response>")?;
+        let fits = match action {
+            Action::Check => authcode.is_none() && date.is_none(),
+            Action::Payment => date.is_some() || code == UNKNOWN_ACTION || code == BAD_REQUEST,
+            Action::Status | Action::Cancel => true,
+        };
+        let authcode = optional(authcode, |text| fields::read_digits(text, 15))?;
+        let date = optional(date, |text| Date::try_from(text).ok().filter(date::is_date))?;
+        (fits && scan.rest.is_empty()).then_some(Answer { code, authcode, date })
     }
 }
 
-/// The answer to a request of this action, if the text is one.
-pub fn read_answer(action: Action, text: &[u8]) -> Option<Answer> {
-    let mut reader = Reader(text);
-    reader.pass_tag(XML)?;
-    reader.pass_tag(b"<response>")?;
-    let code = read_digits(reader.element(b"<code>", b"</code>")??, 4)?;
-    let (authcode, date) = if action == Action::Check { (None, None) } else { read_details(&mut reader)? };
-    if action == Action::Payment && date.is_none() && code != 1 && code != 31 {
-        return None;
-    }
-    let message = reader.element(b"<message>", b"</message>")?;
-    if message.is_some_and(|message| message.len() > MESSAGE_MOST) {
-        return None;
-    }
-    reader.pass_tag(b"</response>")?;
-    reader.0.is_empty().then_some(Answer { code, authcode, date })
+/// Steps over a tag after which blanks may stand.
+fn tag(scan: &mut Scan, literal: &[u8]) -> Option<()> {
+    scan.skip(literal)?;
+    scan.skip_blanks();
+    Some(())
 }
 
-/// Authcode and date, where they stand.
-fn read_details(reader: &mut Reader) -> Option<(Option<u64>, Option<Date>)> {
-    let authcode = match reader.element(b"<authcode>", b"</authcode>")? {
-        Some(digits) => Some(read_digits(digits, 15)?),
-        None => None,
-    };
-    let date = match reader.element(b"<date>", b"</date>")? {
-        Some(text) => Some(read_date(text)?),
-        None => None,
-    };
-    Some((authcode, date))
+/// The content of an element, `Some(None)` where another one stands; `close` is its closing tag without the `<`.
+fn element<'a>(scan: &mut Scan<'a>, open: &[u8], close: &[u8], most: usize) -> Option<Option<&'a [u8]>> {
+    if scan.skip(open).is_none() {
+        return Some(None);
+    }
+    let content = scan.until(b'<', most)?;
+    tag(scan, close)?;
+    Some(Some(content))
+}
+
+/// What is absent may be so; what is there has to be readable.
+fn optional<T>(text: Option<&[u8]>, reader: impl Fn(&[u8]) -> Option<T>) -> Option<Option<T>> {
+    match text {
+        None => Some(None),
+        Some(text) => reader(text).map(Some),
+    }
 }
 
 #[cfg(test)]
 mod tests {
     use super::*;
-    use Action::{Check, Payment, Status};
 
-    const HEAD: &str = "<?xml version=\"1.0\" encoding=\"windows-1251\"?>";
+    const CLOCK: Date = *b"2005-09-20T15:55:00";
 
     fn read(action: Action, body: &str) -> Option<Answer> {
-        read_answer(action, format!("{HEAD}{body}").as_bytes())
+        let text = [XML_LINE, b"<response>", body.as_bytes(), b"</response>"].concat();
+        Answer::read(action, &text)
     }
 
     #[test]
-    fn blanks_stand_after_tags_only() {
-        let spaced = "\r\n <response>\t<code>0007</code> <message>x</message>\n</response> \n";
-        assert_eq!(read(Check, spaced), Some(Answer { code: 7, authcode: None, date: None }));
-        assert_eq!(read(Check, "<response><code> 0</code></response>"), None);
-        assert_eq!(read(Check, "<response><code>0</code></response>x"), None);
-        assert_eq!(read_answer(Check, format!(" {HEAD}<response><code>0</code></response>").as_bytes()), None);
+    fn what_is_written_is_read() {
+        use Action::{Cancel, Check, Payment, Status};
+        let cases = [
+            (Check, Answer::bare(0)),
+            (Check, Answer::bare(TABLE_FULL)),
+            (Payment, Answer::bare(BAD_REQUEST)),
+            (Payment, Answer::bare(UNKNOWN_ACTION)),
+            (Payment, Answer::timed(TABLE_FULL, &CLOCK)),
+            (Status, Answer::of_record(WAS_CANCELLED, 4095, &CLOCK)),
+            (Cancel, Answer::bare(BAD_REASON)),
+        ];
+        for (action, answer) in cases {
+            let mut out = [7; 512];
+            let len = answer.write(&mut out);
+            assert_eq!(Answer::read(action, &out[..len]), Some(answer));
+            assert_eq!(Answer::read(action, &out[..len - 1]), None);
+            assert!(out[len..].iter().all(|&byte| byte == 7));
+        }
     }
 
     #[test]
-    fn each_action_has_its_template() {
-        let bare = "<response><code>0</code></response>";
-        assert!(read(Check, bare).is_some() && read(Status, bare).is_some());
-        assert!(read(Payment, bare).is_none(), "a payment's answer has a date");
-        assert!(read(Payment, "<response><code>31</code></response>").is_some());
-        let dated = "<response><code>0</code><authcode>1</authcode><date>2005-09-20T15:55:00</date></response>";
-        assert!(read(Payment, dated).is_some_and(|answer| answer.authcode == Some(1)));
-        assert!(read(Check, dated).is_none());
+    fn templates_differ_by_action() {
+        let dated = "<code>0</code><date>2005-09-20T15:55:00</date>";
+        assert!(read(Action::Check, dated).is_none() && read(Action::Payment, dated).is_some());
+        assert!(read(Action::Payment, "<code>9</code>").is_none() && read(Action::Cancel, "<code>9</code>").is_some());
+        assert!(read(Action::Check, "<code>0</code><authcode>1</authcode>").is_none());
+        assert_eq!(read(Action::Check, "<code>0007</code>").map(|answer| answer.code), Some(7));
+        assert_eq!(read(Action::Status, "<code>0</code><authcode>000</authcode>").and_then(|a| a.authcode), Some(0));
     }
 
     #[test]
-    fn fields_have_their_widths() {
-        assert!(read(Check, "<response><code>9999</code></response>").is_some());
-        assert!(read(Check, "<response><code>10000</code></response>").is_none());
-        let said = |size: usize| format!("<response><code>0</code><message>{:x<size$}</message></response>", "");
-        assert!(read(Check, &said(512)).is_some());
-        assert!(read(Check, &said(513)).is_none());
+    fn blanks_stand_only_after_tags() {
+        let spaced =
+            b"<?xml version=\"1.0\" encoding=\"windows-1251\"?>\r\n<response> \t<code>0</code>\n\n</response>\r\n";
+        assert!(Answer::read(Action::Check, spaced).is_some());
+        for body in ["<code> 0</code>", "<code>0 </code>", "<code >0</code>", "x<code>0</code>", ""] {
+            assert!(read(Action::Check, body).is_none(), "{body}");
+        }
+        assert!(Answer::read(Action::Check, &[b" ", &spaced[..]].concat()).is_none());
+        assert!(Answer::read(Action::Check, &[&spaced[..], b"x"].concat()).is_none());
     }
 
     #[test]
-    fn what_is_written_reads_back() {
-        let answer = Answer { code: 30, authcode: None, date: Some(*b"2005-09-20T15:55:00") };
-        let mut out = [0; 512];
-        let size = write_answer(&answer, &mut out);
-        assert!(out[..size].ends_with(b"<message>table full</message></response>"));
-        assert_eq!(read_answer(Payment, &out[..size]), Some(answer));
+    fn elements_have_limits() {
+        let message = |len: usize| format!("<code>11</code><message>{}</message>", "\u{1}".repeat(len));
+        assert!(read(Action::Check, &message(0)).is_some() && read(Action::Check, &message(512)).is_some());
+        assert!(read(Action::Check, &message(513)).is_none());
+        let bodies = [
+            "<code>00000</code>",
+            "<code></code>",
+            "<code>-1</code>",
+            "<code>0</code><authcode></authcode>",
+            "<code>0</code><authcode>1234567890123456</authcode>",
+            "<code>0</code><date>2005-09-31T15:55:00</date>",
+            "<code>0</code><message></message><date>2005-09-20T15:55:00</date>",
+            "<code>0</code><message>a<b</message>",
+            "<code>0</code><code>0</code>",
+            "<code>0</code><add>x</add>",
+        ];
+        for body in bodies {
+            assert!(read(Action::Status, body).is_none(), "{body}");
+        }
     }
 }

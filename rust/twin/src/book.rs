@@ -1,19 +1,24 @@
-//! The agent's book over lent rows: every call checks all that it is lent (row 68) before anything else.
-use crate::answer::{Answer, read_answer};
-use crate::date::{Date, Day, NO_DATE, day_of};
-use crate::fields::{Number, RECEIPT_MOST, is_amount, is_kind, is_reason, is_receipt};
-use crate::ledger::Payment;
-use crate::registry::put_line;
-use crate::request::{Action, Request, write_request};
-use crate::rows::{self, AUTHCODE, STATE};
+//! The agent over rows that the caller lends, checked whole at each call.
+
+use crate::answer::Answer;
+use crate::asking;
+use crate::codes::*;
+use crate::date::{self, Date, Day};
+use crate::entries::{self, ASKED, AUTHCODE, CANCEL_ASKED, CANCELLED, CREDITED, STATE, UNPOSTED};
+use crate::fields::{self, Number, TOP_KIND, TOP_RECEIPT};
+use crate::registry::{self, MOST_LINES};
+use crate::request::Action;
+use crate::rules::LEAST_BUFFER;
 use crate::writer::Writer;
 
-/// The agent's state without its entries.
+const LEAST_REGISTRY_BUFFER: usize = 65_536;
+
+/// What the agent keeps besides the entries.
 #[derive(Clone, Copy, Debug, PartialEq, Eq)]
 pub struct Head {
-    /// The first receipt.
+    /// The receipt of the first entry.
     pub first: u64,
-    /// How many entries are in use.
+    /// How many entries are used.
     pub used: usize,
     /// The last frozen day.
     pub frozen: Day,
@@ -21,228 +26,215 @@ pub struct Head {
     pub settled: bool,
 }
 
-/// The lent book, with each payment's date.
-pub type Rows<'a> = rows::Rows<'a, Date>;
-
-/// The states of an entry.
-mod state {
-    pub const ASKED: u64 = 1;
-    pub const CREDITED: u64 = 2;
-    pub const CANCEL_ASKED: u64 = 3;
-    pub const CANCELLED: u64 = 4;
-    pub const UNPOSTED: u64 = 5;
+/// The entries, one a place, in three columns of one length.
+pub struct Rows<'a> {
+    /// Receipt, length of the number, type, kopecks, state and authcode. States: 1 asked, 2 credited, 3 cancel-asked,
+    /// 4 cancelled, 5 unposted.
+    pub nums: &'a mut [[u64; 6]],
+    /// The number's bytes.
+    pub numbers: &'a mut [[u8; 30]],
+    /// The payment's date.
+    pub dates: &'a mut [Date],
 }
 
-/// The most entries of one day.
-const DAY_MOST: usize = 512;
-/// What a request's buffer has at least.
-const REQUEST_ROOM: usize = 512;
-/// What a registry's buffer has at least.
-const REGISTRY_ROOM: usize = 65_536;
-
 impl Head {
-    /// Accepts a payment: the code and the receipt.
-    pub fn accept(&mut self, mut rows: Rows, number: Number, kind: u64, kopecks: u64, date: &Date) -> (u64, u64) {
+    /// Takes a payment into the book; the code and the receipt given, 0 where refused.
+    pub fn accept(&mut self, rows: Rows, number: Number, kind: u64, kopecks: u64, date: &Date) -> (u64, u64) {
         if !self.is_sound(&rows) {
-            return (68, 0);
+            return (UNSOUND, 0);
         }
-        let Some(day) = day_of(date).filter(|&day| day > self.frozen) else {
-            return (60, 0);
-        };
-        if !number.is_good() || !is_kind(kind) || !is_amount(kopecks) {
-            return (60, 0);
+        let dated = date::is_date(date) && date::date_key(date) > self.frozen.key();
+        if !is_good(&number, kind, kopecks) || !dated {
+            return (WRONG_FIELD, 0);
         }
-        let (place, receipt) = (self.used, self.first + self.used as u64);
-        let of_day = rows.dates[..place].iter().filter(|date| day_of(date) == Some(day)).count();
-        if place == rows.nums.len() || of_day >= DAY_MOST || !is_receipt(receipt) {
-            return (61, 0);
+        let place = self.used;
+        let receipt = self.first + place as u64;
+        // Fewer entries than a day may have need no counting.
+        let day_is_full = || place >= MOST_LINES && self.count_on(&rows, date::date_key(date)) >= MOST_LINES;
+        if place == rows.nums.len() || receipt > TOP_RECEIPT || day_is_full() {
+            return (BOOK_FULL, 0);
         }
-        rows.store(place, &Payment { receipt, number, kind, kopecks, date: *date }, state::ASKED, 0, *date);
+        rows.nums[place] = [receipt, number.len as u64, kind, kopecks, ASKED, 0];
+        rows.numbers[place] = number.bytes;
+        rows.dates[place] = *date;
         self.used += 1;
-        (0, receipt)
+        (FINE, receipt)
     }
 
-    /// Writes a check: the code and its size.
+    /// Writes a check; the code and the length of the request.
     pub fn write_check(&self, rows: Rows, number: Number, kind: u64, kopecks: u64, out: &mut [u8]) -> (u64, usize) {
         if !self.is_sound(&rows) {
-            return (68, 0);
+            (UNSOUND, 0)
+        } else if out.len() < LEAST_BUFFER {
+            (SHORT_BUFFER, 0)
+        } else if !is_good(&number, kind, kopecks) {
+            (WRONG_FIELD, 0)
+        } else {
+            (FINE, asking::write_check(&number.bytes[..number.len], kind, kopecks, out))
         }
-        if out.len() < REQUEST_ROOM {
-            return (50, 0);
-        }
-        if !number.is_good() || !is_kind(kind) || !is_amount(kopecks) {
-            return (60, 0);
-        }
-        let request = Request { action: Action::Check, number, kind, kopecks, receipt: 0, date: NO_DATE, reason: 0 };
-        (0, write_request(&request, out))
     }
 
-    /// Writes a payment, a status or a cancel: the code and its size. The reason is a cancel's alone.
+    /// Writes a payment, status or cancel; the code and the length of the request. The reason is a cancel's alone. A
+    /// check has no receipt and is a malformed field here.
     pub fn write(&self, rows: Rows, action: Action, receipt: u64, reason: u64, out: &mut [u8]) -> (u64, usize) {
         if !self.is_sound(&rows) {
-            return (68, 0);
+            return (UNSOUND, 0);
         }
-        if out.len() < REQUEST_ROOM {
-            return (50, 0);
+        if out.len() < LEAST_BUFFER {
+            return (SHORT_BUFFER, 0);
         }
-        if !is_receipt(receipt) || (action == Action::Cancel && !is_reason(reason)) {
-            return (60, 0);
+        let asks = action != Action::Check && (action != Action::Cancel || fields::is_reason(reason));
+        if !asks || !fields::is_receipt(receipt) {
+            return (WRONG_FIELD, 0);
         }
-        let Some(place) = self.place(receipt) else {
-            return (62, 0);
+        let Some(place) = self.place(receipt) else { return (NOT_IN_BOOK, 0) };
+        if self.is_frozen(&rows, place) || !may_write(action, rows.nums[place][STATE]) {
+            return (FORBIDDEN, 0);
+        }
+        let len = match action {
+            Action::Payment => asking::write_payment(&entries::payment(&rows, place), out),
+            Action::Cancel => asking::write_cancel(receipt, reason, out),
+            Action::Status | Action::Check => asking::write_status(receipt, out),
         };
-        if !may_write(action, rows.nums[place][STATE]) || self.is_frozen(&rows.dates[place]) {
-            return (63, 0);
-        }
         if action == Action::Cancel {
-            rows.nums[place][STATE] = state::CANCEL_ASKED;
+            rows.nums[place][STATE] = CANCEL_ASKED;
         }
-        let Payment { number, kind, kopecks, date, .. } = rows.payment(place, rows.dates[place]);
-        (0, write_request(&Request { action, number, kind, kopecks, receipt, date, reason }, out))
+        (FINE, len)
     }
 
-    /// Takes the answer to a request of this action and receipt.
+    /// Takes the answer to a request of this action and receipt; the code. A check's receipt is not looked at.
     pub fn take_answer(&self, rows: Rows, action: Action, receipt: u64, text: &[u8]) -> u64 {
         if !self.is_sound(&rows) {
-            return 68;
+            return UNSOUND;
         }
         if action == Action::Check {
-            return if read_answer(action, text).is_some() { 0 } else { 64 };
+            return Answer::read(action, text).map_or(UNREADABLE, |_| FINE);
         }
-        if !is_receipt(receipt) {
-            return 60;
+        if !fields::is_receipt(receipt) {
+            return WRONG_FIELD;
         }
-        let Some(place) = self.place(receipt) else {
-            return 62;
-        };
-        let Some(answer) = read_answer(action, text) else {
-            return 64;
-        };
-        if !self.is_frozen(&rows.dates[place]) {
-            turn(&mut rows.nums[place], action, &answer);
+        let Some(place) = self.place(receipt) else { return NOT_IN_BOOK };
+        let Some(answer) = Answer::read(action, text) else { return UNREADABLE };
+        if !self.is_frozen(&rows, place) {
+            heed(&mut rows.nums[place], action, &answer);
         }
-        0
+        FINE
     }
 
-    /// Freezes a day.
+    /// Freezes the next day; the code.
     pub fn freeze(&mut self, rows: Rows, day: Day) -> u64 {
         if !self.is_sound(&rows) {
-            return 68;
+            UNSOUND
+        } else if !day.is_real() {
+            WRONG_DAY
+        } else if !self.settled || self.frozen.day_after() != Some(day) {
+            NOT_NEXT_DAY
+        } else {
+            (self.frozen, self.settled) = (day, false);
+            FINE
         }
-        if !day.is_real() {
-            return 55;
-        }
-        if self.frozen.next() != Some(day) || !self.settled {
-            return 66;
-        }
-        self.frozen = day;
-        self.settled = false;
-        0
     }
 
-    /// Writes a day's registry: the code and its size.
+    /// Writes the registry of a frozen day; the code and the length of the registry.
     pub fn write_registry(&self, rows: Rows, day: Day, out: &mut [u8]) -> (u64, usize) {
         if !self.is_sound(&rows) {
-            return (68, 0);
+            return (UNSOUND, 0);
         }
-        if out.len() < REGISTRY_ROOM {
-            return (50, 0);
+        if out.len() < LEAST_REGISTRY_BUFFER {
+            return (SHORT_BUFFER, 0);
         }
         if !day.is_real() || day > self.frozen {
-            return (55, 0);
+            return (WRONG_DAY, 0);
         }
         let mut writer = Writer::new(out);
-        for place in self.listed(&rows, day) {
-            put_line(&mut writer, &rows.payment(place, rows.dates[place]));
-        }
-        (0, writer.size)
+        self.listed(&rows, day).for_each(|place| registry::put_line(&mut writer, &entries::payment(&rows, place)));
+        (FINE, writer.written())
     }
 
-    /// Takes a day's report.
-    pub fn take_report(&mut self, rows: Rows, day: Day, marks: &[u8]) -> u64 {
+    /// Takes the report on a frozen day's registry; the code.
+    pub fn take_report(&mut self, rows: Rows, day: Day, report: &[u8]) -> u64 {
         if !self.is_sound(&rows) {
-            return 68;
+            return UNSOUND;
         }
         if !day.is_real() || day > self.frozen {
-            return 55;
+            return WRONG_DAY;
         }
-        let listed: Vec<usize> = self.listed(&rows, day).collect();
-        if marks.len() != listed.len() || !marks.iter().all(|mark| b"01".contains(mark)) {
-            return 65;
+        // No more lines than a day may have, so the places fit; what is left over is not looked at.
+        let mut places = [0; MOST_LINES];
+        let count = self.listed(&rows, day).zip(&mut places).map(|(place, kept)| *kept = place).count();
+        if report.len() != count || !report.iter().all(|mark| matches!(mark, b'0' | b'1')) {
+            return WRONG_REPORT;
         }
         if day == self.frozen && !self.settled {
-            for (place, &mark) in listed.into_iter().zip(marks) {
-                rows.nums[place][STATE] = if mark == b'1' { state::CREDITED } else { state::UNPOSTED };
+            for (&place, mark) in places.iter().zip(report) {
+                rows.nums[place][STATE] = if *mark == b'1' { CREDITED } else { UNPOSTED };
             }
             self.settled = true;
         }
-        0
-    }
-
-    /// Row 68 of the book.
-    fn is_sound(&self, rows: &Rows) -> bool {
-        rows.may_hold(self.used)
-            && is_receipt(self.first)
-            && self.frozen.is_real()
-            && (0..self.used).all(|place| self.entry_is_sound(rows, place))
-            && days_are_sound(&rows.dates[..self.used])
-    }
-
-    fn entry_is_sound(&self, rows: &Rows, place: usize) -> bool {
-        let [receipt, _, kind, kopecks, state, authcode] = rows.nums[place];
-        receipt == self.first + place as u64
-            && is_receipt(receipt)
-            && rows.payment(place, NO_DATE).number.is_good()
-            && is_kind(kind)
-            && is_amount(kopecks)
-            && (state::ASKED..=state::UNPOSTED).contains(&state)
-            && authcode <= RECEIPT_MOST
-    }
-
-    fn is_frozen(&self, date: &Date) -> bool {
-        day_of(date).is_some_and(|day| day <= self.frozen)
-    }
-
-    fn place(&self, receipt: u64) -> Option<usize> {
-        let place = receipt.checked_sub(self.first)?;
-        (place < self.used as u64).then_some(place as usize)
-    }
-
-    /// The places that a day's registry lists.
-    fn listed<'a>(&self, rows: &'a Rows, day: Day) -> impl Iterator<Item = usize> + 'a {
-        (0..self.used).filter(move |&place| {
-            rows.nums[place][STATE] != state::CANCELLED && day_of(&rows.dates[place]) == Some(day)
-        })
+        FINE
     }
 }
 
-/// Whether each date is one, and no day has more than 512.
-fn days_are_sound(dates: &[Date]) -> bool {
-    let Some(mut days) = dates.iter().map(day_of).collect::<Option<Vec<Day>>>() else {
-        return false;
-    };
-    if days.len() <= DAY_MOST {
-        return true;
-    }
-    days.sort_unstable();
-    days.chunk_by(|a, b| a == b).all(|day| day.len() <= DAY_MOST)
+fn is_good(number: &Number, kind: u64, kopecks: u64) -> bool {
+    number.is_good() && kind <= TOP_KIND && fields::is_kopecks(kopecks)
 }
 
+/// Whether an entry in this state lets the request be written, its day being open.
 fn may_write(action: Action, state: u64) -> bool {
     match action {
-        Action::Payment => state == state::ASKED,
-        Action::Cancel => matches!(state, state::ASKED | state::CREDITED | state::CANCEL_ASKED),
         Action::Check | Action::Status => true,
+        Action::Payment => state == ASKED,
+        Action::Cancel => matches!(state, ASKED | CREDITED | CANCEL_ASKED),
     }
 }
 
-/// What an answer on an unfrozen day makes of an entry.
-fn turn(nums: &mut [u64; 6], action: Action, answer: &Answer) {
-    let revoked = answer.code == 7 || (action == Action::Cancel && answer.code == 0);
-    if revoked && matches!(nums[STATE], state::ASKED | state::CANCEL_ASKED) {
-        nums[STATE] = state::CANCELLED;
-    } else if !revoked && answer.code == 0 && nums[STATE] == state::ASKED {
-        nums[STATE] = state::CREDITED;
-        nums[AUTHCODE] = answer.authcode.unwrap_or(nums[AUTHCODE]);
+/// Moves an entry of an open day as an answer tells. A refusal moves nothing: a late copy may still succeed.
+fn heed(nums: &mut [u64; 6], action: Action, answer: &Answer) {
+    match (action, answer.code, nums[STATE]) {
+        (Action::Payment | Action::Status, FINE, ASKED) => {
+            nums[STATE] = CREDITED;
+            nums[AUTHCODE] = answer.authcode.unwrap_or(nums[AUTHCODE]);
+        }
+        (Action::Cancel, FINE, ASKED | CANCEL_ASKED) | (_, WAS_CANCELLED, ASKED | CANCEL_ASKED) => {
+            nums[STATE] = CANCELLED;
+        }
+        _ => {}
+    }
+}
+
+#[cfg(test)]
+mod tests {
+    use super::*;
+
+    #[test]
+    fn states_let_requests_be_written() {
+        let states = |action| (ASKED..=UNPOSTED).filter(|&state| may_write(action, state)).collect::<Vec<_>>();
+        assert_eq!(states(Action::Payment), [ASKED]);
+        assert_eq!(states(Action::Status), [ASKED, CREDITED, CANCEL_ASKED, CANCELLED, UNPOSTED]);
+        assert_eq!(states(Action::Cancel), [ASKED, CREDITED, CANCEL_ASKED]);
+    }
+
+    #[test]
+    fn answers_move_few_entries() {
+        for (action, code, state) in [Action::Payment, Action::Status, Action::Cancel]
+            .into_iter()
+            .flat_map(|action| (0..100).flat_map(move |code| (1..=5).map(move |state| (action, code, state))))
+        {
+            let mut nums = [7, 1, 1, 100, state, 3];
+            heed(&mut nums, action, &Answer { code, authcode: Some(9), date: None });
+            let expected = match (action == Action::Cancel, code, state) {
+                (false, 0, ASKED) => [CREDITED, 9],
+                (true, 0, ASKED | CANCEL_ASKED) | (_, 7, ASKED | CANCEL_ASKED) => [CANCELLED, 3],
+                _ => [state, 3],
+            };
+            assert_eq!(nums[STATE..], expected, "{action:?} {code} {state}");
+        }
+    }
+
+    #[test]
+    fn an_answer_without_authcode_leaves_the_stored_one() {
+        let mut nums = [7, 1, 1, 100, ASKED, 3];
+        heed(&mut nums, Action::Status, &Answer::bare(FINE));
+        assert_eq!(nums, [7, 1, 1, 100, CREDITED, 3]);
     }
 }

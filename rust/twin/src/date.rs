@@ -1,15 +1,18 @@
-//! Days and written dates.
+//! Written dates and calendar days of the years 2000 to 2099.
 
 /// A written date, `YYYY-MM-DDThh:mm:ss`.
 pub type Date = [u8; 19];
 
-/// What stands for the cancel date of a payment that is done.
-pub const NO_DATE: Date = [0; 19];
+/// What stands in place of a date that a record does not have.
+pub(crate) const NO_DATE: Date = [0; 19];
 
-/// A day; it may be none.
+/// How many day numbers there are; see [`day_number`].
+pub(crate) const DAY_NUMBERS: usize = 100 * 12 * 31;
+
+/// A calendar day. A value of this type need not be a real day.
 #[derive(Clone, Copy, Debug, PartialEq, Eq, PartialOrd, Ord, Hash)]
 pub struct Day {
-    /// The year.
+    /// The year, 2000 to 2099 in a real day.
     pub year: u16,
     /// The month, from 1.
     pub month: u8,
@@ -18,103 +21,215 @@ pub struct Day {
 }
 
 impl Day {
-    /// A day by its year, month and day.
+    /// The day of these three figures, taken as they are.
     pub const fn new(year: u16, month: u8, day: u8) -> Day {
         Day { year, month, day }
     }
 
-    /// Whether there is such a day, from 2000 to 2099.
+    /// Whether the calendar has this day.
     pub fn is_real(self) -> bool {
-        (2000..=2099).contains(&self.year)
-            && (1..=12).contains(&self.month)
-            && (1..=month_days(self.year, self.month)).contains(&self.day)
+        (2000..=2099).contains(&self.year) && self.day >= 1 && self.day <= month_days(self.year, self.month)
     }
 
-    /// The day after it, if both are days.
-    pub fn next(self) -> Option<Day> {
-        let Day { year, month, day } = self;
-        if !self.is_real() {
-            return None;
+    /// The day after a real one; none after the last of 2099.
+    pub fn day_after(self) -> Option<Day> {
+        if self.day < month_days(self.year, self.month) {
+            return Some(Day::new(self.year, self.month, self.day + 1));
         }
-        let next = if day < month_days(year, month) {
-            Day::new(year, month, day + 1)
-        } else if month < 12 {
-            Day::new(year, month + 1, 1)
-        } else {
-            Day::new(year + 1, 1, 1)
-        };
-        next.is_real().then_some(next)
+        match (self.year, self.month) {
+            (year, month) if month < 12 => Some(Day::new(year, month + 1, 1)),
+            (year, _) if year < 2099 => Some(Day::new(year + 1, 1, 1)),
+            _ => None,
+        }
+    }
+
+    /// The day as a number that orders like the day and compares with [`date_key`].
+    pub(crate) fn key(self) -> u64 {
+        // Figures past two digits spill into bytes above '9', which keeps the order of unreal days too.
+        let [yy, mm, dd] = [(self.year % 100) as u8, self.month, self.day];
+        let tens = |n: u8| b'0' + n / 10;
+        let ones = |n: u8| b'0' + n % 10;
+        match self.year {
+            0..2000 => 0,
+            2000..=2099 => u64::from_be_bytes([tens(yy), ones(yy), b'-', tens(mm), ones(mm), b'-', tens(dd), ones(dd)]),
+            _ => u64::MAX,
+        }
     }
 }
 
 fn month_days(year: u16, month: u8) -> u8 {
-    match month {
-        // no century but 2000 is in range, and that has a 29th of February
-        2 if year % 4 == 0 => 29,
-        2 => 28,
-        4 | 6 | 9 | 11 => 30,
-        _ => 31,
+    const DAYS: [u8; 13] = [0, 31, 28, 31, 30, 31, 30, 31, 31, 30, 31, 30, 31];
+    // Between 2000 and 2099 every fourth year leaps.
+    let leap = month == 2 && year % 4 == 0;
+    DAYS.get(usize::from(month)).map_or(0, |days| days + u8::from(leap))
+}
+
+/// The day of a good date as a number: the eight bytes of `YY-MM-DD` in order of weight.
+#[inline]
+pub(crate) fn date_key(date: &Date) -> u64 {
+    u64::from_be_bytes(eight(date, 2))
+}
+
+/// Whether the bytes are a real date with a real time.
+#[inline]
+pub(crate) fn is_date(date: &Date) -> bool {
+    day_number(date).is_some()
+}
+
+/// A small number for the day of a date, equal for equal days and below [`DAY_NUMBERS`]; none where it is no date.
+#[inline]
+pub(crate) fn day_number(date: &Date) -> Option<usize> {
+    day_of_words(eight(date, 0), eight(date, 3)).filter(|_| has_time(date))
+}
+
+/// Judges a row of dates, in which a date is mostly of the day of the one before it.
+pub(crate) struct Judge {
+    /// The day judged good last, as two overlapping words, and its number.
+    last: ([u8; 8], [u8; 8], usize),
+}
+
+impl Judge {
+    pub(crate) const fn new() -> Judge {
+        Judge { last: (*b"2000-01-", *b"0-01-01T", 0) }
+    }
+
+    /// The same as [`day_number`].
+    #[inline]
+    pub(crate) fn day_number(&mut self, date: &Date) -> Option<usize> {
+        let (century, year_on) = (eight(date, 0), eight(date, 3));
+        if (century, year_on) != (self.last.0, self.last.1) {
+            self.last = (century, year_on, day_of_words(century, year_on)?);
+        }
+        has_time(date).then_some(self.last.2)
+    }
+
+    #[inline]
+    pub(crate) fn is_date(&mut self, date: &Date) -> bool {
+        self.day_number(date).is_some()
     }
 }
 
-const SHAPE: &Date = b"0000-00-00T00:00:00";
-
-/// The day of a written date, if the nineteen bytes are one.
-pub fn day_of(date: &Date) -> Option<Day> {
-    // no early end: a loop of one length is vectorised
-    let off = |(&byte, &shape): (&u8, &u8)| byte.wrapping_sub(shape) > if shape == b'0' { 9 } else { 0 };
-    if date.iter().zip(SHAPE).map(off).fold(false, |any, is| any | is) {
-        return None;
-    }
-    let two = |at: usize| (date[at] - b'0') * 10 + (date[at + 1] - b'0');
-    if two(11) > 23 || two(14) > 59 || two(17) > 59 {
-        return None;
-    }
-    let day = Day::new(u16::from(two(0)) * 100 + u16::from(two(2)), two(5), two(8));
-    day.is_real().then_some(day)
+/// The number of the day written as `YYYY-MM-` and `Y-MM-DDT`.
+#[inline]
+fn day_of_words(century: [u8; 8], year_on: [u8; 8]) -> Option<usize> {
+    const CENTURY_TO_MONTH: Mould = Mould::new(b"2000-00-", b"2099-19-");
+    const YEAR_TO_DAY: Mould = Mould::new(b"0-00-00T", b"9-19-39T");
+    let [_, _, y1, y2, ..] = CENTURY_TO_MONTH.digits(century)?;
+    let [_, _, m1, m2, _, d1, d2, _] = YEAR_TO_DAY.digits(year_on)?;
+    let (year, month, day) = (y1 * 10 + y2, m1 * 10 + m2, d1 * 10 + d2);
+    let real = day >= 1 && day <= month_days(u16::from(year), month);
+    real.then(|| (usize::from(year) * 12 + usize::from(month) - 1) * 31 + usize::from(day) - 1)
 }
 
-/// Whether the nineteen bytes are a date.
-pub fn is_date(date: &Date) -> bool {
-    day_of(date).is_some()
+#[inline]
+fn has_time(date: &Date) -> bool {
+    const TIME: Mould = Mould::new(b"00:00:00", b"29:59:59");
+    TIME.digits(eight(date, 11)).is_some_and(|[h1, h2, ..]| h1 * 10 + h2 < 24)
 }
 
-/// A date from the bytes of a field.
-pub fn read_date(text: &[u8]) -> Option<Date> {
-    let date = text.try_into().ok()?;
-    is_date(&date).then_some(date)
+fn eight(date: &Date, from: usize) -> [u8; 8] {
+    let mut bytes = [0; 8];
+    bytes.copy_from_slice(&date[from..from + 8]);
+    bytes
+}
+
+/// The least and greatest text that eight bytes may be, judged byte by byte but all eight at once.
+struct Mould {
+    least: u64,
+    slack: u64,
+}
+
+impl Mould {
+    const fn new(least: &[u8; 8], greatest: &[u8; 8]) -> Mould {
+        let mut slack = [0; 8];
+        let mut at = 0;
+        while at < 8 {
+            slack[at] = 15 - (greatest[at] - least[at]);
+            at += 1;
+        }
+        Mould { least: u64::from_le_bytes(*least), slack: u64::from_le_bytes(slack) }
+    }
+
+    /// How far each byte is above the least one, if none is too far.
+    #[inline]
+    fn digits(&self, text: [u8; 8]) -> Option<[u8; 8]> {
+        // A byte too far up reaches its upper half by itself or with its slack added; a carry into the next byte can
+        // only come from one that is already seen to be so.
+        let digits = u64::from_le_bytes(text) ^ self.least;
+        let excess = (digits | digits.wrapping_add(self.slack)) & 0xF0F0_F0F0_F0F0_F0F0;
+        (excess == 0).then(|| digits.to_le_bytes())
+    }
 }
 
 #[cfg(test)]
 mod tests {
     use super::*;
 
-    #[test]
-    fn k6_leap_years() {
-        assert!(read_date(b"2024-02-29T00:00:00").is_some());
-        assert!(read_date(b"2023-02-29T00:00:00").is_none());
-        assert!(read_date(b"2000-02-29T23:59:59").is_some());
+    fn plain(date: &Date) -> bool {
+        let digits = |from: usize, to: usize| -> Option<u32> {
+            let text = &date[from..to];
+            text.iter().all(u8::is_ascii_digit).then(|| text.iter().fold(0, |n, b| n * 10 + u32::from(b - b'0')))
+        };
+        let marks = [(4, b'-'), (7, b'-'), (10, b'T'), (13, b':'), (16, b':')];
+        let parts = [(0, 4), (5, 7), (8, 10), (11, 13), (14, 16), (17, 19)].map(|(from, to)| digits(from, to));
+        let [Some(y), Some(m), Some(d), Some(h), Some(min), Some(s)] = parts else { return false };
+        let day = Day::new(y as u16, m as u8, d as u8);
+        marks.iter().all(|&(at, mark)| date[at] == mark) && day.is_real() && h < 24 && min < 60 && s < 60
     }
 
     #[test]
-    fn dates_have_one_shape() {
-        for text in ["1999-12-31T00:00:00", "2100-01-01T00:00:00", "2005-00-01T00:00:00", "2005-01-00T00:00:00"] {
-            assert!(read_date(text.as_bytes()).is_none(), "{text}");
+    fn every_byte_in_every_place_is_judged_as_by_plain_reading() {
+        for base in [b"2005-09-20T15:53:00", b"2024-02-29T23:59:59", b"2099-12-31T00:00:00", b"2000-10-30T19:09:49"] {
+            assert!(is_date(base));
+            for (at, byte) in (0..19).flat_map(|at| (0..=255u8).map(move |byte| (at, byte))) {
+                let mut date = *base;
+                date[at] = byte;
+                assert_eq!(is_date(&date), plain(&date), "{date:?}");
+                let mut judge = Judge::new();
+                assert_eq!(
+                    [base, &date, base, &date].map(|date| judge.is_date(date)),
+                    [base, &date, base, &date].map(plain)
+                );
+            }
         }
-        for text in ["2005-01-01T24:00:00", "2005-01-01T00:60:00", "2005-01-01T00:00:60", "2005-01-01 00:00:00"] {
-            assert!(read_date(text.as_bytes()).is_none(), "{text}");
-        }
-        assert!(read_date(b"2005-01-01T00:00:0").is_none());
-        assert!(read_date(b"2005-01-01T00:00:000").is_none());
     }
 
     #[test]
-    fn next_days() {
-        assert_eq!(Day::new(2024, 2, 28).next(), Some(Day::new(2024, 2, 29)));
-        assert_eq!(Day::new(2023, 2, 28).next(), Some(Day::new(2023, 3, 1)));
-        assert_eq!(Day::new(2023, 12, 31).next(), Some(Day::new(2024, 1, 1)));
-        assert_eq!(Day::new(2023, 4, 30).next(), Some(Day::new(2023, 5, 1)));
-        assert_eq!(Day::new(2099, 12, 31).next(), None);
-        assert_eq!(Day::new(2023, 2, 29).next(), None);
+    fn month_ends_and_leap_years() {
+        for (text, good) in [("2024-02-29", true), ("2023-02-29", false), ("2000-02-29", true), ("2005-04-31", false)] {
+            let mut date = *b"2000-00-00T00:00:00";
+            date[..10].copy_from_slice(text.as_bytes());
+            assert_eq!(is_date(&date), good, "{text}");
+        }
+        assert_eq!(Day::new(2024, 2, 28).day_after(), Some(Day::new(2024, 2, 29)));
+        assert_eq!(Day::new(2023, 2, 28).day_after(), Some(Day::new(2023, 3, 1)));
+        assert_eq!(Day::new(2005, 12, 31).day_after(), Some(Day::new(2006, 1, 1)));
+        assert_eq!(Day::new(2099, 12, 31).day_after(), None);
+    }
+
+    #[test]
+    fn all_days_follow_each_other_in_keys_and_numbers() {
+        let (mut day, mut last) = (Day::new(2000, 1, 1), None);
+        loop {
+            let date: Date = format!("{:04}-{:02}-{:02}T00:00:00", day.year, day.month, day.day)
+                .into_bytes()
+                .try_into()
+                .expect("nineteen bytes");
+            let number = day_number(&date).expect("a date");
+            assert!(last < Some(number) && number < DAY_NUMBERS && day.key() == date_key(&date));
+            last = Some(number);
+            let Some(next) = day.day_after() else { break };
+            assert!(next.key() > day.key());
+            day = next;
+        }
+        assert_eq!(day, Day::new(2099, 12, 31));
+    }
+
+    #[test]
+    fn unreal_days_neither_pass_nor_panic() {
+        for day in [Day::new(0, 0, 0), Day::new(65535, 255, 255), Day::new(2005, 13, 1), Day::new(2005, 9, 31)] {
+            assert!(!day.is_real());
+            let _ = (day.day_after(), day.key());
+        }
     }
 }

@@ -1,111 +1,81 @@
-//! Numbers, types, amounts, receipts and reasons.
-use std::hash::{Hash, Hasher};
+//! The fields that requests, registry lines and books have in common, and their ranges.
 
-/// The largest receipt, and the largest authcode that is stored.
-pub const RECEIPT_MOST: u64 = 999_999_999_999_999;
-/// The largest amount, in kopecks.
-pub const AMOUNT_MOST: u64 = 999_999_999;
-/// The largest type.
-pub const KIND_MOST: u64 = 999;
+use crate::index::{self, NUMBER_BYTES};
 
-/// An account's number: the first `len` bytes count.
+pub(crate) const TOP_RECEIPT: u64 = 999_999_999_999_999;
+pub(crate) const TOP_KOPECKS: u64 = 999_999_999;
+pub(crate) const TOP_KIND: u64 = 999;
+/// The type of a request that names none.
+pub(crate) const USUAL_KIND: u64 = 1;
+
+/// A subscriber's number. Bytes past `len` carry no meaning; a value need not be a good number.
 #[derive(Clone, Copy, Debug)]
 pub struct Number {
-    /// The bytes.
+    /// The bytes, of which the first `len` count.
     pub bytes: [u8; 30],
-    /// How many of them count.
+    /// How many bytes count, 1 to 30 in a good number.
     pub len: usize,
 }
 
 impl Number {
-    /// No number.
-    pub const NONE: Number = Number { bytes: [0; 30], len: 0 };
-
-    /// The number of these bytes, zeros after them.
+    /// The number written in this text, if it is a good one.
     pub fn read(text: &[u8]) -> Option<Number> {
-        let mut number = Number { bytes: [0; 30], len: text.len() };
+        let mut number = Number { bytes: [0; NUMBER_BYTES], len: text.len() };
         number.bytes.get_mut(..text.len())?.copy_from_slice(text);
         number.is_good().then_some(number)
     }
 
-    /// The bytes that count.
-    pub fn text(&self) -> &[u8] {
-        &self.bytes[..self.len.min(30)]
-    }
-
-    /// Whether it has 1 to 30 bytes, each from 21 to 7E.
-    pub fn is_good(&self) -> bool {
-        (1..=30).contains(&self.len) && self.text().iter().all(|byte| (0x21..=0x7E).contains(byte))
+    /// Whether it has 1 to 30 bytes, all of them visible characters.
+    pub(crate) fn is_good(&self) -> bool {
+        index::is_number(&self.bytes, self.len as u64)
     }
 }
 
-impl PartialEq for Number {
-    fn eq(&self, other: &Number) -> bool {
-        self.len == other.len && self.text() == other.text()
-    }
+pub(crate) fn is_receipt(receipt: u64) -> bool {
+    (1..=TOP_RECEIPT).contains(&receipt)
 }
 
-impl Eq for Number {}
-
-impl Hash for Number {
-    fn hash<H: Hasher>(&self, state: &mut H) {
-        self.text().hash(state);
-    }
+pub(crate) fn is_kopecks(kopecks: u64) -> bool {
+    (1..=TOP_KOPECKS).contains(&kopecks)
 }
 
-/// Whether a type is in range.
-pub fn is_kind(kind: u64) -> bool {
-    kind <= KIND_MOST
-}
-
-/// Whether an amount is in range.
-pub fn is_amount(kopecks: u64) -> bool {
-    (1..=AMOUNT_MOST).contains(&kopecks)
-}
-
-/// Whether a receipt is in range.
-pub fn is_receipt(receipt: u64) -> bool {
-    (1..=RECEIPT_MOST).contains(&receipt)
-}
-
-/// Whether a reason is in range.
-pub fn is_reason(reason: u64) -> bool {
+pub(crate) fn is_reason(reason: u64) -> bool {
     (1..=5).contains(&reason)
 }
 
-/// The value of 1 to `most` digits; `most` is at most 19.
-pub fn read_digits(text: &[u8], most: usize) -> Option<u64> {
+/// The value of 1 to `most` digits; `most` is at most 15.
+#[inline]
+pub(crate) fn read_digits(text: &[u8], most: usize) -> Option<u64> {
     if text.is_empty() || text.len() > most {
         return None;
     }
-    text.iter().try_fold(0, |value, byte| byte.is_ascii_digit().then(|| value * 10 + u64::from(byte - b'0')))
+    text.iter().try_fold(0, |value, byte| match byte.wrapping_sub(b'0') {
+        digit @ 0..=9 => Some(value * 10 + u64::from(digit)),
+        _ => None,
+    })
 }
 
-/// A receipt.
-pub fn read_receipt(text: &[u8]) -> Option<u64> {
-    read_digits(text, 15).filter(|&receipt| is_receipt(receipt))
+pub(crate) fn read_receipt(text: &[u8]) -> Option<u64> {
+    read_digits(text, 15).filter(|&receipt| receipt != 0)
 }
 
-/// A type.
-pub fn read_kind(text: &[u8]) -> Option<u64> {
+pub(crate) fn read_kind(text: &[u8]) -> Option<u64> {
     read_digits(text, 3)
 }
 
-/// A reason.
-pub fn read_reason(text: &[u8]) -> Option<u64> {
+pub(crate) fn read_reason(text: &[u8]) -> Option<u64> {
     read_digits(text, 1).filter(|&reason| is_reason(reason))
 }
 
-/// The kopecks of an amount.
-pub fn read_amount(text: &[u8]) -> Option<u64> {
-    let mut parts = text.splitn(2, |&byte| byte == b'.');
-    let whole = read_digits(parts.next()?, 7)?;
-    let rest = match parts.next() {
+/// The kopecks of a sum in roubles.
+pub(crate) fn read_amount(text: &[u8]) -> Option<u64> {
+    let point = text[..text.len().min(8)].iter().position(|&byte| byte == b'.');
+    let roubles = read_digits(&text[..point.unwrap_or(text.len())], 7)?;
+    let kopecks = match point.map(|at| &text[at + 1..]) {
         None => 0,
-        Some(tenths @ [_]) => 10 * read_digits(tenths, 1)?,
-        Some(hundredths) => read_digits(hundredths, 2)?,
+        Some(decimals) => read_digits(decimals, 2)? * if decimals.len() == 1 { 10 } else { 1 },
     };
-    Some(100 * whole + rest).filter(|&kopecks| is_amount(kopecks))
+    Some(roubles * 100 + kopecks).filter(|&sum| sum != 0)
 }
 
 #[cfg(test)]
@@ -113,46 +83,50 @@ mod tests {
     use super::*;
 
     #[test]
-    fn k3_large_amounts() {
-        assert_eq!(read_amount(b"9999999.99"), Some(999_999_999));
-        assert_eq!(read_amount(b"10000000"), None);
-    }
-
-    #[test]
-    fn k4_small_amounts() {
-        assert_eq!(read_amount(b"0.01"), Some(1));
-        assert_eq!(read_amount(b"7.5"), Some(750));
-        assert_eq!(read_amount(b"0000007"), Some(700));
-        for text in ["0.00", "10.", "10.125", "", ".5", "1..5", "-1", "1,5"] {
-            assert_eq!(read_amount(text.as_bytes()), None, "{text}");
+    fn amounts() {
+        let good: [(&[u8], u64); 7] = [
+            (b"10.12", 1012),
+            (b"9999999.99", 999_999_999),
+            (b"0.01", 1),
+            (b"7.5", 750),
+            (b"7", 700),
+            (b"0000007", 700),
+            (b"0000000.10", 10),
+        ];
+        for (text, kopecks) in good {
+            assert_eq!(read_amount(text), Some(kopecks), "{text:?}");
+        }
+        let bad: [&[u8]; 12] =
+            [b"", b".", b".5", b"0", b"0.00", b"10.", b"10.125", b"10000000", b"1,5", b"1.5.", b"-1", b"12345678.1"];
+        for text in bad {
+            assert_eq!(read_amount(text), None, "{text:?}");
         }
     }
 
     #[test]
-    fn k5_receipts() {
-        assert_eq!(read_receipt(&[b'9'; 15]), Some(RECEIPT_MOST));
-        assert_eq!(read_receipt(b"000000000000007"), Some(7));
-        assert_eq!(read_receipt(&[b'9'; 16]), None);
-        assert_eq!(read_receipt(b"0"), None);
+    fn receipts_kinds_and_reasons() {
+        assert_eq!(read_receipt(b"999999999999999"), Some(TOP_RECEIPT));
+        assert_eq!(read_receipt(b"000000000000001"), Some(1));
+        for text in [&b"0"[..], b"", b"1000000000000000", b"12a", b" 1", b"000000000000000"] {
+            assert_eq!(read_receipt(text), None, "{text:?}");
+        }
+        assert_eq!((read_kind(b"000"), read_kind(b"999"), read_kind(b"01")), (Some(0), Some(999), Some(1)));
+        assert_eq!((read_kind(b""), read_kind(b"0001")), (None, None));
+        assert_eq!(
+            (read_reason(b"5"), read_reason(b"6"), read_reason(b"0"), read_reason(b"01")),
+            (Some(5), None, None, None)
+        );
     }
 
     #[test]
     fn numbers() {
-        assert!(Number::read(b"!~").is_some());
-        assert!(Number::read(&[b'1'; 30]).is_some());
-        for text in [&b""[..], &[b'1'; 31], b"a b", b"\x7F", b"\xE9"] {
+        let number = Number::read(b"account12").expect("good");
+        assert_eq!((number.len, &number.bytes[..10]), (9, &b"account12\0"[..]));
+        assert!(Number::read(&[b'~'; 30]).is_some() && Number::read(&[b'!'; 1]).is_some());
+        for text in [&b""[..], &[b'1'; 31], b"a b", b"a\x7f", b"\x80", b"a\0"] {
             assert!(Number::read(text).is_none(), "{text:?}");
         }
-        let mut past = Number { bytes: [7; 30], len: 2 };
-        past.bytes[..2].copy_from_slice(b"!~");
-        assert_eq!(Number::read(b"!~"), Some(past));
-    }
-
-    #[test]
-    fn types_and_reasons() {
-        assert_eq!(read_kind(b"000"), Some(0));
-        assert_eq!(read_kind(b"1000"), None);
-        assert_eq!(read_reason(b"5"), Some(5));
-        assert!(["0", "6", "01", ""].iter().all(|text| read_reason(text.as_bytes()).is_none()));
+        assert!(!Number { bytes: [b'1'; 30], len: usize::MAX }.is_good());
+        assert!(Number { bytes: *b"ab\0\xff  abcdefghijklmnopqrstuvwx", len: 2 }.is_good());
     }
 }

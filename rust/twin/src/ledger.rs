@@ -1,92 +1,102 @@
-//! What a gate keeps, whoever owns it.
-use crate::date::{Date, Day, day_of};
+//! What a gate keeps, as far as the rules need to see and move it.
+
+use crate::date::{Date, Day};
 use crate::fields::Number;
+use crate::payment::Payment;
 
-/// The most accounts of a gate.
-pub const ACCOUNTS_MOST: usize = 256;
-
-/// What a payment is known by.
-#[derive(Clone, Copy, Debug, PartialEq, Eq)]
-pub struct Payment {
-    /// The payment number.
-    pub receipt: u64,
-    /// The account's number.
-    pub number: Number,
-    /// The account's type.
-    pub kind: u64,
-    /// The amount.
-    pub kopecks: u64,
-    /// The payment's date.
-    pub date: Date,
+/// One recorded payment, seen where it is kept.
+#[derive(Clone, Copy)]
+pub(crate) struct View<'a> {
+    pub(crate) receipt: u64,
+    pub(crate) number: &'a [u8],
+    pub(crate) kind: u64,
+    pub(crate) kopecks: u64,
+    pub(crate) date: &'a Date,
+    pub(crate) done: bool,
+    pub(crate) credit: &'a Date,
+    pub(crate) cancel: &'a Date,
 }
 
-/// A payment that the gate has recorded.
-#[derive(Clone, Copy, Debug, PartialEq, Eq)]
-pub struct Record {
-    /// What was paid.
-    pub payment: Payment,
-    /// Done, or else cancelled.
-    pub done: bool,
-    /// When it was credited.
-    pub credit: Date,
-    /// When it was cancelled; zeros while it is done.
-    pub cancel: Date,
+impl View<'_> {
+    /// Whether a line of a registry tells of this very payment.
+    pub(crate) fn agrees(&self, line: &Payment) -> bool {
+        self.receipt == line.receipt
+            && self.kopecks == line.kopecks
+            && self.kind == line.kind
+            && *self.date == line.date
+            && *self.number == line.number.bytes[..line.number.len]
+    }
 }
 
-/// The accounts, the records and the closed day of a gate.
-pub trait Ledger {
-    /// The last closed day.
+/// Finds the records of receipts that are asked for in rising order.
+pub(crate) trait Finder {
+    /// The places of all records with this receipt, the first one first.
+    fn places(&mut self, receipt: u64) -> impl Iterator<Item = usize>;
+}
+
+/// Accounts, payment table and closed day. Places and accounts count from 0; those handed in have to exist.
+pub(crate) trait Ledger {
     fn closed(&self) -> Day;
-    /// Closes a day.
-    fn close(&mut self, day: Day);
-    /// How many records there may be.
-    fn room(&self) -> usize;
-    /// How many records there are.
+    fn close_day(&mut self, day: Day);
+
+    /// How many accounts are open.
+    fn accounts(&self) -> usize;
+    /// The first account of this number and type.
+    fn account(&self, number: &Number, kind: u64) -> Option<usize>;
+    /// Opens one more account for a good number and type, with nothing on it.
+    fn add_account(&mut self, number: &Number, kind: u64);
+    fn balance(&self, account: usize) -> i64;
+    fn draw_kopecks(&mut self, account: usize, kopecks: u64);
+
+    /// How many records are used.
     fn used(&self) -> usize;
-    /// The first account of a number and a type.
-    fn find_account(&self, number: &Number, kind: u64) -> Option<usize>;
-    /// What stands on an account.
-    fn balance(&mut self, account: usize) -> &mut i64;
-    /// The first record of a receipt.
-    fn find_record(&self, receipt: u64) -> Option<usize>;
-    /// The receipt of a record.
-    fn receipt(&self, place: usize) -> u64;
-    /// A record.
-    fn record(&self, place: usize) -> Record;
-    /// The account of a record.
+    fn is_full(&self) -> bool;
+    /// The first record of this receipt.
+    fn record(&self, receipt: u64) -> Option<usize>;
+    fn view(&self, place: usize) -> View<'_>;
+    /// The account that the record at a place credited.
     fn account_of(&self, place: usize) -> usize;
-    /// Adds a done record; there is room.
-    fn push(&mut self, payment: &Payment, account: usize, credit: &Date);
-    /// Makes a record cancelled, or done where there is no date.
-    fn mark(&mut self, place: usize, cancel: Option<&Date>);
+    /// A way to look up many receipts.
+    fn finder(&self) -> impl Finder;
 
-    /// Whether no record can be added.
-    fn is_full(&self) -> bool {
-        self.used() >= self.room()
-    }
+    /// Credits the account and adds a done record; the table is not full.
+    fn post(&mut self, payment: &Payment, account: usize, clock: &Date);
+    /// Turns a done record to cancelled and takes its sum back, even below zero.
+    fn cancel(&mut self, place: usize, clock: &Date);
+    /// Turns a cancelled record to done again and gives its sum back.
+    fn restore(&mut self, place: usize);
+}
 
-    /// Whether a date's day is closed.
-    fn is_closed(&self, date: &Date) -> bool {
-        day_of(date).is_some_and(|day| day <= self.closed())
-    }
+#[cfg(test)]
+mod tests {
+    use super::*;
 
-    /// Adds a payment's record and credits it to its account.
-    fn credit(&mut self, payment: &Payment, account: usize, clock: &Date) {
-        *self.balance(account) += payment.kopecks as i64;
-        self.push(payment, account, clock);
-    }
-
-    /// Cancels a done record; the balance may go below zero.
-    fn revoke(&mut self, place: usize, clock: &Date) {
-        let (account, kopecks) = (self.account_of(place), self.record(place).payment.kopecks);
-        *self.balance(account) -= kopecks as i64;
-        self.mark(place, Some(clock));
-    }
-
-    /// Makes a cancelled record done again.
-    fn restore(&mut self, place: usize) {
-        let (account, kopecks) = (self.account_of(place), self.record(place).payment.kopecks);
-        *self.balance(account) += kopecks as i64;
-        self.mark(place, None);
+    #[test]
+    fn a_line_agrees_in_all_that_it_says() {
+        let date = *b"2005-09-20T15:53:00";
+        let number = Number::read(b"a12").expect("good");
+        let line = Payment { receipt: 7, number, kind: 1, kopecks: 1012, date };
+        let view = View {
+            receipt: 7,
+            number: b"a12",
+            kind: 1,
+            kopecks: 1012,
+            date: &date,
+            done: false,
+            credit: &[0; 19],
+            cancel: &[0; 19],
+        };
+        assert!(view.agrees(&line));
+        let later = *b"2005-09-20T15:53:01";
+        let others = [
+            View { receipt: 8, ..view },
+            View { number: b"a1", ..view },
+            View { number: b"a13", ..view },
+            View { number: b"a12\0", ..view },
+            View { kind: 2, ..view },
+            View { kopecks: 1011, ..view },
+            View { date: &later, ..view },
+        ];
+        assert!(!others.iter().any(|other| other.agrees(&line)));
     }
 }

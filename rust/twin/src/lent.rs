@@ -1,201 +1,216 @@
-//! The gate over a lent table: every call checks all that it is lent (row 68) before anything else.
-use crate::date::{Date, Day, NO_DATE, is_date};
-use crate::fields::{Number, is_amount, is_kind, is_receipt};
-use crate::index::Index;
-use crate::ledger::{ACCOUNTS_MOST, Ledger, Payment, Record};
-use crate::rows::{self, STATE};
-use crate::{rules, settle};
+//! The gate over rows that the caller lends, checked whole at each call.
 
-/// An account and what stands on it.
+use crate::codes::UNSOUND;
+use crate::date::{Date, Day, Judge, NO_DATE};
+use crate::fields::{self, Number};
+use crate::index::{AccountKey, Index};
+use crate::rules::{self, MOST_ACCOUNTS, MOST_RECORDS};
+use crate::settle;
+use crate::table::{CANCELLED, DONE, STATE, Table};
+
+const TOP_BALANCE: u64 = 10_000_000_000_000;
+
+/// An account with its balance.
 #[derive(Clone, Copy, Debug)]
 pub struct Account {
-    /// Its number.
+    /// The subscriber's number.
     pub number: Number,
-    /// Its type.
+    /// The type of that number.
     pub kind: u64,
-    /// Kopecks.
+    /// The balance in kopecks.
     pub balance: i64,
 }
 
-/// The gate's state without its table.
+/// What the gate keeps besides the payment table.
 #[derive(Clone, Debug)]
 pub struct Head {
-    /// The first `count` are open.
-    pub accounts: [Account; ACCOUNTS_MOST],
+    /// The accounts, of which the first `count` are open.
+    pub accounts: [Account; 256],
     /// How many accounts are open.
     pub count: usize,
     /// The last closed day.
     pub closed: Day,
-    /// How many records are in use.
+    /// How many records of the table are used.
     pub used: usize,
 }
 
-/// The lent table; the dates are the payment's, its credit's and its cancel's.
-pub type Rows<'a> = rows::Rows<'a, [Date; 3]>;
-
-const DONE: u64 = 1;
-const CANCELLED: u64 = 2;
-
-/// How far a balance may be from zero.
-const BALANCE_MOST: i64 = 10_000_000_000_000;
+/// The payment table, a record a place, in three columns of one length.
+pub struct Rows<'a> {
+    /// Receipt, length of the number, type, kopecks, state (1 done, 2 cancelled) and authcode.
+    pub nums: &'a mut [[u64; 6]],
+    /// The number's bytes.
+    pub numbers: &'a mut [[u8; 30]],
+    /// The dates of the payment, of its credit and of its cancel.
+    pub dates: &'a mut [[Date; 3]],
+}
 
 impl Head {
-    /// No accounts and no records.
+    /// A gate without accounts and records.
     pub fn new(closed: Day) -> Head {
-        let account = Account { number: Number::NONE, kind: 0, balance: 0 };
-        Head { accounts: [account; ACCOUNTS_MOST], count: 0, closed, used: 0 }
+        let none = Account { number: Number { bytes: [0; 30], len: 0 }, kind: 0, balance: 0 };
+        Head { accounts: [none; MOST_ACCOUNTS], count: 0, closed, used: 0 }
     }
 
-    /// Opens an account.
+    /// Opens an account; the code.
     pub fn open(&mut self, rows: Rows, number: Number, kind: u64) -> u64 {
-        let Some(index) = sound(self, &rows) else {
-            return 68;
-        };
-        if !number.is_good() || !is_kind(kind) {
-            return 59;
-        }
-        if index.find(&number, kind).is_some() {
-            return 56;
-        }
-        if self.count == ACCOUNTS_MOST {
-            return 57;
-        }
-        self.accounts[self.count] = Account { number, kind, balance: 0 };
-        self.count += 1;
-        0
+        self.with_table(rows, UNSOUND, |table| rules::open(table, &number, kind))
     }
 
-    /// Draws kopecks from an account.
+    /// Draws kopecks from an account; the code.
     pub fn draw(&mut self, rows: Rows, number: Number, kind: u64, kopecks: u64) -> u64 {
-        let Some(index) = sound(self, &rows) else {
-            return 68;
-        };
-        if !number.is_good() || !is_kind(kind) {
-            return 59;
-        }
-        let Some(account) = index.find(&number, kind) else {
-            return 59;
-        };
-        let balance = &mut self.accounts[account].balance;
-        if !is_amount(kopecks) || *balance < kopecks as i64 {
-            return 58;
-        }
-        *balance -= kopecks as i64;
-        0
+        self.with_table(rows, UNSOUND, |table| rules::draw(table, &number, kind, kopecks))
     }
 
-    /// Takes a request and writes its answer: the code and the answer's size.
+    /// Answers a request; the code and the length of the answer.
     pub fn deliver(&mut self, rows: Rows, clock: &Date, parameters: &[u8], out: &mut [u8]) -> (u64, usize) {
-        match sound(self, &rows) {
-            Some(index) => rules::deliver(&mut Lent { head: self, rows, index }, clock, parameters, out),
-            None => (68, 0),
+        self.with_table(rows, (UNSOUND, 0), |table| rules::deliver(table, clock, parameters, out))
+    }
+
+    /// Takes a registry; the code and the length of the report.
+    pub fn settle(&mut self, rows: Rows, clock: &Date, day: Day, registry: &[u8], report: &mut [u8]) -> (u64, usize) {
+        self.with_table(rows, (UNSOUND, 0), |table| settle::settle(table, clock, day, registry, report))
+    }
+
+    /// Runs a call on the table if all that is lent is sound.
+    fn with_table<T>(&mut self, rows: Rows, unsound: T, call: impl FnOnce(&mut Table) -> T) -> T {
+        // Filled in place and lent on, so that it is never copied.
+        let mut index = Index::with_room(self.count.min(MOST_ACCOUNTS));
+        if !self.is_sound(&rows, &mut index) {
+            return unsound;
+        }
+        call(&mut Table { head: self, rows, index: &index })
+    }
+
+    /// Checks all that is lent and fills the index of accounts on the way.
+    fn is_sound(&self, rows: &Rows, index: &mut Index) -> bool {
+        let Rows { nums, numbers, dates } = rows;
+        let lent = nums.len();
+        let columns = (1..=MOST_RECORDS).contains(&lent) && numbers.len() == lent && dates.len() == lent;
+        if !columns || self.used > lent || self.count > MOST_ACCOUNTS || !self.closed.is_real() {
+            return false;
+        }
+        let mut judges = [const { Judge::new() }; 3];
+        self.accounts[..self.count].iter().all(|account| index_account(account, index))
+            && nums[..self.used].iter().zip(&numbers[..self.used]).zip(&dates[..self.used]).zip(1..).all(
+                |(((nums, number), dates), place)| {
+                    has_sound_figures(nums, place)
+                        && has_sound_dates(nums, dates, &mut judges)
+                        && has_account(nums, number, index)
+                },
+            )
+    }
+}
+
+fn index_account(account: &Account, index: &mut Index) -> bool {
+    let Account { number, kind, balance } = account;
+    let key = AccountKey::new(&number.bytes, number.len as u64, *kind);
+    let Some(key) = key.filter(|_| number.is_good() && balance.unsigned_abs() <= TOP_BALANCE) else { return false };
+    index.push(key);
+    true
+}
+
+#[inline]
+fn has_sound_figures(nums: &[u64; 6], place: u64) -> bool {
+    let &[receipt, _, _, kopecks, _, authcode] = nums;
+    fields::is_receipt(receipt) && fields::is_kopecks(kopecks) && authcode == place
+}
+
+/// Whether the dates are good and the last one goes with the state.
+#[inline]
+fn has_sound_dates(nums: &[u64; 6], dates: &[Date; 3], judges: &mut [Judge; 3]) -> bool {
+    let [paid, credit, cancel] = dates;
+    let cancel_fits = match nums[STATE] {
+        DONE => *cancel == NO_DATE,
+        CANCELLED => judges[2].is_date(cancel),
+        _ => false,
+    };
+    cancel_fits && judges[0].is_date(paid) && judges[1].is_date(credit)
+}
+
+#[inline]
+fn has_account(nums: &[u64; 6], number: &[u8; 30], index: &Index) -> bool {
+    let &[_, len, kind, ..] = nums;
+    AccountKey::new(number, len, kind).is_some_and(|key| index.find(&key).is_some())
+}
+
+#[cfg(test)]
+mod tests {
+    use super::*;
+    use crate::codes::*;
+
+    struct Lent(Head, Vec<[u64; 6]>, Vec<[u8; 30]>, Vec<[Date; 3]>);
+
+    impl Lent {
+        fn code(&mut self) -> u64 {
+            let rows = Rows { nums: &mut self.1, numbers: &mut self.2, dates: &mut self.3 };
+            self.0.deliver(rows, b"2005-09-20T15:55:00", b"action=check&number=a&amount=1", &mut [0; 512]).0
         }
     }
 
-    /// Settles a day by its registry and writes the report: the code and the report's size.
-    pub fn settle(&mut self, rows: Rows, clock: &Date, day: Day, text: &[u8], out: &mut [u8]) -> (u64, usize) {
-        match sound(self, &rows) {
-            Some(index) => settle::settle(&mut Lent { head: self, rows, index }, clock, day, text, out),
-            None => (68, 0),
+    /// One account and two records, done and cancelled, in a table of three places.
+    fn lent() -> Lent {
+        let date = *b"2005-09-20T15:53:00";
+        let mut head = Head::new(Day::new(2005, 9, 19));
+        head.accounts[0] = Account { number: Number::read(b"a").expect("good"), kind: 1, balance: 100 };
+        (head.count, head.used) = (1, 2);
+        let nums = vec![[5, 1, 1, 100, DONE, 1], [5, 1, 1, 100, CANCELLED, 2], [u64::MAX; 6]];
+        let dates = vec![[date, date, NO_DATE], [date, date, date], [[255; 19]; 3]];
+        Lent(head, nums, vec![[b'a'; 30]; 3], dates)
+    }
+
+    #[test]
+    fn every_field_out_of_range_is_seen() {
+        let spoil: [fn(&mut Lent); 26] = [
+            |l| l.0.count = 257,
+            |l| l.0.count = usize::MAX,
+            |l| l.0.count = 2,
+            |l| l.0.used = 4,
+            |l| l.0.used = 3,
+            |l| l.0.used = usize::MAX,
+            |l| l.0.closed = Day::new(2005, 9, 31),
+            |l| l.0.closed = Day::new(1999, 9, 30),
+            |l| l.0.accounts[0].balance = 10_000_000_000_001,
+            |l| l.0.accounts[0].balance = i64::MIN,
+            |l| l.0.accounts[0].kind = 1000,
+            |l| l.0.accounts[0].number.len = usize::MAX,
+            |l| l.0.accounts[0].number.bytes[0] = b' ',
+            |l| l.1[0][0] = 0,
+            |l| l.1[1][0] = 1_000_000_000_000_000,
+            |l| l.1[0][1] = u64::MAX,
+            |l| l.1[0][1] = 2,
+            |l| l.1[0][2] = 2,
+            |l| l.1[0][3] = 0,
+            |l| l.1[0][4] = 3,
+            |l| l.1[0][5] = 2,
+            |l| l.2[0][0] = b'b',
+            |l| l.3[0][0] = NO_DATE,
+            |l| l.3[0][1] = NO_DATE,
+            |l| l.3[0][2] = *b"2005-09-20T15:53:00",
+            |l| l.3[1][2] = NO_DATE,
+        ];
+        assert_eq!(lent().code(), FINE);
+        for (nth, spoil) in spoil.iter().enumerate() {
+            let mut lent = lent();
+            spoil(&mut lent);
+            assert_eq!(lent.code(), UNSOUND, "{nth}");
         }
     }
-}
 
-/// Row 68 of the gate: the index of its accounts, where everything in use is in range.
-fn sound(head: &Head, rows: &Rows) -> Option<Index> {
-    if !rows.may_hold(head.used) || !head.closed.is_real() {
-        return None;
-    }
-    let accounts = head.accounts.get(..head.count)?;
-    if !accounts.iter().all(is_sound) {
-        return None;
-    }
-    let index = Index::new(accounts.iter().map(|account| (&account.number, account.kind)));
-    (0..head.used).all(|place| record_is_sound(rows, &index, place)).then_some(index)
-}
-
-fn is_sound(account: &Account) -> bool {
-    let near = -BALANCE_MOST..=BALANCE_MOST;
-    account.number.is_good() && is_kind(account.kind) && near.contains(&account.balance)
-}
-
-fn record_is_sound(rows: &Rows, index: &Index, place: usize) -> bool {
-    let [receipt, len, kind, kopecks, state, authcode] = rows.nums[place];
-    let [date, credit, cancel] = &rows.dates[place];
-    is_receipt(receipt)
-        && len <= 30
-        && is_kind(kind)
-        && is_amount(kopecks)
-        && authcode == place as u64 + 1
-        && is_date(date)
-        && is_date(credit)
-        && match state {
-            DONE => *cancel == NO_DATE,
-            CANCELLED => is_date(cancel),
-            _ => false,
-        }
-        && index.find(&Number { bytes: rows.numbers[place], len: len as usize }, kind).is_some()
-}
-
-/// A head and a table that passed row 68.
-struct Lent<'a> {
-    head: &'a mut Head,
-    rows: Rows<'a>,
-    index: Index,
-}
-
-impl Ledger for Lent<'_> {
-    fn closed(&self) -> Day {
-        self.head.closed
-    }
-
-    fn close(&mut self, day: Day) {
-        self.head.closed = day;
-    }
-
-    fn room(&self) -> usize {
-        self.rows.nums.len()
-    }
-
-    fn used(&self) -> usize {
-        self.head.used
-    }
-
-    fn find_account(&self, number: &Number, kind: u64) -> Option<usize> {
-        self.index.find(number, kind)
-    }
-
-    fn balance(&mut self, account: usize) -> &mut i64 {
-        &mut self.head.accounts[account].balance
-    }
-
-    fn find_record(&self, receipt: u64) -> Option<usize> {
-        self.rows.nums[..self.head.used].iter().position(|nums| nums[0] == receipt)
-    }
-
-    fn receipt(&self, place: usize) -> u64 {
-        self.rows.nums[place][0]
-    }
-
-    fn record(&self, place: usize) -> Record {
-        let [date, credit, cancel] = self.rows.dates[place];
-        let done = self.rows.nums[place][STATE] == DONE;
-        Record { payment: self.rows.payment(place, date), done, credit, cancel }
-    }
-
-    fn account_of(&self, place: usize) -> usize {
-        let Payment { number, kind, .. } = self.record(place).payment;
-        self.index.find(&number, kind).expect("row 68: a record's account is known")
-    }
-
-    fn push(&mut self, payment: &Payment, _account: usize, credit: &Date) {
-        let place = self.head.used;
-        self.rows.store(place, payment, DONE, place as u64 + 1, [payment.date, *credit, NO_DATE]);
-        self.head.used += 1;
-    }
-
-    fn mark(&mut self, place: usize, cancel: Option<&Date>) {
-        self.rows.nums[place][STATE] = if cancel.is_some() { CANCELLED } else { DONE };
-        self.rows.dates[place][2] = *cancel.unwrap_or(&NO_DATE);
+    #[test]
+    fn lengths_of_columns() {
+        let mut lent = lent();
+        lent.0.accounts[0].balance = -10_000_000_000_000;
+        let record = lent.1[1];
+        lent.1.resize(4096, record);
+        lent.2.resize(4096, [0; 30]);
+        assert_eq!(lent.code(), UNSOUND);
+        lent.3.resize(4096, [NO_DATE; 3]);
+        assert_eq!(lent.code(), FINE);
+        lent.1.push(record);
+        lent.2.push([0; 30]);
+        lent.3.push([NO_DATE; 3]);
+        assert_eq!(lent.code(), UNSOUND);
+        (lent.0.used, lent.1, lent.2, lent.3) = (0, vec![], vec![], vec![]);
+        assert_eq!(lent.code(), UNSOUND);
     }
 }

@@ -1,73 +1,74 @@
-//! Registries: a line for each payment of a day.
-use crate::date::{Day, day_of, read_date};
-use crate::fields::{Number, read_amount, read_kind, read_receipt};
-use crate::ledger::Payment;
+//! The day's registry as text.
+
+use crate::codes::*;
+use crate::date::{self, Date, Day, Judge};
+use crate::fields::{self, Number};
+use crate::payment::Payment;
+use crate::scan::Scan;
 use crate::writer::Writer;
 
-/// The most lines of a registry.
-pub const LINES_MOST: usize = 512;
+/// The most lines of a registry, and so the most payments that a book takes for one day.
+pub(crate) const MOST_LINES: usize = 512;
 
-/// Writes a payment's line.
-pub(crate) fn put_line(writer: &mut Writer, payment: &Payment) {
-    writer.put(payment.number.text());
-    writer.put(b"\t");
-    writer.put_digits(payment.kind);
-    writer.put(b"\t");
-    writer.put(&payment.date);
-    writer.put(b"\t");
-    writer.put_amount(payment.kopecks);
-    writer.put(b"\t");
-    writer.put_digits(payment.receipt);
-    writer.put(b"\r\n");
-}
+const LINE_END: &[u8] = b"\r\n";
+const SHORTEST_LINE: usize = 29;
 
-/// Reads a line without its end.
-fn read_line(line: &[u8]) -> Option<Payment> {
-    let mut fields = line.split(|&byte| byte == b'\t');
-    let payment = Payment {
-        number: Number::read(fields.next()?)?,
-        kind: read_kind(fields.next()?)?,
-        date: read_date(fields.next()?)?,
-        kopecks: read_amount(fields.next()?)?,
-        receipt: read_receipt(fields.next()?)?,
-    };
-    fields.next().is_none().then_some(payment)
-}
-
-/// The next line without its end, and what follows; none where no 0D 0A is left.
-fn split_line(text: &[u8]) -> Option<(&[u8], &[u8])> {
-    let end = text.windows(2).position(|pair| pair == b"\r\n")?;
-    Some((&text[..end], &text[end + 2..]))
-}
-
-/// The ended lines and the unended rest; none where these are over 512, the rest counting as one.
-fn split_lines(mut text: &[u8]) -> Option<(Vec<&[u8]>, &[u8])> {
-    let mut lines = Vec::new();
-    while let Some((line, rest)) = split_line(text) {
-        if lines.len() == LINES_MOST {
-            return None;
+/// The lines of a registry of this day, or the code of its first fault.
+pub(crate) fn read(text: &[u8], day: Day) -> Result<Vec<Payment>, u64> {
+    // The key of an unreal day is no date's, so that on such a day every line is off the day.
+    let key = day.key();
+    let mut lines = Vec::with_capacity((text.len() / SHORTEST_LINE).min(MOST_LINES));
+    let (mut rest, mut judge) = (text, Judge::new());
+    let (mut count, mut sound) = (0, true);
+    while !rest.is_empty() {
+        if count == MOST_LINES {
+            return Err(TOO_MANY_LINES);
         }
-        lines.push(line);
-        text = rest;
+        count += 1;
+        // A bad line does not end the count: too many lines weigh more.
+        match read_line(rest, &mut judge).filter(|(line, _)| date::date_key(&line.date) == key) {
+            Some((line, after)) => {
+                lines.push(line);
+                rest = after;
+            }
+            None => {
+                sound = false;
+                rest = after_line(rest);
+            }
+        }
     }
-    (lines.len() + usize::from(!text.is_empty()) <= LINES_MOST).then_some((lines, text))
+    match sound {
+        false => Err(BAD_LINE),
+        true if !lines.is_sorted_by(|line, next| line.receipt < next.receipt) => Err(NOT_RISING),
+        true => Ok(lines),
+    }
 }
 
-/// The lines of a day's registry, or 53, 52 or 54.
-pub fn read_registry(day: Day, text: &[u8]) -> Result<Vec<Payment>, u64> {
-    let (lines, rest) = split_lines(text).ok_or(53u64)?;
-    let payments = lines
-        .into_iter()
-        .map(|line| read_line(line).filter(|payment| day_of(&payment.date) == Some(day)))
-        .collect::<Option<Vec<Payment>>>()
-        .ok_or(52u64)?;
-    if !rest.is_empty() {
-        return Err(52);
-    }
-    if payments.windows(2).any(|pair| pair[0].receipt >= pair[1].receipt) {
-        return Err(54);
-    }
-    Ok(payments)
+/// A good line at the start of the text, and what follows it. No field of a good line holds a byte of a line end, so
+/// the end need not be looked for beforehand.
+fn read_line<'a>(text: &'a [u8], judge: &mut Judge) -> Option<(Payment, &'a [u8])> {
+    let mut scan = Scan { rest: text };
+    let number = Number::read(scan.until(b'\t', 30)?)?;
+    let kind = fields::read_kind(scan.until(b'\t', 3)?)?;
+    let date: Date = *scan.chunk()?;
+    scan.skip(b"\t")?;
+    let kopecks = fields::read_amount(scan.until(b'\t', 10)?)?;
+    let receipt = fields::read_receipt(scan.until(b'\r', 15)?)?;
+    scan.skip(b"\n")?;
+    judge.is_date(&date).then_some((Payment { receipt, number, kind, kopecks, date }, scan.rest))
+}
+
+/// What follows the line at the start of the text, however bad it is.
+fn after_line(text: &[u8]) -> &[u8] {
+    let end = text.windows(2).position(|pair| pair == LINE_END);
+    end.map_or(&[], |at| &text[at + 2..])
+}
+
+/// Writes one line.
+pub(crate) fn put_line(writer: &mut Writer, payment: &Payment) {
+    let Payment { receipt, number, kind, kopecks, date } = payment;
+    writer.put(&number.bytes[..number.len]).put(b"\t").put_digits(*kind).put(b"\t").put(date).put(b"\t");
+    writer.put_amount(*kopecks).put(b"\t").put_digits(*receipt).put(LINE_END);
 }
 
 #[cfg(test)]
@@ -75,33 +76,61 @@ mod tests {
     use super::*;
 
     const DAY: Day = Day::new(2005, 9, 20);
-    const LINE: &str = "a\t1\t2005-09-20T15:53:00\t10.12\t7\r\n";
 
-    fn code(text: &str) -> u64 {
-        read_registry(DAY, text.as_bytes()).map_or_else(|code| code, |_| 0)
+    fn line(receipt: u64) -> Vec<u8> {
+        format!("a12\t1\t2005-09-20T15:53:00\t10.12\t{receipt}\r\n").into_bytes()
+    }
+
+    fn fault(text: &[u8]) -> u64 {
+        read(text, DAY).err().unwrap_or(FINE)
     }
 
     #[test]
-    fn faults_by_row() {
-        assert_eq!(code(""), 0);
-        assert_eq!(code(LINE), 0);
-        assert_eq!(code(&LINE.repeat(2)), 54);
-        assert_eq!(code(&LINE.repeat(513)), 53);
-        assert_eq!(code(&format!("{}x", LINE.repeat(512))), 53);
-        assert_eq!(code(&format!("{}x", LINE.repeat(511))), 52);
-        assert_eq!(code(&LINE.replace("-20T", "-21T")), 52);
-        assert_eq!(code(&LINE.replace("\r\n", "\n")), 52);
-        assert_eq!(code(&LINE.replace("7\r", "7\tx\r")), 52);
-        assert_eq!(code(&LINE.replace("a\t1\t", "a\t\t")), 52);
-    }
-
-    #[test]
-    fn what_is_written_reads_back() {
-        let payments = read_registry(DAY, LINE.as_bytes()).unwrap();
-        let mut out = [0; 128];
+    fn good_lines_read_and_write_alike() {
+        let text = [line(7), line(8), line(999_999_999_999_999)].concat();
+        let lines = read(&text, DAY).expect("good");
+        let mut out = [0; 512];
         let mut writer = Writer::new(&mut out);
-        put_line(&mut writer, &payments[0]);
-        let size = writer.size;
-        assert_eq!(&out[..size], LINE.as_bytes());
+        lines.iter().for_each(|line| put_line(&mut writer, line));
+        let len = writer.written();
+        assert_eq!(&out[..len], &text[..]);
+        assert_eq!(read(b"1\t1\t2005-09-20T15:53:00\t1\t1\r\n", DAY).expect("the shortest").capacity(), 1);
+        assert_eq!(fault(b""), FINE);
+    }
+
+    #[test]
+    fn malformed_lines() {
+        let bad: [&[u8]; 14] = [
+            b"\r\n",
+            b"x",
+            b"a\t\t2005-09-20T15:53:00\t1\t1\r\n",
+            b"a\t1\t2005-09-21T15:53:00\t1\t1\r\n",
+            b"a\t1\t2005-09-20T15:60:00\t1\t1\r\n",
+            b"a\t1\t2005-09-20T15:53:00\t0.00\t1\r\n",
+            b"a\t1\t2005-09-20T15:53:00\t1\t0\r\n",
+            b"a\t1\t2005-09-20T15:53:00\t1\t1\n",
+            b"a\t1\t2005-09-20T15:53:00\t1\t1\r",
+            b"a\t1\t2005-09-20T15:53:00\t1\t1",
+            b"a\t1\t2005-09-20T15:53:00\t1\t1\r\r\n",
+            b"a\t1\t2005-09-20T15:53:00\t1\t1\t\r\n",
+            b"\ta\t1\t2005-09-20T15:53:00\t1\t1\r\n",
+            b"a\n\t1\t2005-09-20T15:53:00\t1\t1\r\n",
+        ];
+        for text in bad {
+            assert_eq!(fault(text), BAD_LINE, "{text:?}");
+            assert_eq!(fault(&[&line(3), &line(2), text].concat()), BAD_LINE, "{text:?}");
+        }
+        assert_eq!(read(&line(1), Day::new(2105, 9, 20)).err(), Some(BAD_LINE));
+    }
+
+    #[test]
+    fn counting_comes_before_reading_and_reading_before_order() {
+        let full: Vec<u8> = (1..=512).flat_map(line).collect();
+        assert_eq!(fault(&full), FINE);
+        assert_eq!(fault(&[&full[..], b"x"].concat()), TOO_MANY_LINES);
+        assert_eq!(fault(&[b"x\r\n", &full[..]].concat()), TOO_MANY_LINES);
+        assert_eq!(fault(&[&full[..], b"\r\n"].concat()), TOO_MANY_LINES);
+        assert_eq!(fault(&[line(2), line(2)].concat()), NOT_RISING);
+        assert_eq!(fault(&[line(2), line(1)].concat()), NOT_RISING);
     }
 }

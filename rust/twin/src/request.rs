@@ -1,253 +1,237 @@
-//! Requests: read with their first fault, and written.
-use crate::date::{Date, NO_DATE, read_date};
-use crate::fields::{Number, read_amount, read_kind, read_reason, read_receipt};
-use crate::writer::Writer;
+//! Reading the parameters of a request.
 
-/// What a request asks.
+use crate::codes::*;
+use crate::date::{self, Date};
+use crate::fields::{self, Number};
+use crate::payment::Payment;
+
+/// What a request asks for.
 #[derive(Clone, Copy, Debug, PartialEq, Eq)]
 pub enum Action {
     /// Whether a payment could be made.
     Check,
-    /// A payment.
+    /// To credit a payment.
     Payment,
     /// How a payment stands.
     Status,
-    /// A payment's cancel.
+    /// To take a payment back.
     Cancel,
 }
 
-/// A request; fields that its action lacks are zeros.
-#[derive(Clone, Copy, Debug, PartialEq, Eq)]
-pub struct Request {
-    /// What it asks.
-    pub action: Action,
-    /// The account's number.
-    pub number: Number,
-    /// The account's type.
-    pub kind: u64,
-    /// The amount.
-    pub kopecks: u64,
-    /// The payment number.
-    pub receipt: u64,
-    /// The payment's date.
-    pub date: Date,
-    /// A cancel's reason.
-    pub reason: u64,
+/// A request whose fields are all well-formed.
+pub(crate) enum Request {
+    Check { number: Number, kind: u64 },
+    Payment(Payment),
+    Status { receipt: u64 },
+    Cancel { receipt: u64 },
 }
 
-/// A request's first fault, and its action where that could be read.
-#[derive(Clone, Copy, Debug, PartialEq, Eq)]
-pub struct Refused {
-    /// The code of the fault.
-    pub code: u64,
-    /// The action.
-    pub action: Option<Action>,
+/// Why a text is no request; the action is known unless the text has no readable one.
+#[derive(Debug, PartialEq, Eq)]
+pub(crate) struct Refusal {
+    pub(crate) code: u64,
+    pub(crate) action: Option<Action>,
 }
 
-/// The most bytes that parameters may have.
-const PARAMETERS_MOST: usize = 2048;
+const LONGEST: usize = 2048;
 
-/// The known names, in the order in which a writer gives them.
-const NAMES: [&[u8]; 7] = [b"action", b"number", b"type", b"amount", b"receipt", b"date", b"mes"];
+impl Request {
+    pub(crate) fn read(text: &[u8]) -> Result<Request, Refusal> {
+        let early = |code| Refusal { code, action: None };
+        let values = Values::split(text).ok_or(early(BAD_REQUEST))?;
+        let action = values.read(ACTION, read_action).ok_or(early(UNKNOWN_ACTION))?;
+        values.request(action).map_err(|code| Refusal { code, action: Some(action) })
+    }
+}
 
-impl Action {
-    const ALL: [Action; 4] = [Action::Check, Action::Payment, Action::Status, Action::Cancel];
+// The places of the known names among the values.
+const ACTION: usize = 0;
+const NUMBER: usize = 1;
+const KIND: usize = 2;
+const AMOUNT: usize = 3;
+const RECEIPT: usize = 4;
+const DATE: usize = 5;
+const REASON: usize = 6;
 
-    fn word(self) -> &'static [u8] {
-        match self {
-            Action::Check => b"check",
-            Action::Payment => b"payment",
-            Action::Status => b"status",
-            Action::Cancel => b"cancel",
+fn known_name(name: &[u8]) -> Option<usize> {
+    match name {
+        b"action" => Some(ACTION),
+        b"number" => Some(NUMBER),
+        b"type" => Some(KIND),
+        b"amount" => Some(AMOUNT),
+        b"receipt" => Some(RECEIPT),
+        b"date" => Some(DATE),
+        b"mes" => Some(REASON),
+        _ => None,
+    }
+}
+
+fn read_action(text: &[u8]) -> Option<Action> {
+    match text {
+        b"check" => Some(Action::Check),
+        b"payment" => Some(Action::Payment),
+        b"status" => Some(Action::Status),
+        b"cancel" => Some(Action::Cancel),
+        _ => None,
+    }
+}
+
+fn read_date(text: &[u8]) -> Option<Date> {
+    Date::try_from(text).ok().filter(date::is_date)
+}
+
+/// The values of the known names, still coded.
+struct Values<'a>([Option<&'a [u8]>; 7]);
+
+impl<'a> Values<'a> {
+    /// None where the text as a whole is bad, whatever it asks for.
+    fn split(text: &'a [u8]) -> Option<Values<'a>> {
+        let mut values = Values([None; 7]);
+        if text.len() > LONGEST {
+            return None;
         }
-    }
-
-    fn has_account(self) -> bool {
-        matches!(self, Action::Check | Action::Payment)
-    }
-
-    fn has_receipt(self) -> bool {
-        self != Action::Check
-    }
-}
-
-fn hexadecimal(byte: u8) -> Option<u8> {
-    char::from(byte).to_digit(16).map(|digit| digit as u8)
-}
-
-/// A decoded value. No field has more than 30 bytes, so 31 tell enough of a longer one.
-#[derive(Clone, Copy)]
-struct Value {
-    bytes: [u8; 31],
-    len: usize,
-}
-
-impl Value {
-    /// Decodes the whole value; none where an escape is bad.
-    fn decode(coded: &[u8]) -> Option<Value> {
-        let mut value = Value { bytes: [0; 31], len: 0 };
-        let mut rest = coded.iter();
-        while let Some(&byte) = rest.next() {
-            let byte = match byte {
-                b'%' => 16 * hexadecimal(*rest.next()?)? + hexadecimal(*rest.next()?)?,
-                _ => byte,
-            };
-            if let Some(place) = value.bytes.get_mut(value.len) {
-                *place = byte;
-                value.len += 1;
-            }
-        }
-        Some(value)
-    }
-
-    fn text(&self) -> &[u8] {
-        &self.bytes[..self.len]
-    }
-}
-
-/// The values by the places of their names; none for what row 31 has.
-fn gather(parameters: &[u8]) -> Option<[Option<Value>; 7]> {
-    if parameters.len() > PARAMETERS_MOST {
-        return None;
-    }
-    let mut values = [None; 7];
-    for piece in parameters.split(|&byte| byte == b'&').filter(|piece| !piece.is_empty()) {
-        let equals = piece.iter().position(|&byte| byte == b'=')?;
-        let value = Value::decode(&piece[equals + 1..])?;
-        if let Some(place) = NAMES.iter().position(|name| *name == &piece[..equals]) {
-            if values[place].replace(value).is_some() {
+        for piece in text.split(|&byte| byte == b'&').filter(|piece| !piece.is_empty()) {
+            let equals = piece.iter().position(|&byte| byte == b'=')?;
+            let value = &piece[equals + 1..];
+            let place = known_name(&piece[..equals]);
+            let twice = place.is_some_and(|place| values.0[place].replace(value).is_some());
+            if twice || !has_good_escapes(value) {
                 return None;
             }
         }
+        Some(values)
     }
-    Some(values)
+
+    /// A value decoded and read; none where it is absent or malformed.
+    fn read<T>(&self, place: usize, reader: impl Fn(&[u8]) -> Option<T>) -> Option<T> {
+        let value = self.0[place]?;
+        if !value.contains(&b'%') {
+            return reader(value);
+        }
+        let mut room = [0; DECODED];
+        let len = decode(value, &mut room);
+        reader(&room[..len])
+    }
+
+    fn account(&self) -> Option<(Number, u64)> {
+        let number = self.read(NUMBER, Number::read)?;
+        let kind = match self.0[KIND] {
+            None => fields::USUAL_KIND,
+            Some(_) => self.read(KIND, fields::read_kind)?,
+        };
+        Some((number, kind))
+    }
+
+    /// The fields of this action in the order in which faults count.
+    fn request(&self, action: Action) -> Result<Request, u64> {
+        let receipt = || self.read(RECEIPT, fields::read_receipt).ok_or(WRONG_RECEIPT);
+        let account = || self.account().ok_or(WRONG_ACCOUNT);
+        let amount = || self.read(AMOUNT, fields::read_amount).ok_or(WRONG_AMOUNT);
+        match action {
+            Action::Check => {
+                let (number, kind) = account()?;
+                amount()?;
+                Ok(Request::Check { number, kind })
+            }
+            Action::Payment => {
+                let receipt = receipt()?;
+                let (number, kind) = account()?;
+                let kopecks = amount()?;
+                let date = self.read(DATE, read_date).ok_or(WRONG_DATE)?;
+                Ok(Request::Payment(Payment { receipt, number, kind, kopecks, date }))
+            }
+            Action::Status => Ok(Request::Status { receipt: receipt()? }),
+            Action::Cancel => {
+                let receipt = receipt()?;
+                self.read(REASON, fields::read_reason).ok_or(BAD_REASON)?;
+                Ok(Request::Cancel { receipt })
+            }
+        }
+    }
 }
 
-/// A request, or its first fault.
-pub fn read_request(parameters: &[u8]) -> Result<Request, Refused> {
-    let values = gather(parameters).ok_or(Refused { code: 31, action: None })?;
-    let [action, number, kind, amount, receipt, date, reason] = &values;
-    let action = action
-        .as_ref()
-        .and_then(|value| Action::ALL.into_iter().find(|action| action.word() == value.text()))
-        .ok_or(Refused { code: 1, action: None })?;
-    let mut request =
-        Request { action, number: Number::NONE, kind: 0, kopecks: 0, receipt: 0, date: NO_DATE, reason: 0 };
-    let refused = |code| Refused { code, action: Some(action) };
-    if action.has_receipt() {
-        request.receipt = field(receipt, read_receipt).ok_or(refused(4))?;
+fn has_good_escapes(value: &[u8]) -> bool {
+    let mut rest = value;
+    while let Some(at) = rest.iter().position(|&byte| byte == b'%') {
+        match rest[at + 1..] {
+            [high, low, ..] if high.is_ascii_hexdigit() && low.is_ascii_hexdigit() => rest = &rest[at + 3..],
+            _ => return false,
+        }
     }
-    if action.has_account() {
-        request.number = field(number, Number::read).ok_or(refused(2))?;
-        request.kind = if kind.is_none() { 1 } else { field(kind, read_kind).ok_or(refused(2))? };
-        request.kopecks = field(amount, read_amount).ok_or(refused(3))?;
-    }
-    if action == Action::Payment {
-        request.date = field(date, read_date).ok_or(refused(5))?;
-    }
-    if action == Action::Cancel {
-        request.reason = field(reason, read_reason).ok_or(refused(32))?;
-    }
-    Ok(request)
+    true
 }
 
-fn field<T>(value: &Option<Value>, read: impl Fn(&[u8]) -> Option<T>) -> Option<T> {
-    value.as_ref().and_then(|value| read(value.text()))
+/// One byte more than the longest good value, so that a value cut at this length is still too long.
+const DECODED: usize = 31;
+
+/// Decodes good escapes as far as the room goes and tells how much of it was used.
+fn decode(value: &[u8], room: &mut [u8; DECODED]) -> usize {
+    let (mut rest, mut len) = (value, 0);
+    while len < DECODED {
+        (room[len], rest) = match *rest {
+            [b'%', high, low, ..] => (hex(high) << 4 | hex(low), &rest[3..]),
+            [byte, ..] => (byte, &rest[1..]),
+            [] => break,
+        };
+        len += 1;
+    }
+    len
 }
 
-/// Writes a well-formed request and gives its size.
-pub fn write_request(request: &Request, out: &mut [u8]) -> usize {
-    let mut writer = Writer::new(out);
-    writer.put(b"action=");
-    writer.put(request.action.word());
-    if request.action.has_account() {
-        writer.put(b"&number=");
-        writer.put_coded(request.number.text());
-        writer.put(b"&type=");
-        writer.put_digits(request.kind);
-        writer.put(b"&amount=");
-        writer.put_amount(request.kopecks);
-    }
-    if request.action.has_receipt() {
-        writer.put(b"&receipt=");
-        writer.put_digits(request.receipt);
-    }
-    if request.action == Action::Payment {
-        writer.put(b"&date=");
-        writer.put_coded(&request.date);
-    }
-    if request.action == Action::Cancel {
-        writer.put(b"&mes=");
-        writer.put_digits(request.reason);
-    }
-    writer.size
+fn hex(digit: u8) -> u8 {
+    // Letters of either case end in the bits 1 to 6.
+    if digit.is_ascii_digit() { digit - b'0' } else { (digit & 7) + 9 }
 }
 
 #[cfg(test)]
 mod tests {
     use super::*;
 
-    fn fault(parameters: &str) -> u64 {
-        read_request(parameters.as_bytes()).map_or_else(|refused| refused.code, |_| 0)
+    fn fault(text: &[u8]) -> u64 {
+        Request::read(text).err().map_or(FINE, |refusal| refusal.code)
     }
 
+    const GOOD: &[u8] = b"action=payment&number=a1&amount=1&receipt=7&date=2005-09-20T15:53:00";
+
     #[test]
-    fn the_first_fault_decides() {
-        let good = "action=payment&number=a&type=1&amount=1&receipt=1&date=2005-09-20T15:53:00";
-        assert_eq!(fault(good), 0);
-        for (from, to, code) in [
-            ("&number", "&number=%", 31),
-            ("receipt=1", "receipt=0", 4),
-            ("number=a", "number=", 2),
-            ("type=1", "type=", 2),
-            ("amount=1", "amount=0.00", 3),
-            ("date=2005", "date=1999", 5),
-            ("payment", "pay", 1),
-            ("number=a&type=1&amount=1&receipt=1", "number=&receipt=0", 4),
-        ] {
-            assert_eq!(fault(&good.replacen(from, to, 1)), code, "{from} as {to}");
+    fn bad_as_a_whole_comes_before_the_action() {
+        let long = [GOOD, b"&x=", &[b'y'; 2048 - 68 - 3]].concat();
+        assert_eq!((long.len(), fault(&long)), (2048, FINE));
+        assert_eq!(fault(&[&long[..], b"&"].concat()), BAD_REQUEST);
+        for text in [&b"a"[..], b"action", b"x=%", b"x=%0", b"x=%0g", b"mes=1&mes=1", b"=%zz", b"date=&x=&date="] {
+            assert_eq!(Request::read(text).err(), Some(Refusal { code: BAD_REQUEST, action: None }), "{text:?}");
         }
-        assert_eq!(fault("action=cancel&receipt=1&mes=01"), 32);
-        assert_eq!(fault("action=cancel&receipt=1"), 32);
+        for text in [&b""[..], b"&&", b"=", b"x%zz=1", b"%61ction=check", b"action=", b"action=Check", b"x=1&x=1"] {
+            assert_eq!(fault(text), UNKNOWN_ACTION, "{text:?}");
+        }
     }
 
     #[test]
-    fn pieces_and_names() {
-        assert_eq!(fault("&&action=status&receipt=7&&"), 0);
-        assert_eq!(fault("action=status&receipt=7&x%zz=1&=x&additional=1&additional=2"), 0);
-        assert_eq!(fault("%61ction=status&receipt=7"), 1);
-        assert_eq!(fault("action=%73tatus&receipt=%37"), 0);
-        assert_eq!(fault("action=status&receipt=7&mes=1&mes=1"), 31);
-        assert_eq!(fault("action=status&receipt=7&x=%4"), 31);
-        assert_eq!(fault("action=status&receipt=7&x=%4g"), 31);
-        assert_eq!(fault("action=status&receipt=7&piece"), 31);
-        assert_eq!(fault(""), 1);
+    fn fields_fault_in_order() {
+        let cases: [(&[u8], u64); 10] = [
+            (b"action=payment&receipt=0&number=&amount=x&date=x", WRONG_RECEIPT),
+            (b"action=payment&receipt=1&number=&amount=x&date=x", WRONG_ACCOUNT),
+            (b"action=payment&receipt=1&number=1&type=&amount=x&date=x", WRONG_ACCOUNT),
+            (b"action=payment&receipt=1&number=1&type=2&amount=x&date=x", WRONG_AMOUNT),
+            (b"action=payment&receipt=1&number=1&amount=2&date=x", WRONG_DATE),
+            (b"action=check&number=1&amount=2&receipt=x&date=x&mes=x", FINE),
+            (b"action=check&number=1", WRONG_AMOUNT),
+            (b"action=cancel&mes=9", WRONG_RECEIPT),
+            (b"action=cancel&receipt=1", BAD_REASON),
+            (b"action=status&receipt=1&mes=x", FINE),
+        ];
+        for (text, code) in cases {
+            assert_eq!(fault(text), code, "{text:?}");
+        }
     }
 
     #[test]
-    fn parameters_have_2048_bytes_at_most() {
-        let pad = |size: usize| format!("{:p<size$}", "action=status&receipt=7&x=");
-        assert_eq!(fault(&pad(2048)), 0);
-        assert_eq!(fault(&pad(2049)), 31);
-    }
-
-    #[test]
-    fn what_is_written_reads_back() {
-        let request = Request {
-            action: Action::Payment,
-            number: Number::read(b"+7(916)").unwrap(),
-            kind: 0,
-            kopecks: 1012,
-            receipt: 7,
-            date: *b"2005-09-20T15:53:00",
-            reason: 0,
-        };
-        let mut out = [0; 512];
-        let size = write_request(&request, &mut out);
-        assert_eq!(
-            &out[..size],
-            b"action=payment&number=%2B7%28916%29&type=0&amount=10.12&receipt=7&date=2005-09-20T15:53:00"
-        );
-        assert_eq!(read_request(&out[..size]), Ok(request));
+    fn values_are_decoded_once() {
+        let text = b"action=%70aymen%74&number=%2525+%7e&amount=%31.5&receipt=%30%37&date=2005-09-20T15%3A53%3a00";
+        let Ok(Request::Payment(payment)) = Request::read(text) else { panic!("readable") };
+        assert_eq!(&payment.number.bytes[..payment.number.len], b"%25+~");
+        assert_eq!((payment.kopecks, payment.receipt, payment.kind), (150, 7, 1));
+        let coded = |count: usize| [b"action=check&amount=1&number=", "%41".repeat(count).as_bytes()].concat();
+        assert_eq!((fault(&coded(30)), fault(&coded(31)), fault(&coded(600))), (FINE, WRONG_ACCOUNT, WRONG_ACCOUNT));
     }
 }

@@ -1,54 +1,58 @@
-//! Texts written into a lent buffer.
+//! Writing into a lent buffer; what lies past the written bytes is not touched.
 
-/// A buffer with room for what is written, and how far it is written.
-pub struct Writer<'a> {
+/// A writing position in a buffer whose length the caller has checked.
+pub(crate) struct Writer<'a> {
     out: &'a mut [u8],
-    /// How many bytes are written.
-    pub size: usize,
+    at: usize,
 }
 
 impl<'a> Writer<'a> {
-    pub fn new(out: &'a mut [u8]) -> Writer<'a> {
-        Writer { out, size: 0 }
+    pub(crate) fn new(out: &'a mut [u8]) -> Writer<'a> {
+        Writer { out, at: 0 }
     }
 
-    pub fn put(&mut self, text: &[u8]) {
-        self.out[self.size..self.size + text.len()].copy_from_slice(text);
-        self.size += text.len();
+    /// How many bytes were written.
+    pub(crate) fn written(&self) -> usize {
+        self.at
     }
 
-    /// A number without leading zeros.
-    pub fn put_digits(&mut self, mut value: u64) {
+    pub(crate) fn put(&mut self, text: &[u8]) -> &mut Self {
+        let end = self.at + text.len();
+        self.out[self.at..end].copy_from_slice(text);
+        self.at = end;
+        self
+    }
+
+    /// A value in digits, without leading zeros.
+    pub(crate) fn put_digits(&mut self, value: u64) -> &mut Self {
         let mut digits = [0; 20];
-        let mut from = digits.len();
+        let (mut at, mut rest) = (digits.len(), value);
         loop {
-            from -= 1;
-            digits[from] = b'0' + (value % 10) as u8;
-            value /= 10;
-            if value == 0 {
-                break;
+            at -= 1;
+            digits[at] = b'0' + (rest % 10) as u8;
+            rest /= 10;
+            if rest == 0 {
+                return self.put(&digits[at..]);
             }
         }
-        self.put(&digits[from..]);
     }
 
-    /// An amount with two decimals.
-    pub fn put_amount(&mut self, kopecks: u64) {
-        self.put_digits(kopecks / 100);
-        let rest = (kopecks % 100) as u8;
-        self.put(&[b'.', b'0' + rest / 10, b'0' + rest % 10]);
+    /// Kopecks as roubles with two decimals.
+    pub(crate) fn put_amount(&mut self, kopecks: u64) -> &mut Self {
+        let cents = (kopecks % 100) as u8;
+        self.put_digits(kopecks / 100).put(&[b'.', b'0' + cents / 10, b'0' + cents % 10])
     }
 
-    /// A value, url-coded.
-    pub fn put_coded(&mut self, text: &[u8]) {
+    /// Text as a parameter's value carries it.
+    pub(crate) fn put_coded(&mut self, text: &[u8]) -> &mut Self {
         const HEX: &[u8; 16] = b"0123456789ABCDEF";
         for &byte in text {
-            if byte.is_ascii_alphanumeric() || b"-.:".contains(&byte) {
-                self.put(&[byte]);
-            } else {
-                self.put(&[b'%', HEX[usize::from(byte >> 4)], HEX[usize::from(byte & 15)]]);
-            }
+            match byte {
+                b'A'..=b'Z' | b'a'..=b'z' | b'0'..=b'9' | b'-' | b'.' | b':' => self.put(&[byte]),
+                _ => self.put(&[b'%', HEX[usize::from(byte >> 4)], HEX[usize::from(byte & 15)]]),
+            };
         }
+        self
     }
 }
 
@@ -56,24 +60,15 @@ impl<'a> Writer<'a> {
 mod tests {
     use super::*;
 
-    fn written(write: impl Fn(&mut Writer)) -> Vec<u8> {
-        let mut out = [0; 64];
+    #[test]
+    fn digits_amounts_and_codes() {
+        let mut out = [b'#'; 80];
         let mut writer = Writer::new(&mut out);
-        write(&mut writer);
-        let size = writer.size;
-        out[..size].to_vec()
-    }
-
-    #[test]
-    fn numbers_and_amounts() {
-        assert_eq!(written(|w| w.put_digits(0)), b"0");
-        assert_eq!(written(|w| w.put_digits(u64::MAX)), b"18446744073709551615");
-        assert_eq!(written(|w| w.put_amount(1)), b"0.01");
-        assert_eq!(written(|w| w.put_amount(999_999_999)), b"9999999.99");
-    }
-
-    #[test]
-    fn coded_values() {
-        assert_eq!(written(|w| w.put_coded(b"+7(916)a-B.c:9")), b"%2B7%28916%29a-B.c:9");
+        writer.put_digits(0).put(b" ").put_digits(u64::MAX).put(b" ").put_amount(5).put(b" ").put_amount(999_999_999);
+        writer.put(b" ").put_coded(b"aZ9-.:_/%+~\x01\xff");
+        let written = writer.written();
+        let text = b"0 18446744073709551615 0.05 9999999.99 aZ9-.:%5F%2F%25%2B%7E%01%FF";
+        assert_eq!(&out[..written], text);
+        assert!(out[written..].iter().all(|&byte| byte == b'#'));
     }
 }

@@ -92,7 +92,7 @@ impl Gates {
                 cancel_record(&mut proved, place, &paid);
             }
         }
-        twin::ledger::Ledger::close(&mut owned, sides::day(START));
+        owned.close(sides::day(START));
         proved.head.closed = START;
         head.clone_from(&sides::gate_head(&proved.head));
         Gates { lent: Lent { head, table: proved.table.clone() }, proved, owned }
