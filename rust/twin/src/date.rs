@@ -77,88 +77,26 @@ pub(crate) fn is_date(date: &Date) -> bool {
 }
 
 /// A small number for the day of a date, equal for equal days and below [`DAY_NUMBERS`]; none where it is no date.
-#[inline]
 pub(crate) fn day_number(date: &Date) -> Option<usize> {
-    day_of_words(eight(date, 0), eight(date, 3)).filter(|_| has_time(date))
-}
-
-/// Judges a row of dates, in which a date is mostly of the day of the one before it.
-pub(crate) struct Judge {
-    /// The day judged good last, as two overlapping words, and its number.
-    last: ([u8; 8], [u8; 8], usize),
-}
-
-impl Judge {
-    pub(crate) const fn new() -> Judge {
-        Judge { last: (*b"2000-01-", *b"0-01-01T", 0) }
+    let marks = [date[4], date[7], date[10], date[13], date[16]];
+    if marks != *b"--T::" || two(date, 0)? != 20 || two(date, 11)? > 23 || two(date, 14)? > 59 || two(date, 17)? > 59 {
+        return None;
     }
-
-    /// The same as [`day_number`].
-    #[inline]
-    pub(crate) fn day_number(&mut self, date: &Date) -> Option<usize> {
-        let (century, year_on) = (eight(date, 0), eight(date, 3));
-        if (century, year_on) != (self.last.0, self.last.1) {
-            self.last = (century, year_on, day_of_words(century, year_on)?);
-        }
-        has_time(date).then_some(self.last.2)
-    }
-
-    #[inline]
-    pub(crate) fn is_date(&mut self, date: &Date) -> bool {
-        self.day_number(date).is_some()
-    }
-}
-
-/// The number of the day written as `YYYY-MM-` and `Y-MM-DDT`.
-#[inline]
-fn day_of_words(century: [u8; 8], year_on: [u8; 8]) -> Option<usize> {
-    const CENTURY_TO_MONTH: Mould = Mould::new(b"2000-00-", b"2099-19-");
-    const YEAR_TO_DAY: Mould = Mould::new(b"0-00-00T", b"9-19-39T");
-    let [_, _, y1, y2, ..] = CENTURY_TO_MONTH.digits(century)?;
-    let [_, _, m1, m2, _, d1, d2, _] = YEAR_TO_DAY.digits(year_on)?;
-    let (year, month, day) = (y1 * 10 + y2, m1 * 10 + m2, d1 * 10 + d2);
-    let real = day >= 1 && day <= month_days(u16::from(year), month);
+    let (year, month, day) = (two(date, 2)?, two(date, 5)?, two(date, 8)?);
+    let real = (1..=month_days(u16::from(year), month)).contains(&day);
     real.then(|| (usize::from(year) * 12 + usize::from(month) - 1) * 31 + usize::from(day) - 1)
 }
 
-#[inline]
-fn has_time(date: &Date) -> bool {
-    const TIME: Mould = Mould::new(b"00:00:00", b"29:59:59");
-    TIME.digits(eight(date, 11)).is_some_and(|[h1, h2, ..]| h1 * 10 + h2 < 24)
+/// The value of the two digits from this place on.
+fn two(date: &Date, from: usize) -> Option<u8> {
+    let digit = |at: usize| date[at].is_ascii_digit().then(|| date[at] - b'0');
+    Some(digit(from)? * 10 + digit(from + 1)?)
 }
 
 fn eight(date: &Date, from: usize) -> [u8; 8] {
     let mut bytes = [0; 8];
     bytes.copy_from_slice(&date[from..from + 8]);
     bytes
-}
-
-/// The least and greatest text that eight bytes may be, judged byte by byte but all eight at once.
-struct Mould {
-    least: u64,
-    slack: u64,
-}
-
-impl Mould {
-    const fn new(least: &[u8; 8], greatest: &[u8; 8]) -> Mould {
-        let mut slack = [0; 8];
-        let mut at = 0;
-        while at < 8 {
-            slack[at] = 15 - (greatest[at] - least[at]);
-            at += 1;
-        }
-        Mould { least: u64::from_le_bytes(*least), slack: u64::from_le_bytes(slack) }
-    }
-
-    /// How far each byte is above the least one, if none is too far.
-    #[inline]
-    fn digits(&self, text: [u8; 8]) -> Option<[u8; 8]> {
-        // A byte too far up reaches its upper half by itself or with its slack added; a carry into the next byte can
-        // only come from one that is already seen to be so.
-        let digits = u64::from_le_bytes(text) ^ self.least;
-        let excess = (digits | digits.wrapping_add(self.slack)) & 0xF0F0_F0F0_F0F0_F0F0;
-        (excess == 0).then(|| digits.to_le_bytes())
-    }
 }
 
 #[cfg(test)]
@@ -185,11 +123,6 @@ mod tests {
                 let mut date = *base;
                 date[at] = byte;
                 assert_eq!(is_date(&date), plain(&date), "{date:?}");
-                let mut judge = Judge::new();
-                assert_eq!(
-                    [base, &date, base, &date].map(|date| judge.is_date(date)),
-                    [base, &date, base, &date].map(plain)
-                );
             }
         }
     }

@@ -1,7 +1,7 @@
 //! The entries of a book: their soundness and how one is found and read.
 
 use crate::book::{Head, Rows};
-use crate::date::{self, DAY_NUMBERS, Day, Judge};
+use crate::date::{self, DAY_NUMBERS, Day};
 use crate::fields::{self, Number, TOP_KIND, TOP_RECEIPT};
 use crate::index;
 use crate::payment::Payment;
@@ -30,11 +30,10 @@ impl Head {
         }
         // Up to the limit of one day there is nothing to count.
         let mut counts = if self.used > MOST_LINES { vec![0u16; DAY_NUMBERS] } else { Vec::new() };
-        let mut judge = Judge::new();
         nums[..self.used].iter().zip(&numbers[..self.used]).zip(&dates[..self.used]).zip(self.first..).all(
             |(((nums, number), date), receipt)| {
                 is_sound_entry(nums, number, receipt)
-                    && judge.day_number(date).is_some_and(|number| has_room(&mut counts, number))
+                    && date::day_number(date).is_some_and(|number| has_room(&mut counts, number))
             },
         )
     }

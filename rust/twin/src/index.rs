@@ -1,121 +1,89 @@
 //! Accounts as comparable keys, and a small hash index over them.
 
-use std::hash::{BuildHasherDefault, Hash, Hasher};
+use std::hash::{BuildHasherDefault, Hasher};
 
-use crate::fields::TOP_KIND;
+use crate::fields::{Number, TOP_KIND};
+
+/// A prime near 2^64 divided by the golden ratio: its multiples spread.
+const PRIME: u64 = 0x9E37_79B9_7F4A_7C55;
 
 /// The bytes that a number has room for.
 pub(crate) const NUMBER_BYTES: usize = 30;
 
-const HIGH_BITS: u64 = 0x8080_8080_8080_8080;
-const SPREAD: [u64; 4] = [0x9E37_79B9_7F4A_7C15, 0xC2B2_AE3D_27D4_EB4F, 0x1656_67B1_9E37_79F9, 0xD6E8_FEB8_6659_FD93];
-
-/// For each length, which bits of a number's four words count.
-const COUNTED: [[u64; 4]; NUMBER_BYTES + 1] = counted();
-
-const fn counted() -> [[u64; 4]; NUMBER_BYTES + 1] {
-    let mut masks = [[0; 4]; NUMBER_BYTES + 1];
-    let mut len = 1;
-    while len <= NUMBER_BYTES {
-        masks[len] = masks[len - 1];
-        masks[len][(len - 1) / 8] |= 0xFF << (8 * ((len - 1) % 8));
-        len += 1;
-    }
-    masks
-}
-
-fn masks(len: u64) -> Option<&'static [u64; 4]> {
-    COUNTED.get(usize::try_from(len).ok()?).filter(|_| len != 0)
-}
-
-/// The bytes of a number as four words, all but the counted ones zero.
-fn words(bytes: &[u8; NUMBER_BYTES], masks: &[u64; 4]) -> [u64; 4] {
-    let word = |from: usize| {
-        let mut word = [0; 8];
-        word.copy_from_slice(&bytes[from..from + 8]);
-        u64::from_le_bytes(word)
-    };
-    // The last word starts two bytes early so as to stay within the thirty.
-    [word(0) & masks[0], word(8) & masks[1], word(16) & masks[2], (word(22) >> 16) & masks[3]]
-}
-
 /// Whether these are 1 to 30 visible characters.
-#[inline]
 pub(crate) fn is_number(bytes: &[u8; NUMBER_BYTES], len: u64) -> bool {
-    let Some(masks) = masks(len) else { return false };
-    let faults = words(bytes, masks).iter().zip(masks).fold(0, |faults, (&word, mask)| {
-        // A high bit for each byte above 7E and each counted one below 21. A sum can carry only from a byte that is
-        // itself above 7F, and so is a fault already.
-        let above = word | word.wrapping_add(0x0101_0101_0101_0101);
-        let below = !word.wrapping_add(0x5F5F_5F5F_5F5F_5F5F) & mask;
-        faults | above | below
-    });
-    faults & HIGH_BITS == 0
+    counted(bytes, len).is_some_and(|text| text.iter().all(|byte| (0x21..=0x7E).contains(byte)))
 }
 
-/// A number with its length and type, packed so that equal accounts are equal words.
+/// The bytes that count; none where the length is out of range.
+fn counted(bytes: &[u8; NUMBER_BYTES], len: u64) -> Option<&[u8]> {
+    bytes.get(..usize::try_from(len).ok()?).filter(|text| !text.is_empty())
+}
+
+/// The text of a number with a type; the bytes themselves are not judged.
 #[derive(Clone, Copy, Debug, PartialEq, Eq)]
-pub(crate) struct AccountKey([u64; 4]);
-
-impl AccountKey {
-    /// The key; none where length or type are out of range. The bytes themselves are not judged.
-    #[inline]
-    pub(crate) fn new(bytes: &[u8; NUMBER_BYTES], len: u64, kind: u64) -> Option<AccountKey> {
-        let masks = masks(len).filter(|_| kind <= TOP_KIND)?;
-        let [a, b, c, d] = words(bytes, masks);
-        Some(AccountKey([a, b, c, d | len << 48 | kind << 53]))
-    }
-
-    fn spread(&self) -> u64 {
-        let [a, b, c, d] = self.0;
-        a.wrapping_mul(SPREAD[0]) ^ b.wrapping_mul(SPREAD[1]) ^ c.wrapping_mul(SPREAD[2]) ^ d.wrapping_mul(SPREAD[3])
-    }
+pub(crate) struct AccountKey<'a> {
+    text: &'a [u8],
+    kind: u64,
 }
 
-impl Hash for AccountKey {
-    fn hash<H: Hasher>(&self, state: &mut H) {
-        state.write_u64(self.spread());
+impl AccountKey<'_> {
+    /// The key; none where length or type are out of range.
+    pub(crate) fn new(bytes: &[u8; NUMBER_BYTES], len: u64, kind: u64) -> Option<AccountKey<'_>> {
+        let text = counted(bytes, len).filter(|_| kind <= TOP_KIND)?;
+        Some(AccountKey { text, kind })
+    }
+
+    /// A number that spreads keys: the bytes folded by a prime.
+    fn spread(&self) -> u64 {
+        self.text.iter().fold(self.kind, |hash, &byte| (hash ^ u64::from(byte)).wrapping_mul(PRIME))
     }
 }
 
 /// Finds the first of equal accounts by key. Holds up to 256 accounts.
+#[derive(Clone, Debug)]
 pub(crate) struct Index {
-    /// One more than a place in `keys`; 0 is a free slot. At least half of the slots stay free.
+    /// One more than a place in `accounts`; 0 is a free slot. At least half of the slots stay free.
     slots: [u16; Index::SLOTS],
-    keys: Vec<AccountKey>,
+    accounts: Vec<(Number, u64)>,
 }
 
 impl Index {
     const SLOTS: usize = 512;
 
     pub(crate) fn with_room(accounts: usize) -> Index {
-        Index { slots: [0; Index::SLOTS], keys: Vec::with_capacity(accounts) }
+        Index { slots: [0; Index::SLOTS], accounts: Vec::with_capacity(accounts) }
     }
 
-    /// Adds the next account; an account equal to an earlier one stays hidden behind it.
-    pub(crate) fn push(&mut self, key: AccountKey) {
+    /// Adds the next account; one equal to an earlier account stays hidden behind it.
+    pub(crate) fn push(&mut self, number: &Number, kind: u64) {
+        let Some(key) = AccountKey::new(&number.bytes, number.len as u64, kind) else { return };
         let (slot, found) = self.seek(&key);
-        self.keys.push(key);
+        self.accounts.push((*number, kind));
         if found.is_none() {
-            self.slots[slot] = self.keys.len() as u16;
+            self.slots[slot] = self.accounts.len() as u16;
         }
     }
 
-    #[inline]
     pub(crate) fn find(&self, key: &AccountKey) -> Option<usize> {
         self.seek(key).1
     }
 
     /// The slot where the search ended, and the place found there.
     fn seek(&self, key: &AccountKey) -> (usize, Option<usize>) {
-        let mut slot = (key.spread() >> 55) as usize % Index::SLOTS;
+        let mut slot = (key.spread() >> 55) as usize;
         loop {
             match usize::from(self.slots[slot]) {
                 0 => return (slot, None),
-                place if self.keys[place - 1] == *key => return (slot, Some(place - 1)),
+                place if self.is_at(place - 1, key) => return (slot, Some(place - 1)),
                 _ => slot = (slot + 1) % Index::SLOTS,
             }
         }
+    }
+
+    fn is_at(&self, place: usize, key: &AccountKey) -> bool {
+        let (number, kind) = &self.accounts[place];
+        *kind == key.kind && number.len == key.text.len() && number.bytes[..number.len] == *key.text
     }
 }
 
@@ -131,7 +99,7 @@ impl Hasher for WordHasher {
     }
 
     fn write_u64(&mut self, word: u64) {
-        self.0 = (self.0.rotate_left(5) ^ word).wrapping_mul(SPREAD[0]);
+        self.0 = (self.0.rotate_left(5) ^ word).wrapping_mul(PRIME);
     }
 
     fn finish(&self) -> u64 {
@@ -144,23 +112,32 @@ impl Hasher for WordHasher {
 mod tests {
     use super::*;
 
-    fn key(text: &[u8], kind: u64) -> AccountKey {
+    /// The number of a text, with other bytes behind it.
+    fn number(text: &[u8]) -> Number {
         let mut bytes = [0xAA; NUMBER_BYTES];
         bytes[..text.len()].copy_from_slice(text);
-        AccountKey::new(&bytes, text.len() as u64, kind).expect("in range")
+        Number { bytes, len: text.len() }
+    }
+
+    /// Where an index of one account finds another.
+    fn finds(account: (&[u8], u64), other: (&[u8], u64)) -> bool {
+        let mut index = Index::with_room(1);
+        index.push(&number(account.0), account.1);
+        let Number { mut bytes, len } = number(other.0);
+        bytes[len..].fill(b'-');
+        index.find(&AccountKey::new(&bytes, len as u64, other.1).expect("in range")).is_some()
     }
 
     #[test]
     fn keys_tell_length_type_and_counted_bytes_apart_and_no_more() {
-        assert_eq!(key(b"abc", 1), AccountKey::new(b"abc---------------------------", 3, 1).expect("in range"));
-        assert_ne!(key(b"abc", 1), key(b"abc\0", 1));
-        assert_ne!(key(b"abc", 1), key(b"abc", 2));
-        assert_ne!(key(&[b'x'; 30], 999), key(&[b'x'; 29], 999));
-        let mut last = [b'x'; 30];
+        assert!(finds((b"abc", 1), (b"abc", 1)));
+        assert!(!finds((b"abc", 1), (b"abc\0", 1)));
+        assert!(!finds((b"abc", 1), (b"abc", 2)));
+        assert!(!finds((&[b'x'; 30], 999), (&[b'x'; 29], 999)));
         for at in 0..30 {
-            last[at] = b'y';
-            assert_ne!(key(&last, 7), key(&[b'x'; 30], 7));
-            last[at] = b'x';
+            let mut text = [b'x'; 30];
+            text[at] = b'y';
+            assert!(!finds((&text, 7), (&[b'x'; 30], 7)) && finds((&text, 7), (&text, 7)));
         }
         for (len, kind) in [(0, 1), (31, 1), (u64::MAX, 1), (1, 1000), (1, u64::MAX)] {
             assert_eq!(AccountKey::new(&[b'x'; 30], len, kind), None);
@@ -183,12 +160,16 @@ mod tests {
     fn the_index_gives_the_first_of_equals() {
         let mut index = Index::with_room(256);
         for n in 0..256u64 {
-            index.push(key(format!("{}", n / 2).as_bytes(), 1));
+            index.push(&number(format!("{}", n / 2).as_bytes()), 1);
         }
+        let find = |text: &str, kind| {
+            let Number { bytes, len } = number(text.as_bytes());
+            index.find(&AccountKey::new(&bytes, len as u64, kind).expect("in range"))
+        };
         for n in 0..128usize {
-            assert_eq!(index.find(&key(format!("{n}").as_bytes(), 1)), Some(2 * n));
+            assert_eq!(find(&n.to_string(), 1), Some(2 * n));
         }
-        assert_eq!(index.find(&key(b"128", 1)), None);
-        assert_eq!(index.find(&key(b"1", 2)), None);
+        assert_eq!(find("128", 1), None);
+        assert_eq!(find("1", 2), None);
     }
 }

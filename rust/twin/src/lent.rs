@@ -1,8 +1,8 @@
 //! The gate over rows that the caller lends, checked whole at each call.
 
 use crate::codes::UNSOUND;
-use crate::date::{Date, Day, Judge, NO_DATE};
-use crate::fields::{self, Number};
+use crate::date::{Date, Day, NO_DATE, is_date};
+use crate::fields::{self, Number, TOP_KIND};
 use crate::index::{AccountKey, Index};
 use crate::rules::{self, MOST_ACCOUNTS, MOST_RECORDS};
 use crate::settle;
@@ -89,13 +89,10 @@ impl Head {
         if !columns || self.used > lent || self.count > MOST_ACCOUNTS || !self.closed.is_real() {
             return false;
         }
-        let mut judges = [const { Judge::new() }; 3];
         self.accounts[..self.count].iter().all(|account| index_account(account, index))
             && nums[..self.used].iter().zip(&numbers[..self.used]).zip(&dates[..self.used]).zip(1..).all(
                 |(((nums, number), dates), place)| {
-                    has_sound_figures(nums, place)
-                        && has_sound_dates(nums, dates, &mut judges)
-                        && has_account(nums, number, index)
+                    has_sound_figures(nums, place) && has_sound_dates(nums, dates) && has_account(nums, number, index)
                 },
             )
     }
@@ -103,10 +100,11 @@ impl Head {
 
 fn index_account(account: &Account, index: &mut Index) -> bool {
     let Account { number, kind, balance } = account;
-    let key = AccountKey::new(&number.bytes, number.len as u64, *kind);
-    let Some(key) = key.filter(|_| number.is_good() && balance.unsigned_abs() <= TOP_BALANCE) else { return false };
-    index.push(key);
-    true
+    let sound = number.is_good() && *kind <= TOP_KIND && balance.unsigned_abs() <= TOP_BALANCE;
+    if sound {
+        index.push(number, *kind);
+    }
+    sound
 }
 
 #[inline]
@@ -117,14 +115,14 @@ fn has_sound_figures(nums: &[u64; 6], place: u64) -> bool {
 
 /// Whether the dates are good and the last one goes with the state.
 #[inline]
-fn has_sound_dates(nums: &[u64; 6], dates: &[Date; 3], judges: &mut [Judge; 3]) -> bool {
+fn has_sound_dates(nums: &[u64; 6], dates: &[Date; 3]) -> bool {
     let [paid, credit, cancel] = dates;
     let cancel_fits = match nums[STATE] {
         DONE => *cancel == NO_DATE,
-        CANCELLED => judges[2].is_date(cancel),
+        CANCELLED => is_date(cancel),
         _ => false,
     };
-    cancel_fits && judges[0].is_date(paid) && judges[1].is_date(credit)
+    cancel_fits && is_date(paid) && is_date(credit)
 }
 
 #[inline]

@@ -4,10 +4,10 @@ use std::collections::HashMap;
 
 use crate::date::{Date, Day, NO_DATE};
 use crate::fields::Number;
-use crate::index::{AccountKey, WordHash};
+use crate::index::{AccountKey, Index, WordHash};
 use crate::ledger::{Finder, Ledger, View};
 pub use crate::payment::Payment;
-use crate::rules::{self, MOST_RECORDS};
+use crate::rules::{self, MOST_ACCOUNTS, MOST_RECORDS};
 use crate::settle;
 
 /// A recorded payment.
@@ -35,7 +35,7 @@ struct Entry {
 pub struct Gate {
     closed: Day,
     room: usize,
-    accounts: HashMap<AccountKey, usize, WordHash>,
+    accounts: Index,
     balances: Vec<i64>,
     entries: Vec<Entry>,
     receipts: HashMap<u64, usize, WordHash>,
@@ -48,7 +48,7 @@ impl Gate {
         Gate {
             closed,
             room,
-            accounts: HashMap::default(),
+            accounts: Index::with_room(MOST_ACCOUNTS),
             balances: Vec::new(),
             entries: Vec::with_capacity(room),
             receipts: HashMap::with_capacity_and_hasher(room, WordHash::default()),
@@ -97,10 +97,6 @@ impl Gate {
     }
 }
 
-fn key_of(number: &Number, kind: u64) -> Option<AccountKey> {
-    AccountKey::new(&number.bytes, number.len as u64, kind)
-}
-
 impl Ledger for Gate {
     fn closed(&self) -> Day {
         self.closed
@@ -115,14 +111,12 @@ impl Ledger for Gate {
     }
 
     fn account(&self, number: &Number, kind: u64) -> Option<usize> {
-        self.accounts.get(&key_of(number, kind)?).copied()
+        self.accounts.find(&AccountKey::new(&number.bytes, number.len as u64, kind)?)
     }
 
     fn add_account(&mut self, number: &Number, kind: u64) {
-        if let Some(key) = key_of(number, kind) {
-            self.accounts.insert(key, self.balances.len());
-            self.balances.push(0);
-        }
+        self.accounts.push(number, kind);
+        self.balances.push(0);
     }
 
     fn balance(&self, account: usize) -> i64 {

@@ -1,7 +1,7 @@
 //! The day's registry as text.
 
 use crate::codes::*;
-use crate::date::{self, Date, Day, Judge};
+use crate::date::{self, Date, Day};
 use crate::fields::{self, Number};
 use crate::payment::Payment;
 use crate::scan::Scan;
@@ -18,7 +18,7 @@ pub(crate) fn read(text: &[u8], day: Day) -> Result<Vec<Payment>, u64> {
     // The key of an unreal day is no date's, so that on such a day every line is off the day.
     let key = day.key();
     let mut lines = Vec::with_capacity((text.len() / SHORTEST_LINE).min(MOST_LINES));
-    let (mut rest, mut judge) = (text, Judge::new());
+    let mut rest = text;
     let (mut count, mut sound) = (0, true);
     while !rest.is_empty() {
         if count == MOST_LINES {
@@ -26,7 +26,7 @@ pub(crate) fn read(text: &[u8], day: Day) -> Result<Vec<Payment>, u64> {
         }
         count += 1;
         // A bad line does not end the count: too many lines weigh more.
-        match read_line(rest, &mut judge).filter(|(line, _)| date::date_key(&line.date) == key) {
+        match read_line(rest).filter(|(line, _)| date::date_key(&line.date) == key) {
             Some((line, after)) => {
                 lines.push(line);
                 rest = after;
@@ -46,7 +46,7 @@ pub(crate) fn read(text: &[u8], day: Day) -> Result<Vec<Payment>, u64> {
 
 /// A good line at the start of the text, and what follows it. No field of a good line holds a byte of a line end, so
 /// the end need not be looked for beforehand.
-fn read_line<'a>(text: &'a [u8], judge: &mut Judge) -> Option<(Payment, &'a [u8])> {
+fn read_line(text: &[u8]) -> Option<(Payment, &[u8])> {
     let mut scan = Scan { rest: text };
     let number = Number::read(scan.until(b'\t', 30)?)?;
     let kind = fields::read_kind(scan.until(b'\t', 3)?)?;
@@ -55,7 +55,7 @@ fn read_line<'a>(text: &'a [u8], judge: &mut Judge) -> Option<(Payment, &'a [u8]
     let kopecks = fields::read_amount(scan.until(b'\t', 10)?)?;
     let receipt = fields::read_receipt(scan.until(b'\r', 15)?)?;
     scan.skip(b"\n")?;
-    judge.is_date(&date).then_some((Payment { receipt, number, kind, kopecks, date }, scan.rest))
+    date::is_date(&date).then_some((Payment { receipt, number, kind, kopecks, date }, scan.rest))
 }
 
 /// What follows the line at the start of the text, however bad it is.
