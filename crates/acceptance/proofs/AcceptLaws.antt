@@ -24,7 +24,8 @@ use Rattle.book.specs.declared.Entry.{Entry}
 use Rattle.book.specs.declared.State.the-variants.{Asked}
 use Rattle.book.specs.Entries.{BookRows, stateNumber, entriesOf, bookWith}
 use Rattle.book_validity.specs.BookValid.{dayCount, bookGood, ReadyBook}
-use Rattle.book.proofs.EntryLaws.{book-more}
+use Rattle.book.proofs.EntryLaws.{book-more, length-entries}
+use Rattle.book_validity.proofs.CountLaws.{count-length}
 use Rattle.book_validity.proofs.BookLaws.{good-book}
 use Rattle.acceptance.specs.Acceptance.{Acceptance, nextReceipt, madeEntry, mayAccept, dayOpen, hasPlace, withEntry, acceptFault, accept}
 use Rattle.daybook.specs.Freezing.{isFrozen}
@@ -61,6 +62,10 @@ module _ (es : List Entry) (s : List ℕ) (r : DayRead) (er : r ≡ dateDay s) w
 
   pub open-day : (x : Day) → r ≡ Good x → (n : ℕ) → n ≡ dayCount x es → ltb n 512 ≡ dayOpen es (dateDay s)
   open-day x e n en = rw (← er, e, en)
+
+pub open-few : (t : BookRows) (used : ℕ) (s : List ℕ) (r : DayRead) → r ≡ dateDay s → (x : Day) → r ≡ Good x → used < 512 → true ≡ dayOpen (entriesOf t used) (dateDay s)
+open-few t used s r er x e h =
+    rw (← er, e) (sym (lt-ltb (dayCount x (entriesOf t used)) 512 (omega (arith, count-length x (entriesOf t used), length-entries t used))))
 
 -- ---- a place in the book, on the day and among the receipts
 module _ (b : Book) (t : BookRows) (date : List ℕ) where

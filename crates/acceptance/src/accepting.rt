@@ -63,6 +63,9 @@ pub fn day_open(
     let DayRead::Good(day) = date::day_of_date(written) else {
         return false;
     };
+    if used < counts::DAY_MOST {
+        return true;
+    }
     counts::count_day(nums, numbers, dates, used, day) < counts::DAY_MOST
 }
 

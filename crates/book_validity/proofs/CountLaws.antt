@@ -21,6 +21,7 @@ use Rattle.texts.proofs.Tests.{and-left, and-right, no-claim}
 use Rattle.days.proofs.DayLaws.{IsDate, is-date, days-high, same-day, same-day-refl}
 use Rattle.dates.proofs.DateLaws.{DayOf, date-day}
 use Rattle.lists.specs.Lists.{tab, allFrom}
+use Rattle.lists.proofs.ListLaws.{all-of}
 use Rattle.book.specs.declared.Entry.{Entry}
 use Rattle.book.specs.Entries.{BookRows, entryAt, entriesOf}
 use Rattle.book_validity.specs.BookValid.{dayCount, dayFits, daysGood}
@@ -101,6 +102,18 @@ module _ (d : Day) (t : BookRows) where
 pub count-none : (d : Day) (t : BookRows) → 0 ≡ dayCount d (entriesOf t 0)
 unfolding entriesOf tab dayCount
 count-none d t = refl
+
+-- a book of 512 entries or fewer has no day with more
+few-fit : (es : List Entry) → length es ≤ 512 → (x : DayRead) → dayFits es x ≡ true
+few-fit es h NoDate = refl
+few-fit es h (Good d) = le-leb (dayCount d es) 512 (omega (arith, count-length d es))
+
+pub few-days : (t : BookRows) (used : ℕ) → used ≤ 512 → true ≡ daysGood (entriesOf t used)
+unfolding daysGood
+few-days t used h =
+    let es = entriesOf t used in
+    sym (all-of (λ i e. dayFits es (dateDay (e .date))) es (entryAt t 0)
+    (λ i l. few-fit es (omega (arith, length-entries t used)) (dateDay (getD es i (entryAt t 0) .date))))
 
 -- ---- the limit of a day: as a test of each entry's day, and of every day
 pub good-day : (s : List ℕ) (x : Day) → dateDay s ≡ Good x → isDay x ≡ true

@@ -63,7 +63,7 @@ fn no_counts() -> [u16; 38432]
     [0u16; 38432]
 }
 
-// Whether no day has more than 512 of the first `used` entries.
+// Whether no day has more than 512 of the first `used` entries; a book of so few has none.
 pub(crate) fn days_good(
     nums: &[[u64; 6]],
     numbers: &[[u8; 30]],
@@ -73,6 +73,9 @@ pub(crate) fn days_good(
     requires { ⌜ (used ≤ length (now nums)) × (used ≤ length (now numbers)) × (used ≤ length (now dates)) ⌝ }
     ensures { λ r. ⌜ r ≡ daysGood (entriesOf (bookBefore nums numbers dates) used) ⌝ }
 {
+    if used <= DAY_MOST {
+        return true;
+    }
     let mut counts = no_counts();
     let mut i: usize = 0;
     while i < used {

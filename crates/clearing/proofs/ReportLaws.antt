@@ -2,8 +2,8 @@
 use Prim.Native.Nat.{ℕ, suc, _+_, _≤_, _<_}
 use native.Mathlib.Numerals.{add-one}
 use native.Mathlib.Omega.{arith}
-use mathlib.Core.Path.{_≡_, sym, ap, _∙_}
-use mathlib.Core.Bool.{Bool, true, false, cond, _&&_}
+use mathlib.Core.Path.{_≡_, refl, sym, ap, _∙_}
+use mathlib.Core.Bool.{Bool, true, false, cond, _&&_, and-false}
 use mathlib.Core.List.{List, _∷_}
 use lib.ListN.{length, drop, set, drop-of-length-le}
 use lib.Seq.{drop-cons}
@@ -15,6 +15,7 @@ use Rattle.table.specs.declared.Record.{Record}
 use Rattle.table.specs.Table.{Rows, recordAt, recordsOf}
 use Rattle.table.proofs.TableLaws.{length-records, getD-records}
 use Rattle.posting.specs.Posting.{matches, isDone}
+use Rattle.posting.proofs.MatchLaws.{other-receipt}
 use Rattle.clearing.specs.Clearing.{anyDone, reportOf}
 use Rattle.line_rows.specs.Lines.{LineRows, lineAt, linesOf}
 use Rattle.line_rows.proofs.ReadLaws.{next-line, last-line}
@@ -41,6 +42,10 @@ module _ (t : Rows) (n : ℕ) (x : Line) (i : ℕ) (passed : anyDone x (recordsO
     pub done-pass : b ≡ false → anyDone x (recordsOf t n) ≡ anyDone x (drop (i + 1) (recordsOf t n))
     unfolding anyDone
     done-pass e = passed ∙ rw (next, ← eb, e)
+
+  pub done-other : i < n → (recordAt t i .receipt ≡ x .receipt → ⊥) → anyDone x (recordsOf t n) ≡ anyDone x (drop (i + 1) (recordsOf t n))
+  done-other h d =
+      done-pass (recordAt t i) refl false (sym (ap (λ (b : Bool). isDone (recordAt t i) && b) (sym (other-receipt x (recordAt t i) d)) ∙ and-false (isDone (recordAt t i)))) h refl
 
   pub done-none : n ≤ i → false ≡ anyDone x (recordsOf t n)
   unfolding anyDone

@@ -12,6 +12,7 @@ use Rattle.table.proofs.TableLaws.{length-records, getD-records, rows-kept}
 use Rattle.posting.proofs.HeldLaws.{held-more, Step, left-records, left-held}
 use Rattle.clearing.proofs.LinesLaws.{from-from}
 use Rattle.clearing.proofs.RevokeLaws.{revoke-step}
+use Rattle.posting.proofs.MatchLaws.{other-receipt}
 use Rattle.posting.proofs.PostLaws.{at-nums, at-numbers, at-dates}
 use Rattle.line_rows.proofs.ReadLaws.{next-line, last-line}
 use borrow.Author.Tests.{eq-eqb, ne-eqb, not-true, not-false}
@@ -44,6 +45,9 @@ module _ (u : LineRows) (n : ℕ) (r : Record) (i : ℕ) (passed : anyMatches (l
     pub any-pass : b ≡ false → anyMatches (linesOf u n) r ≡ anyMatches (drop (i + 1) (linesOf u n)) r
     unfolding anyMatches
     any-pass y = passed ∙ rw (next-line u n i x ex h, ← eb, y)
+
+  pub any-other : i < n → (lineAt u i .receipt ≡ r .receipt → ⊥) → anyMatches (linesOf u n) r ≡ anyMatches (drop (i + 1) (linesOf u n)) r
+  any-other h d = any-pass (lineAt u i) refl false (other-receipt (lineAt u i) r (λ e. d (sym e))) h refl
 
 -- ---- whether a record is a stray
 module _ (day : Day) (xs : List Line) (r : Record) where

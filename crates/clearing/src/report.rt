@@ -39,6 +39,10 @@ fn any_done(
 {
     let mut i: usize = 0;
     while i < used {
+        if nums[i][0] != x.receipt {
+            i += 1;
+            continue;
+        }
         let r = rows::load(nums, numbers, dates, i);
         if is_done_match(x, r) {
             return true;

@@ -30,6 +30,10 @@ fn any_matches(
 {
     let mut i: usize = 0;
     while i < count {
+        if values[i][2] != r.receipt {
+            i += 1;
+            continue;
+        }
         let x = reading::line_at(values, holders, days, i);
         if matching::matches_record(x, r) {
             return true;

@@ -1,3 +1,4 @@
+pub mod EmptyLaws
 pub mod DateLaws
 pub mod DayTests
 pub mod KeyLaws

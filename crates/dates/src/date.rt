@@ -5,8 +5,9 @@ use days::calendar::DayRead;
 use texts::out;
 use texts::scan;
 ghost use mathlib.Core.Path.{_≡_};
+ghost use Prim.Native.Nat.{_<_};
 ghost use Rattle.days.specs.Calendar.{onDay, upTo};
-ghost use Rattle.dates.specs.Date.{clockTime, dateDay, isWritten, noDate, dateRead};
+ghost use Rattle.dates.specs.Date.{clockTime, dateDay, isWritten, emptyDate, noDate, dateRead};
 ghost use Rattle.texts.specs.Lists.{eqList, written, cursorAfter};
 
 // A written date, or `ok` false and nineteen zero bytes.
@@ -107,6 +108,26 @@ pub fn same_date(a: [u8; 19], b: [u8; 19]) -> bool
     let x = a;
     let y = b;
     scan::same_bytes(&x, &y)
+}
+
+// A byte as a number.
+fn wide(b: u8) -> u32
+    ensures { λ r. ⌜ (r ≡ b) × (r < 256) ⌝ }
+{
+    b as u32
+}
+
+// Whether no date stands here: nineteen zero bytes. None of them decides alone, so that the compiler takes many at a time.
+pub fn is_empty(d: [u8; 19]) -> bool
+    ensures { λ r. ⌜ r ≡ eqList d emptyDate ⌝ }
+{
+    let mut sum: u32 = 0;
+    let mut i: usize = 0;
+    while i < 19 {
+        sum += wide(d[i]);
+        i += 1;
+    }
+    sum == 0
 }
 
 // Writes a written date at the cursor, where it has room.

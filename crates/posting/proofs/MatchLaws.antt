@@ -1,7 +1,7 @@
 -- Laws of the record that a line matches.
 use Prim.Native.Nat.{ℕ, _+_, _≤_, _<_}
 use native.Mathlib.Omega.{arith}
-use mathlib.Core.Path.{_≡_, sym, ap, _∙_}
+use mathlib.Core.Path.{_≡_, refl, sym, ap, _∙_}
 use mathlib.Core.Bool.{Bool, true, false, not}
 use lib.ListN.{drop, getD}
 use borrow.Author.Tests.{eq-eqb, ne-eqb, not-true, not-false}
@@ -52,6 +52,10 @@ module _ (t : Rows) (n : ℕ) (x : Line) (i : ℕ) (passed : firstFrom (matches 
 
     pub match-pass : b ≡ false → firstFrom (matches x) 0 (recordsOf t n) ≡ firstFrom (matches x) (i + 1) (drop (i + 1) (recordsOf t n))
     match-pass e = passed ∙ search-miss (matches x) i (recordsOf t n) (recordAt t i) (omega (arith, length-records t n)) (tested ∙ e)
+
+  pub match-other : i < n → (recordAt t i .receipt ≡ x .receipt → ⊥)
+      → firstFrom (matches x) 0 (recordsOf t n) ≡ firstFrom (matches x) (i + 1) (drop (i + 1) (recordsOf t n))
+  match-other h d = match-pass (recordAt t i) refl false (other-receipt x (recordAt t i) d) h refl
 
   pub match-none : n ≤ i → Nothing ≡ firstFrom (matches x) 0 (recordsOf t n)
   match-none h = sym (passed ∙ search-end (matches x) i (recordsOf t n) (recordAt t i) (omega (arith, length-records t n)))

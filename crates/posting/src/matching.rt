@@ -35,7 +35,7 @@ pub fn matches_record(x: Line, r: Record) -> bool
     date::same_date(a, b)
 }
 
-// The first of the first `used` records that the line matches.
+// The first of the first `used` records that the line matches. Most have another receipt, and nothing else of them is looked at.
 pub(crate) fn find_match(
     nums: &[[u64; 6]],
     numbers: &[[u8; 30]],
@@ -48,6 +48,10 @@ pub(crate) fn find_match(
 {
     let mut i: usize = 0;
     while i < used {
+        if nums[i][0] != x.receipt {
+            i += 1;
+            continue;
+        }
         let r = rows::load(nums, numbers, dates, i);
         if matches_record(x, r) {
             return Found::At(i);

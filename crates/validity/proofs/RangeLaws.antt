@@ -85,15 +85,15 @@ near-of a h =
 module _ (g : Gate) (i : ℕ) (size : length (g .accounts) ≡ 256) (few : g .count ≤ 256)
     (passed : allFrom (λ i a. accountGood a) 0 (accountsOf g) ≡ allFrom (λ i a. accountGood a) i (drop i (accountsOf g))) where
   module _ (t : Bool) (e : t ≡ accountGood (getD (g .accounts) i noAccount)) (h : i < g .count) where
-    pub accounts-step : t ≡ true → allFrom (λ i a. accountGood a) 0 (accountsOf g) ≡ allFrom (λ i a. accountGood a) (i + 1) (drop (i + 1) (accountsOf g))
+    pub accounts-step : not t ≡ false → allFrom (λ i a. accountGood a) 0 (accountsOf g) ≡ allFrom (λ i a. accountGood a) (i + 1) (drop (i + 1) (accountsOf g))
     accounts-step y =
         passed ∙ all-more (λ i a. accountGood a) i (accountsOf g) noAccount (omega (arith, in-use g size few))
-        (ap accountGood (getD-take (g .count) (g .accounts) i noAccount h) ∙ sym e ∙ y)
+        (ap accountGood (getD-take (g .count) (g .accounts) i noAccount h) ∙ sym e ∙ not-false t y)
 
-    pub accounts-fail : t ≡ false → false ≡ allFrom (λ i a. accountGood a) 0 (accountsOf g)
+    pub accounts-fail : not t ≡ true → false ≡ allFrom (λ i a. accountGood a) 0 (accountsOf g)
     accounts-fail y =
         sym (passed ∙ all-not (λ i a. accountGood a) i (accountsOf g) noAccount (omega (arith, in-use g size few))
-        (ap accountGood (getD-take (g .count) (g .accounts) i noAccount h) ∙ sym e ∙ y))
+        (ap accountGood (getD-take (g .count) (g .accounts) i noAccount h) ∙ sym e ∙ not-true t y))
 
   pub accounts-end : g .count ≤ i → true ≡ allFrom (λ i a. accountGood a) 0 (accountsOf g)
   accounts-end h = sym (passed ∙ all-end (λ i a. accountGood a) i (accountsOf g) noAccount (omega (arith, in-use g size few)))

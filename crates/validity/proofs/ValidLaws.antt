@@ -1,6 +1,7 @@
 -- Row 68: a record's account, the records in use, and the lent table, test by test.
 use mathlib.Core.Path.{_≡_, sym, ap, _∙_}
 use mathlib.Core.Bool.{Bool, true, false, not, _&&_, and-false, and-assoc}
+use mathlib.Core.List.{[]}
 use Prim.Native.Nat.{ℕ, _+_, _<_, _≤_}
 use native.Mathlib.Omega.{arith}
 use lib.Dec.{ltb}
@@ -13,12 +14,11 @@ use Rattle.table.specs.declared.Account.{Account}
 use Rattle.table.specs.declared.Gate.{Gate}
 use Rattle.table.specs.declared.Record.{Record}
 use Rattle.lists.specs.declared.Found.{Found}
-use Rattle.lists.specs.declared.Found.the-variants.{At, Nothing}
 use Rattle.lists.specs.Lent.{Lent}
-use Rattle.lists.specs.Lists.{allFrom}
-use Rattle.table.specs.Table.{Rows, recordAt, recordsOf, Whole}
+use Rattle.lists.specs.Lists.{isFound, allFrom}
+use Rattle.table.specs.Table.{Rows, recordFrom, recordAt, recordsOf, Whole}
 use Rattle.table.specs.Accounts.{isAccount, accountsOf, findAccount, noAccount}
-use Rattle.validity.specs.Valid.{rangesGood, authcodeGood, accountKnown, recordGood, lentGood, gateGood, tableGood, Sound, Ready}
+use Rattle.validity.specs.Valid.{stateGood, rangesGood, authcodeGood, accountKnown, recordGood, lentGood, gateGood, tableGood, Sound, Ready}
 use Rattle.lists.proofs.ListLaws.{all-more, all-not, all-end, found-some}
 use Rattle.table.proofs.TableLaws.{length-records, getD-records}
 use Rattle.table.proofs.AccountLaws.{in-use}
@@ -31,14 +31,9 @@ module _ (at count : ℕ) (n : Number) (k : ℕ) (a : Account) where
   pub guess-is : at < count → (t : Bool) → t ≡ isAccount n k a → t ≡ ltb at count && isAccount n k a
   guess-is h t e = e ∙ rw (lt-ltb _ _ h)
 
-module _ (g : Gate) (r : Record) (f : Found) (e : f ≡ findAccount (r .number) (r .kind) (accountsOf g)) where
-  pub known-at : (i : ℕ) → f ≡ At i → true ≡ accountKnown g r
-  unfolding accountKnown
-  known-at i q = rw (← e, q)
-
-  pub known-not : f ≡ Nothing → false ≡ accountKnown g r
-  unfolding accountKnown
-  known-not q = rw (← e, q)
+-- what was found is known
+pub known-is : (f x : Found) (r : Bool) → f ≡ x → r ≡ isFound f → r ≡ isFound x
+known-is f x r e q = q ∙ ap isFound e
 
 -- an account in use that fits is enough
 guess-known : (g : Gate) (r : Record) (at : ℕ) → length (g .accounts) ≡ 256 → g .count ≤ 256
@@ -63,41 +58,53 @@ good-known : (g : Gate) (i : ℕ) (r : Record) → accountKnown g r ≡ false �
 unfolding recordGood
 good-known g i r h = simp (h, and-false)
 
+-- the record at i but for its number
+abbrev pub ownAt : Rows → ℕ → Record
+ownAt t i = recordFrom (getD (t .nums) i []) [] (getD (t .dates) i [])
+
+-- what a record holds by itself says nothing of its account's number
+own-at : (t : Rows) (i : ℕ) (own : Bool) → own ≡ authcodeGood i (ownAt t i) && rangesGood (ownAt t i) → own ≡ authcodeGood i (recordAt t i) && rangesGood (recordAt t i)
+unfolding authcodeGood rangesGood stateGood
+own-at t i own o = o
+
 module _ (g : Gate) (t : Rows) (i : ℕ) (passed : allFrom (recordGood g) 0 (recordsOf t (g .used)) ≡ allFrom (recordGood g) i (drop i (recordsOf t (g .used)))) where
-  module _ (r : Record) (e : r ≡ recordAt t i) (h : i < g .used) where
-    record-step : recordGood g i r ≡ true → allFrom (recordGood g) 0 (recordsOf t (g .used)) ≡ allFrom (recordGood g) (i + 1) (drop (i + 1) (recordsOf t (g .used)))
+  module _ (h : i < g .used) where
+    record-step : recordGood g i (recordAt t i) ≡ true → allFrom (recordGood g) 0 (recordsOf t (g .used)) ≡ allFrom (recordGood g) (i + 1) (drop (i + 1) (recordsOf t (g .used)))
     record-step y =
-        passed ∙ all-more (recordGood g) i (recordsOf t (g .used)) r (omega (arith, length-records t (g .used)))
-        (ap (recordGood g i) (getD-records t (g .used) i r h ∙ sym e) ∙ y)
+        passed ∙ all-more (recordGood g) i (recordsOf t (g .used)) (recordAt t i) (omega (arith, length-records t (g .used)))
+        (ap (recordGood g i) (getD-records t (g .used) i (recordAt t i) h) ∙ y)
 
-    record-fails : recordGood g i r ≡ false → false ≡ allFrom (recordGood g) 0 (recordsOf t (g .used))
+    record-fails : recordGood g i (recordAt t i) ≡ false → false ≡ allFrom (recordGood g) 0 (recordsOf t (g .used))
     record-fails y =
-        sym (passed ∙ all-not (recordGood g) i (recordsOf t (g .used)) r (omega (arith, length-records t (g .used)))
-        (ap (recordGood g i) (getD-records t (g .used) i r h ∙ sym e) ∙ y))
+        sym (passed ∙ all-not (recordGood g) i (recordsOf t (g .used)) (recordAt t i) (omega (arith, length-records t (g .used)))
+        (ap (recordGood g i) (getD-records t (g .used) i (recordAt t i) h) ∙ y))
 
-    module _ (own : Bool) (o : own ≡ authcodeGood i r && rangesGood r) where
+    module _ (own : Bool) (o : own ≡ authcodeGood i (ownAt t i) && rangesGood (ownAt t i)) where
       pub record-own : not own ≡ true → false ≡ allFrom (recordGood g) 0 (recordsOf t (g .used))
-      record-own n = record-fails (good-own g i r (sym o ∙ not-true own n))
+      record-own n = record-fails (good-own g i (recordAt t i) (sym (own-at t i own o) ∙ not-true own n))
 
-      pub record-guessed : not own ≡ false → length (g .accounts) ≡ 256 → g .count ≤ 256 → (at : ℕ) (s : Bool)
-          → s ≡ ltb at (g .count) && isAccount (r .number) (r .kind) (getD (g .accounts) at noAccount) → s ≡ true
+      pub record-guessed : not own ≡ false → Sound g → (at : ℕ) (s : Bool)
+          → s ≡ ltb at (g .count) && isAccount (recordAt t i .number) (recordAt t i .kind) (getD (g .accounts) at noAccount) → s ≡ true
           → allFrom (recordGood g) 0 (recordsOf t (g .used)) ≡ allFrom (recordGood g) (i + 1) (drop (i + 1) (recordsOf t (g .used)))
-      record-guessed n size few at s q y = record-step (good-both g i r (sym o ∙ not-false own n) (guess-known g r at size few (sym q ∙ y)))
+      record-guessed n sound at s q y =
+          record-step (good-both g i (recordAt t i) (sym (own-at t i own o) ∙ not-false own n) (guess-known g (recordAt t i) at (sound .places) (sound .count) (sym q ∙ y)))
 
-      module _ (known : Bool) (k : known ≡ accountKnown g r) where
+      module _ (known : Bool) (k : known ≡ isFound (findAccount (recordAt t i .number) (recordAt t i .kind) (accountsOf g))) where
         pub record-stranger : not known ≡ true → false ≡ allFrom (recordGood g) 0 (recordsOf t (g .used))
-        record-stranger n = record-fails (good-known g i r (sym k ∙ not-true known n))
+        unfolding accountKnown
+        record-stranger n = record-fails (good-known g i (recordAt t i) (sym k ∙ not-true known n))
 
         pub record-known : not own ≡ false → not known ≡ false
             → allFrom (recordGood g) 0 (recordsOf t (g .used)) ≡ allFrom (recordGood g) (i + 1) (drop (i + 1) (recordsOf t (g .used)))
-        record-known n m = record-step (good-both g i r (sym o ∙ not-false own n) (sym k ∙ not-false known m))
+        unfolding accountKnown
+        record-known n m = record-step (good-both g i (recordAt t i) (sym (own-at t i own o) ∙ not-false own n) (sym k ∙ not-false known m))
 
   pub records-end : g .used ≤ i → true ≡ allFrom (recordGood g) 0 (recordsOf t (g .used))
   records-end h = sym (passed ∙ all-end (recordGood g) i (recordsOf t (g .used)) (recordAt t i) (omega (arith, length-records t (g .used))))
 
 -- ---- the lent table
-pub sound-count : (g : Gate) (s : Bool) → (s ≡ true → Sound g) → not s ≡ false → g .count ≤ 256
-sound-count g s f n = f (not-false s n) .count
+pub sound-gate : (g : Gate) (s : Bool) → (s ≡ true → Sound g) → not s ≡ false → Sound g
+sound-gate g s f n = f (not-false s n)
 
 module _ (g : Gate) (t : Rows) where
   pub table-lent : (l : Bool) → l ≡ lentGood g t → not l ≡ true → false ≡ tableGood g t

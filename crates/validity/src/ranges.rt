@@ -1,16 +1,18 @@
 // Row 68 of the gate: whether its accounts and its closed day are in their ranges, and what a record holds by itself.
+use crate::slots;
 use dates::date;
 use fields::amount;
 use fields::codes;
 use table::Account;
 use table::Gate;
-use table::Record;
 ghost use mathlib.Core.Bool.{true, _&&_};
 ghost use mathlib.Core.Path.{_≡_};
+ghost use mathlib.Core.List.{[]};
 ghost use Prim.Native.Nat.{_<_, _≤_};
 ghost use lib.ListN.{length};
 ghost use Rattle.lists.specs.Lists.{allFrom};
 ghost use Rattle.table.specs.Accounts.{accountsOf};
+ghost use Rattle.table.specs.Table.{recordFrom};
 ghost use Rattle.validity.specs.Valid.{near, accountGood, gateGood, stateGood, rangesGood, authcodeGood, Sound};
 
 // The bounds of a balance: 10^13 either side.
@@ -46,8 +48,8 @@ fn account_good(a: Account) -> bool
     is_near(b)
 }
 
-// Whether each account in use is in its ranges.
-fn accounts_good(g: Gate) -> bool
+// Whether each account in use is in its ranges; its place is the hint of its slot.
+fn accounts_good(g: Gate, hints: &mut [u8; 8192]) -> bool
     requires { ⌜ g .count ≤ 256 ⌝ }
     ensures { λ r. ⌜ r ≡ allFrom (λ i a. accountGood a) 0 (accountsOf g) ⌝ }
     ensures { λ r. ⌜ length (g .accounts) ≡ 256 ⌝ }
@@ -56,17 +58,18 @@ fn accounts_good(g: Gate) -> bool
     let mut i: usize = 0;
     while i < count {
         let a = g.accounts[i];
-        if account_good(a) {
-            i += 1;
-        } else {
+        if !account_good(a) {
             return false;
         }
+        let n = a.number;
+        hints[slots::slot(n, a.kind)] = i as u8;
+        i += 1;
     }
     true
 }
 
-// Whether the gate is in its ranges.
-pub(crate) fn gate_good(g: Gate) -> bool
+// Whether the gate is in its ranges; the hints of its accounts are written.
+pub(crate) fn gate_good(g: Gate, hints: &mut [u8; 8192]) -> bool
     ensures { λ r. ⌜ (r ≡ gateGood g) × (r ≡ true → Sound g) ⌝ }
 {
     if 256 < g.count {
@@ -76,51 +79,52 @@ pub(crate) fn gate_good(g: Gate) -> bool
     if !closed.is_valid() {
         return false;
     }
-    accounts_good(g)
+    accounts_good(g, hints)
 }
 
 // Whether a record is done and has no cancel date, or cancelled and has one.
-fn state_good(r: Record) -> bool
-    ensures { λ b. ⌜ b ≡ stateGood r ⌝ }
+fn state_good(w: [u64; 6], d: [[u8; 19]; 3]) -> bool
+    ensures { λ b. ⌜ b ≡ stateGood (recordFrom w [] d) ⌝ }
 {
-    let cancel = r.cancel;
-    if r.state == table::DONE {
-        return date::same_date(cancel, [0u8; 19]);
+    let cancel = d[2];
+    if w[4] == table::DONE {
+        return date::is_empty(cancel);
     }
-    if r.state != table::CANCELLED {
+    if w[4] != table::CANCELLED {
         return false;
     }
     date::is_written(cancel)
 }
 
 // Whether a record's receipt, amount, dates and state are in their ranges.
-fn ranges_good(r: Record) -> bool
-    ensures { λ b. ⌜ b ≡ rangesGood r ⌝ }
+fn ranges_good(w: [u64; 6], d: [[u8; 19]; 3]) -> bool
+    ensures { λ b. ⌜ b ≡ rangesGood (recordFrom w [] d) ⌝ }
 {
-    if !codes::is_receipt(r.receipt) {
+    if !codes::is_receipt(w[0]) {
         return false;
     }
-    if !amount::is_amount(r.amount) {
+    if !amount::is_amount(w[3]) {
         return false;
     }
-    let d = r.date;
-    if !date::is_written(d) {
+    let paid = d[0];
+    if !date::is_written(paid) {
         return false;
     }
-    let credit = r.credit;
+    let credit = d[1];
     if !date::is_written(credit) {
         return false;
     }
-    state_good(r)
+    state_good(w, d)
 }
 
-// Whether a record is in its ranges, and has the authcode of its place.
-pub(crate) fn record_good(i: usize, r: Record) -> bool
+// Whether the numbers and dates of a record are in their ranges, and it has the authcode of its place; whatever its number is.
+pub(crate) fn record_good(i: usize, w: [u64; 6], d: [[u8; 19]; 3]) -> bool
     requires { ⌜ i < 4096 ⌝ }
-    ensures { λ b. ⌜ b ≡ authcodeGood i r && rangesGood r ⌝ }
+    ensures { λ b. ⌜ b ≡ authcodeGood i (recordFrom w [] d) && rangesGood (recordFrom w [] d) ⌝ }
+    ensures { λ b. ⌜ (length w ≡ 6) × (length d ≡ 3) ⌝ }
 {
-    if r.authcode != i as u64 + 1 {
+    if w[5] != i as u64 + 1 {
         return false;
     }
-    ranges_good(r)
+    ranges_good(w, d)
 }

@@ -88,9 +88,17 @@ pub(crate) fn day_number(date: &Date) -> Option<usize> {
 }
 
 /// The value of the two digits from this place on.
-fn two(date: &Date, from: usize) -> Option<u8> {
-    let digit = |at: usize| date[at].is_ascii_digit().then(|| date[at] - b'0');
+fn two(text: &[u8], from: usize) -> Option<u8> {
+    let digit = |at: usize| text[at].is_ascii_digit().then(|| text[at] - b'0');
     Some(digit(from)? * 10 + digit(from + 1)?)
+}
+
+/// The real day that stands alone as `YYYY-MM-DD`.
+pub(crate) fn read_day(text: &[u8]) -> Option<Day> {
+    if text.len() != 10 || text[4] != b'-' || text[7] != b'-' || two(text, 0)? != 20 {
+        return None;
+    }
+    Some(Day::new(2000 + u16::from(two(text, 2)?), two(text, 5)?, two(text, 8)?)).filter(|day| day.is_real())
 }
 
 fn eight(date: &Date, from: usize) -> [u8; 8] {

@@ -1,7 +1,7 @@
 //! Document 01 read a second time, from the paper alone: the measure that the proved calls are held to.
 //!
 //! [`lent`] is the gate over rows that the caller lends and that are checked at each call, [`owned`] the gate that
-//! keeps its own indexed state, [`book`] the agent's side. Both gates share one set of rules and one settlement.
+//! keeps its own indexed state, [`book`] the agent's side, [`session`] the session program. Both gates share one set of rules and one settlement.
 
 pub mod book;
 pub mod date;
@@ -9,6 +9,7 @@ pub mod fields;
 pub mod lent;
 pub mod owned;
 pub mod request;
+pub mod session;
 
 mod answer;
 mod asking;

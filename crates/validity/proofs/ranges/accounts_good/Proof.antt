@@ -10,10 +10,10 @@ use Rattle.validity.proofs.ranges.accounts_good.Statement.{statement}
 use Rattle.validity.proofs.ranges.accounts_good.Tie as tie
 
 abbrev Inv-loop : tie.InvT-loop
-Inv-loop g count i₀ i = (i ≤ count) × (allFrom (λ i a. accountGood a) 0 (take count (g .accounts)) ≡ allFrom (λ i a. accountGood a) i (drop i (take count (g .accounts))))
+Inv-loop hints₀ g count i₀ hints i = (i ≤ count) × (allFrom (λ i a. accountGood a) 0 (take count (g .accounts)) ≡ allFrom (λ i a. accountGood a) i (drop i (take count (g .accounts))))
 
 abbrev μ-loop : tie.MeasureT-loop
-μ-loop g count i₀ i = count - i
+μ-loop hints₀ g count i₀ hints i = count - i
 
 ruleset laws = (accounts-size, accounts-step, accounts-fail, accounts-end, needs)
 
@@ -24,6 +24,9 @@ accounts-good-spec =
     Inv-loop
     μ-loop
     (λ c. search laws)
+    (λ c. search laws)
+    (λ c. search laws)
+    (λ c κs. search laws)
     (λ c. search laws)
     (λ c. search laws)
     (λ c κs. search laws)

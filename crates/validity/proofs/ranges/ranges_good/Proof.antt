@@ -9,11 +9,15 @@ pub ranges-good-spec : {M : Type 1} → statement M
 ranges-good-spec =
     tie.close
     (tie.spec
-    (λ c κs. search laws)
     (λ c. search laws)
     (λ c κs. search laws)
     (λ c. search laws)
+    (λ c. search laws)
     (λ c κs. search laws)
+    (λ c. search laws)
+    (λ c. search laws)
+    (λ c κs. search laws)
+    (λ c. search laws)
     (λ c. search laws)
     (λ c κs. search laws)
     (λ c. search laws)

@@ -11,5 +11,6 @@ record-good-spec =
     (tie.spec
     (λ c. search laws)
     (λ c. search laws)
+    (λ c. search laws)
     (λ c κs. search laws)
     (λ c. search laws))

@@ -9,7 +9,10 @@ pub state-good-spec : {M : Type 1} → statement M
 state-good-spec =
     tie.close
     (tie.spec
+    (λ c. search laws)
+    (λ c. search laws)
     (λ c κs. search laws)
+    (λ c. search laws)
     (λ c. search laws)
     (λ c. search laws)
     (λ c κs. search laws)

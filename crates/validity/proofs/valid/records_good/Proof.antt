@@ -1,4 +1,3 @@
--- `table::valid::records_good` meets its contract. The invariant: what is left to test gives the whole answer, and the rows that were read are whole.
 use borrow.Author.Needs.{needs}
 use Rattle.texts.proofs.Tests.{no-claim}
 use Rattle.table.proofs.TableLaws.{whole-none, whole-more, whole-less}
@@ -13,12 +12,10 @@ use Rattle.validity.proofs.valid.records_good.Statement.{statement}
 use Rattle.validity.proofs.valid.records_good.Tie as tie
 
 abbrev Inv-loop : tie.InvT-loop
-Inv-loop nums numbers dates g used count places i₀ i =
-    let t : Rows = record { nums = nums; numbers = numbers; dates = dates } in
-    (i ≤ used) × (allFrom (recordGood g) 0 (recordsOf t used) ≡ allFrom (recordGood g) i (drop i (recordsOf t used))) × Whole t i
+Inv-loop nums numbers dates hints g used count i₀ i = let t : Rows = record { nums = nums; numbers = numbers; dates = dates } in (i ≤ used) × (allFrom (recordGood g) 0 (recordsOf t used) ≡ allFrom (recordGood g) i (drop i (recordsOf t used))) × Whole t i
 
 abbrev μ-loop : tie.MeasureT-loop
-μ-loop nums numbers dates g used count places i₀ i = used - i
+μ-loop nums numbers dates hints g used count i₀ i = used - i
 
 pub records-good-spec : {M : Type 1} → statement M
 records-good-spec =
@@ -26,23 +23,31 @@ records-good-spec =
     (tie.spec
     Inv-loop
     μ-loop
-    (λ c κs. search needs)
     (λ c. (search needs, search needs, search whole-none))
-    (λ c κs. search needs)
+    (λ c. search needs)
+    (λ c. search needs)
+    (λ c. search needs)
+    (λ c. search needs)
     (λ c κs. search needs)
     (λ c. (search record-own, no-claim))
+    (λ c. search needs)
+    (λ c. search needs)
+    (λ c. search needs)
+    (λ c. search needs)
     (λ c κs. search needs)
     (λ c. search needs)
     (λ c κs. search needs)
     (λ c. search needs)
     (λ c. search needs)
+    (λ c. search needs)
     (λ c κs. search needs)
     (λ c. search needs)
     (λ c. search needs)
-    (λ c. (search needs, search record-guessed, search whole-more))
+    (λ c. (search needs, record-guessed _ _ _ (search needs) (search needs) _ (c .before .before .before .before .before .before .before .before .record-good .ensures .0) (search needs) (search needs) _ _ (c .before .guess-fits .ensures) (search needs), search whole-more))
+    (λ c. search needs)
     (λ c κs. search needs)
     (λ c. (search record-stranger, no-claim))
     (λ c. search needs)
     (λ c. search needs)
-    (λ c. (search needs, search record-known, search whole-more))
+    (λ c. (search needs, record-known _ _ _ (search needs) (search needs) _ (c .before .before .before .before .before .before .before .before .before .before .record-good .ensures .0) _ (c .before .is-known .ensures) (search needs) (search needs), search whole-more))
     (λ c. (search records-end, λ y. search whole-less)))

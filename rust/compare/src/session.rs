@@ -1,0 +1,65 @@
+//! The session program: the proved one, run as a process, and random lines for it.
+use crate::texts;
+use chance::Chance;
+use std::io::{Error, Write};
+use std::path::PathBuf;
+use std::process::{Command, Stdio};
+use std::thread;
+
+/// The proved program: `ROOSTERYORE_SESSION`, or the repository's.
+pub fn program() -> PathBuf {
+    std::env::var_os("ROOSTERYORE_SESSION")
+        .map_or_else(|| PathBuf::from(concat!(env!("CARGO_MANIFEST_DIR"), "/../../target/bin/session")), PathBuf::from)
+}
+
+/// What the proved program prints on this input.
+///
+/// # Errors
+/// Where the program cannot be run, for instance since `rt check session` did not build it yet.
+pub fn proved(input: &[u8]) -> Result<Vec<u8>, Error> {
+    let path = program();
+    let told = |error: Error| Error::new(error.kind(), format!("{}: {error}; run `rt check session`", path.display()));
+    let mut child = Command::new(&path).stdin(Stdio::piped()).stdout(Stdio::piped()).spawn().map_err(told)?;
+    let mut pipe = child.stdin.take().expect("its input is a pipe");
+    thread::scope(|scope| {
+        // Written beside the reading, since neither pipe holds everything.
+        scope.spawn(move || pipe.write_all(input));
+        Ok(child.wait_with_output()?.stdout)
+    })
+}
+
+/// A session of random lines, most of them well formed.
+pub fn lines(chance: &mut Chance, count: usize) -> Vec<u8> {
+    let day = texts::start_day(chance);
+    let mut text = format!("C {day}\n").into_bytes();
+    for _ in 0..count {
+        let from = text.len();
+        match chance.below(16) {
+            0 => text.extend(format!("C {}", texts::any_day(chance, day)).bytes()),
+            1 | 2 => account_line(chance, b"O ", &mut text),
+            3 | 4 => {
+                account_line(chance, b"D ", &mut text);
+                text.extend(format!(" {}", texts::any_kopecks(chance)).bytes());
+            }
+            _ => {
+                text.extend(b"R ");
+                text.extend(texts::any_date(chance, day));
+                text.push(b' ');
+                text.extend(texts::parameters(chance, day, &[1, 2, 3]));
+            }
+        }
+        if chance.one_in(8) {
+            let mut line = text.split_off(from);
+            texts::damage(chance, &mut line);
+            text.extend(line);
+        }
+        text.push(b'\n');
+    }
+    text
+}
+
+fn account_line(chance: &mut Chance, letter: &[u8], text: &mut Vec<u8>) {
+    text.extend(letter);
+    text.extend(texts::number(chance).as_bytes());
+    text.extend(format!(" {}", texts::any_kind(chance)).bytes());
+}
