@@ -1,7 +1,8 @@
 -- Laws of the walk over the lines that were read.
-use Prim.Native.Nat.{ℕ, _+_, _-_, _*_, _≤_, _<_}
+use Prim.Native.Nat.{ℕ, _+_, _-_, _*_, _^_, _≤_, _<_}
 use native.Mathlib.Omega.{arith}
 use mathlib.Core.Path.{_≡_, refl, sym, ap, _∙_}
+use mathlib.Core.Bool.{Bool, true, not}
 use mathlib.Core.List.{List, _++_, map}
 use lib.ListN.{length, drop, length-map}
 use lib.Seq.{drop-append-add, drop-drop}
@@ -10,10 +11,12 @@ use Rattle.table.specs.declared.Gate.{Gate}
 use Rattle.table.specs.declared.Record.{Record}
 use Rattle.table.specs.Table.{Rows, recordsOf, rowsFrom, numsOf, datesOf}
 use Rattle.table.proofs.TableLaws.{length-records, rows-kept}
-use Rattle.posting.specs.Posting.{Ledger, settleLine, ledgerOf}
+use Rattle.posting.specs.declared.verdict.Verdict.{Verdict}
+use Rattle.posting.specs.Posting.{Ledger, verdictOf, applied, settleLine, ledgerOf}
 use Rattle.clearing.specs.Clearing.{settleLines}
-use Rattle.posting.specs.Steps.{Held, Left}
+use Rattle.posting.specs.Steps.{isChange, Held, Left}
 use Rattle.line_rows.specs.Lines.{LineRows, lineAt, linesOf, Read}
+use Rattle.posting.proofs.PostLaws.{line-applied, line-kept}
 use Rattle.posting.proofs.HeldLaws.{held-more, Step, line-step, left-size, left-records, left-held}
 use Rattle.line_rows.proofs.ReadLaws.{next-line, last-line, read-small}
 
@@ -84,3 +87,16 @@ module _ (clock : List ℕ) (u : LineRows) (n : ℕ) (read : Read u n) (t₀ : R
       again l step =
           ap (λ (y : Rows). rowsFrom y (l .records)) (going .rows)
           ∙ from-from t₀ (recordsOf t (g .used)) (l .records) (omega (arith, step .longer, length-records t (g .used)))
+
+pub going-fits : (u : LineRows) (n : ℕ) → Read u n → (i : ℕ) → i < n → i + 1 < 2 ^ 64
+going-fits u n read i h = omega (arith, read .few)
+
+-- a line that is judged, and applied where it changes something
+module _ (clock : List ℕ) (u : LineRows) (n : ℕ) (read : Read u n) (t₀ : Rows) (whole : Ledger) (t : Rows) (g : Gate) (i : ℕ) (going : Going clock (linesOf u n) t₀ whole t g i)
+    (h : i < n) (x : Line) (ex : x ≡ lineAt u i) (v : Verdict) (e : v ≡ verdictOf g (recordsOf t (g .used)) (length (t .nums)) x) where
+  pub going-kept : (c : Bool) → c ≡ isChange v → not c ≡ true → Going clock (linesOf u n) t₀ whole t g (i + 1)
+  going-kept c ec un =
+      going-on clock u n read t₀ whole t g i going h x ex g t (line-kept g t clock x (length (t .nums)) (going .held .backed .whole) v e c ec un)
+
+  pub going-applied : (g′ : Gate) (t′ : Rows) → Left t (applied clock x v (ledgerOf g t)) g′ t′ → Going clock (linesOf u n) t₀ whole t′ g′ (i + 1)
+  going-applied g′ t′ left = going-on clock u n read t₀ whole t g i going h x ex g′ t′ (line-applied g t clock x (length (t .nums)) v e g′ t′ left)

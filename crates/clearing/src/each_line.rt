@@ -1,6 +1,7 @@
 // The lines of a registry, in their order.
 use line_rows::reading;
 use posting::applying;
+use posting::verdict;
 use table::Gate;
 ghost use mathlib.Core.Path.{_≡_};
 ghost use lib.ListN.{length};
@@ -10,7 +11,7 @@ ghost use Rattle.clearing.specs.Clearing.{settleLines};
 ghost use Rattle.posting.specs.Steps.{Held, Left};
 ghost use Rattle.line_rows.specs.Lines.{linesOf, Read, linesLent, linesBefore};
 
-// Settles the lines, one after the other.
+// Settles the lines, one after the other: each is judged, and applied where it changes something.
 pub fn settle_lines(
     nums: &mut [[u64; 6]],
     numbers: &mut [[u8; 30]],
@@ -34,7 +35,12 @@ pub fn settle_lines(
     let mut i: usize = 0;
     while i < count {
         let x = reading::line_at(values, holders, days, i);
-        gate = applying::settle_line(nums, numbers, dates, gate, clock, x);
+        let v = verdict::judge(nums, numbers, dates, gate, x);
+        if !verdict::is_change(v) {
+            i += 1;
+            continue;
+        }
+        gate = applying::apply(nums, numbers, dates, gate, clock, x, v);
         i += 1;
     }
     gate

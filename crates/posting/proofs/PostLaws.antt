@@ -2,12 +2,13 @@
 use Prim.Native.Nat.{ℕ, _+_, _≤_, _<_}
 use native.Mathlib.Omega.{arith}
 use mathlib.Core.Path.{_≡_, refl, sym, ap, _∙_}
-use mathlib.Core.Bool.{Bool, true, false, cond}
+use mathlib.Core.Bool.{Bool, true, false, cond, not}
 use mathlib.Core.List.{List, []}
 use lib.Signed.{mag}
 use lib.ListN.{length, getD}
 use lib.Dec.{leb}
-use borrow.Author.Tests.{eq-eqb, ne-eqb, leb-false}
+use borrow.Author.Tests.{eq-eqb, ne-eqb, leb-false, not-true}
+use Rattle.texts.proofs.Tests.{no-claim}
 use Rattle.fields.specs.declared.number.Number.{Number}
 use Rattle.lines.specs.declared.line.Line.{Line}
 use Rattle.table.specs.declared.Gate.{Gate}
@@ -15,7 +16,7 @@ use Rattle.table.specs.declared.Record.{Record}
 use Rattle.lists.specs.declared.Found.{Found}
 use Rattle.lists.specs.declared.Found.the-variants.{At, Nothing}
 use Rattle.lists.specs.Lists.{firstFrom}
-use Rattle.table.specs.Table.{Rows, recordAt, recordsOf, rowsWith, findRecord}
+use Rattle.table.specs.Table.{Rows, recordAt, recordsOf, rowsWith, findRecord, Whole}
 use Rattle.table.specs.Accounts.{accountsOf, findAccount, balanceAt, credited, withUsed}
 use Rattle.table.proofs.TableLaws.{getD-records, rows-set, rows-more, rows-kept}
 use Rattle.table.proofs.AccountLaws.{holder-within}
@@ -24,7 +25,7 @@ use Rattle.table.specs.Accounts.{Funds}
 use Rattle.table.specs.Table.{noRecord}
 use Rattle.ledger.specs.Change.{creditedAt}
 use Rattle.posting.specs.Posting.{matches, isDone, postVerdict, verdictOf, restored, postedRecord, Ledger, Verdict, Keeps, Restores, Posts, Unposted, applied, settleLine, ledgerOf}
-use Rattle.posting.specs.Steps.{Held, Left}
+use Rattle.posting.specs.Steps.{isChange, Held, Left}
 use Rattle.posting.proofs.HeldLaws.{post-room, verdict-post, verdict-restore}
 use Rattle.posting.proofs.MatchLaws.{match-within}
 
@@ -180,3 +181,17 @@ pub line-applied : (g : Gate) (t : Rows) (clock : List ℕ) (x : Line) (lent : �
     → (g′ : Gate) (t′ : Rows) → Left t (applied clock x v (ledgerOf g t)) g′ t′ → Left t (settleLine clock lent x (ledgerOf g t)) g′ t′
 unfolding settleLine
 line-applied g t clock x lent v e g′ t′ done = rw (← e) done
+
+-- a verdict that changes nothing
+unchanged : (clock : List ℕ) (x : Line) (v : Verdict) (l : Ledger) → isChange v ≡ false → applied clock x v l ≡ l
+unfolding applied
+unchanged clock x Keeps l e = refl
+unchanged clock x (Restores i) l e = no-claim (sym e)
+unchanged clock x (Posts a) l e = no-claim (sym e)
+unchanged clock x Unposted l e = refl
+
+pub line-kept : (g : Gate) (t : Rows) (clock : List ℕ) (x : Line) (lent : ℕ) → Whole t (g .used) → (v : Verdict) → v ≡ verdictOf g (recordsOf t (g .used)) lent x
+    → (c : Bool) → c ≡ isChange v → not c ≡ true → Left t (settleLine clock lent x (ledgerOf g t)) g t
+line-kept g t clock x lent whole v e c ec n =
+    line-applied g t clock x lent v e g t
+    (rw (unchanged clock x v (ledgerOf g t) (sym ec ∙ not-true c n)) (record { gates = refl; left = sym (rows-kept t (g .used) whole) }))

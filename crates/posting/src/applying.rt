@@ -1,5 +1,4 @@
 // What one line of a registry does to the table.
-use crate::verdict;
 use crate::verdict::Verdict;
 use ledger::change;
 use lines::line::Line;
@@ -14,7 +13,7 @@ ghost use Prim.Native.Nat.{_<_};
 ghost use lib.ListN.{length};
 ghost use Rattle.table.specs.Table.{recordsOf};
 ghost use Rattle.table.specs.Lent.{lent, before, after};
-ghost use Rattle.posting.specs.Posting.{verdictOf, restored, postedRecord, applied, Restores, Posts, settleLine, ledgerOf};
+ghost use Rattle.posting.specs.Posting.{verdictOf, restored, postedRecord, applied, Restores, Posts, ledgerOf};
 ghost use Rattle.posting.specs.Steps.{Held, Left};
 
 // A record that is done again.
@@ -90,7 +89,7 @@ pub(crate) fn post(
 }
 
 // Makes the change that a verdict says.
-pub(crate) fn apply(
+pub fn apply(
     nums: &mut [[u64; 6]],
     numbers: &mut [[u8; 30]],
     dates: &mut [[[u8; 19]; 3]],
@@ -111,22 +110,4 @@ pub(crate) fn apply(
         Verdict::Posts(a) => post(nums, numbers, dates, g, clock, x, a),
         Verdict::Unposted => g,
     }
-}
-
-// One line of a registry: judged, then applied.
-pub fn settle_line(
-    nums: &mut [[u64; 6]],
-    numbers: &mut [[u8; 30]],
-    dates: &mut [[[u8; 19]; 3]],
-    g: Gate,
-    clock: [u8; 19],
-    x: Line,
-) -> Gate
-    requires { ⌜ Held g (lent nums numbers dates) 10000000000000000 × (x .amount < 1000000000) ⌝ }
-    ensures { λ r. ⌜ Left (before nums numbers dates)
-        (settleLine clock (length (now (nums .entry))) x (ledgerOf g (before nums numbers dates)))
-        r (after nums numbers dates) ⌝ }
-{
-    let v = verdict::judge(nums, numbers, dates, g, x);
-    apply(nums, numbers, dates, g, clock, x, v)
 }

@@ -12,7 +12,7 @@ ghost use lib.ListN.{length};
 ghost use Rattle.table.specs.Table.{recordsOf};
 ghost use Rattle.table.specs.Lent.{lent, before};
 ghost use Rattle.posting.specs.Posting.{isDone, postVerdict, verdictOf, Keeps, Restores};
-ghost use Rattle.posting.specs.Steps.{Held};
+ghost use Rattle.posting.specs.Steps.{isChange, Held};
 
 // The record that it matches is done, or at a place to be done again; it is posted to an account; or none of these.
 pub enum Verdict {
@@ -20,6 +20,18 @@ pub enum Verdict {
     Restores(usize),
     Posts(usize),
     Unposted,
+}
+
+// Whether a verdict changes the table.
+pub fn is_change(v: Verdict) -> bool
+    ensures { λ b. ⌜ b ≡ isChange v ⌝ }
+{
+    match v {
+        Verdict::Keeps => false,
+        Verdict::Restores(_) => true,
+        Verdict::Posts(_) => true,
+        Verdict::Unposted => false,
+    }
 }
 
 // The verdict on a line that matches the record at i.
@@ -51,7 +63,7 @@ fn judge_new(recorded: Found, account: Found, full: bool) -> Verdict
 }
 
 // The verdict on a line; nothing is changed yet.
-pub(crate) fn judge(
+pub fn judge(
     nums: &[[u64; 6]],
     numbers: &[[u8; 30]],
     dates: &[[[u8; 19]; 3]],

@@ -7,7 +7,7 @@ ghost use mathlib.Core.Path.{_≡_};
 ghost use Prim.Native.Nat.{_^_, _<_, _≤_};
 ghost use lib.IntN.{ℤ, pos, _+ℤ_, _-ℤ_};
 ghost use lib.Signed.{mag, ltZ};
-ghost use Rattle.table.specs.Accounts.{isAccount, accountsOf, findAccount, balanceAt, gateBalance, credited, debited, opened};
+ghost use Rattle.table.specs.Accounts.{isAccount, accountsOf, findAccount, balanceAt, credited, debited, opened};
 
 // Whether a is the account of this number and type.
 pub fn is_account(n: Number, kind: u64, a: Account) -> bool
@@ -78,27 +78,17 @@ fn is_less(b: i64, n: u64) -> bool
     b < n as i64
 }
 
-// The gate with the balance z at account i.
-fn with_balance(g: Gate, i: usize, z: i64) -> Gate
-    requires { ⌜ i < 256 ⌝ }
-    ensures { λ r. ⌜ r ≡ gateBalance g i z ⌝ }
-{
-    let mut next = g;
-    let mut a = next.accounts[i];
-    a.balance = z;
-    next.accounts[i] = a;
-    next
-}
-
 // The gate with amount added to the balance of account i.
 pub fn credit(g: Gate, i: usize, amount: u64) -> Gate
     requires { ⌜ (i < 256) × (amount < 1000000000) × (mag (balanceAt g i) ≤ 10000000000000000) ⌝ }
     ensures { λ r. ⌜ r ≡ credited g i amount ⌝ }
 {
-    let a = g.accounts[i];
+    let mut next = g;
+    let mut a = next.accounts[i];
     let b = a.balance;
-    let z = plus(b, amount);
-    with_balance(g, i, z)
+    a.balance = plus(b, amount);
+    next.accounts[i] = a;
+    next
 }
 
 // The gate with amount taken from the balance of account i.
@@ -106,10 +96,12 @@ pub fn debit(g: Gate, i: usize, amount: u64) -> Gate
     requires { ⌜ (i < 256) × (amount < 1000000000) × (mag (balanceAt g i) ≤ 10000000000000000) ⌝ }
     ensures { λ r. ⌜ r ≡ debited g i amount ⌝ }
 {
-    let a = g.accounts[i];
+    let mut next = g;
+    let mut a = next.accounts[i];
     let b = a.balance;
-    let z = minus(b, amount);
-    with_balance(g, i, z)
+    a.balance = minus(b, amount);
+    next.accounts[i] = a;
+    next
 }
 
 // Whether the balance of account i is below amount.

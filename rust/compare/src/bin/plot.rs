@@ -47,8 +47,8 @@ fn colour(accounts: u32) -> &'static str {
     }
 }
 
-const HEAD: &str = r##"<svg xmlns="http://www.w3.org/2000/svg" viewBox="0 0 640 400" font-family="sans-serif" font-size="12" fill="#333">
-<rect width="640" height="400" fill="#fff"/>
+const HEAD: &str = r##"<svg xmlns="http://www.w3.org/2000/svg" viewBox="0 0 680 400" font-family="sans-serif" font-size="12" fill="#333">
+<rect width="680" height="400" fill="#fff"/>
 <text x="70" y="24" font-size="14">A status delivered: time by records in use and accounts</text>
 "##;
 
@@ -92,7 +92,8 @@ fn draw(rows: &[Row]) -> Result<String, std::fmt::Error> {
             draw_line(&mut out, points, accounts, nth == 1)?;
             let y = 60.0 + 22.0 * (2 * at + nth) as f64;
             draw_line(&mut out, &[(505.0, y), (530.0, y)], accounts, nth == 1)?;
-            writeln!(out, r##"<text x="536" y="{}">{name}, {accounts} acc.</text>"##, y + 4.0)?;
+            let ending = if accounts == 1 { "" } else { "s" };
+            writeln!(out, r##"<text x="536" y="{}">{name}, {accounts} account{ending}</text>"##, y + 4.0)?;
         }
     }
     out.push_str("</svg>\n");

@@ -1,5 +1,5 @@
 use borrow.Author.Needs.{needs}
-use Rattle.clearing.proofs.LinesLaws.{Going, going-start, going-held, going-last, going-on, going-end, ledger-end}
+use Rattle.clearing.proofs.LinesLaws.{Going, going-start, going-held, going-last, going-kept, going-applied, going-fits, going-end, ledger-end}
 use Rattle.line_rows.proofs.ReadLaws.{read-nums, read-numbers, read-dates, read-small}
 use Prim.Native.Nat.{_≤_, _-_}
 use mathlib.Core.Path.{_≡_, _∙_}
@@ -23,15 +23,35 @@ abbrev μ-loop : tie.MeasureT-loop
 
 loop-again : tie.Need-loop-again Inv-loop μ-loop
 loop-again c =
-    let w = c .before .before .before in
-    let x = w .before .before .before .before in
+    let j = c .before .before in
+    let x = j .before .before .before .before in
     let n = x .before in
     let v = n .before .loop .inv in (
       search needs,
-      w .settle-line .kept .0 ∙ v .1,
-      w .settle-line .kept .1 .0 ∙ v .2,
-      w .settle-line .kept .1 .1 .0 ∙ v .3,
-      going-on _ _ _ (n .before .before .pre .1) _ _ _ _ _ (v .4) (n .loop-test .taken) (x .line-at .result) (x .line-at .ensures) _ _ (w .settle-line .ensures),
+      v .1,
+      v .2,
+      v .3,
+      going-kept _ _ _ (n .before .before .pre .1) _ _ _ _ _ (v .4) (n .loop-test .taken) _ (x .line-at .ensures) _ (j .judge .ensures) _ (c .before .is-change .ensures) (c .if1 .taken),
+    )
+
+add-i-2 : tie.Need-add-i-2 Inv-loop μ-loop
+add-i-2 c =
+    let j = c .before .before .before .before .before .before .before .before .before in
+    let n = j .before .before .before .before .before in
+    search (going-fits _ _ (n .before .before .pre .1) _ (n .loop-test .taken), needs)
+
+loop-again-2 : tie.Need-loop-again-2 Inv-loop μ-loop
+loop-again-2 c =
+    let w = c .before .before .before in
+    let j = w .before .before .before .before .before .before in
+    let x = j .before .before .before .before in
+    let n = x .before in
+    let v = n .before .loop .inv in (
+      search needs,
+      w .apply .kept .0 ∙ v .1,
+      w .apply .kept .1 .0 ∙ v .2,
+      w .apply .kept .1 .1 .0 ∙ v .3,
+      going-applied _ _ _ (n .before .before .pre .1) _ _ _ _ _ (v .4) (n .loop-test .taken) _ (x .line-at .ensures) _ (j .judge .ensures) _ _ (w .apply .ensures),
     )
 
 ruleset laws = (going-start, going-held, read-nums, read-numbers, read-dates, read-small, needs)
@@ -45,9 +65,14 @@ settle-lines-spec =
     (λ c. search laws)
     (λ c κs. search laws)
     (λ c κs. search laws)
+    (λ c κs. search laws)
     (λ c. search laws)
     (λ c. search laws)
     loop-again
+    (λ c κs. search laws)
+    add-i-2
+    (λ c. search laws)
+    loop-again-2
     (λ c. search laws)
     (λ c. search laws)
     (λ c. search laws)

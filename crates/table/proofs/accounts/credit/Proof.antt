@@ -12,5 +12,6 @@ credit-spec =
     (λ c. search laws)
     (λ c. search laws)
     (λ c κs. search laws)
-    (λ c κs. search laws)
+    (λ c. search laws)
+    (λ c. search laws)
     (λ c. search laws))
