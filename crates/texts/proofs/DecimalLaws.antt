@@ -1,17 +1,19 @@
 -- Numbers as writers give them: over the width k, without leading zeros, read back, and written at a cursor.
 use Prim.Native.Nat.{ℕ, zero, suc, _+_, _-_, _*_, _^_, _/_, _%_, _≤_, _<_}
-use native.Mathlib.Nat.{le-refl, le-trans, pow-suc, pow-le-pow-right, not-le-of-lt, lt-of-not-le, mul-le-mul-right}
+use native.Mathlib.Numerals.{sub-one}
+use native.Mathlib.Nat.{le-refl, le-trans, not-suc-le-zero, pow-suc, pow-le-pow-right, not-le-of-lt, lt-of-not-le, mul-le-mul-right}
 use native.Mathlib.Omega.{arith}
 use mathlib.Core.Path.{_≡_, refl, sym, ap, _∙_}
-use mathlib.Core.List.{List, [], _∷_, _++_}
+use mathlib.Core.List.{List, [], _∷_, _++_, append-assoc}
 use mathlib.Core.Bool.{Bool, true, false, cond}
-use lib.ListN.{length, take, drop, length-append, length-take, length-drop}
+use lib.ListN.{length, set, take, drop, replicate, length-append, length-take, length-drop}
 use lib.Seq.{take-all}
 use lib.Dec.{eqb, leb, lit<}
 use borrow.Author.Tests.{le-leb, lt-ltb, eqb-true, eqb-false, leb-true}
 use Rattle.texts.specs.declared.digits.Digits.the-variants.{Value}
 use Rattle.texts.specs.Lists.{every, find, written, cursorAfter}
 use Rattle.texts.specs.Digits.{isDigit, valueAfter, digitsRead, within, rangeRead, leadZeros, dropZeros, fixed, decimal}
+use Rattle.texts.proofs.ListLaws.{drop-stored}
 use Rattle.texts.proofs.FindLaws.{find-behind}
 use Rattle.texts.proofs.Tests.{and-left, and-right, and-then, cond-le}
 
@@ -160,3 +162,25 @@ decimal-most k n p h f = zeros-length k (fixed 20 n) p (fixed-digits 20 n) (rw (
 pub range-again : (k low high v : ℕ) → 0 < k → v < 10 ^ k → v < 2 ^ 64 → within low high v ≡ true → rangeRead k low high (decimal v) ≡ Value v
 unfolding rangeRead
 range-again k low high v p h f w = rw (digits-again k v p h f) (simp w)
+
+-- ---- a number's digits from the last on: what is not yet written are zeros
+set-behind : (p : List ℕ) (y x : ℕ) (r : List ℕ) → set (p ++ (y ∷ r)) (length p) x ≡ p ++ (x ∷ r)
+set-behind [] y x r = refl
+set-behind (z ∷ p) y x r = ap (z ∷_) (set-behind p y x r)
+
+module _ (a : List ℕ) where
+  pub zeros-step : (w i x : ℕ) → length a ≡ w → 0 < i → i ≤ w → a ≡ fixed i 0 ++ drop i a → set a (i - 1) x ≡ fixed (i - 1) 0 ++ drop (i - 1) (set a (i - 1) x)
+  unfolding fixed
+  zeros-step w zero x size p h e = absurd (not-suc-le-zero p)
+  zeros-step w (suc j) x size p h e =
+      let z : a ≡ fixed j 0 ++ (48 ∷ drop (suc j) a) = e ∙ append-assoc (fixed j 0) (48 ∷ []) (drop (suc j) a) in
+      let there : set (fixed j 0 ++ (48 ∷ drop (suc j) a)) j x ≡ fixed j 0 ++ (x ∷ drop (suc j) a) =
+      ap (λ (k : ℕ). set (fixed j 0 ++ (48 ∷ drop (suc j) a)) k x) (sym (fixed-length j 0)) ∙ set-behind (fixed j 0) 48 x (drop (suc j) a) in
+      simp sub-one (ap (λ (l : List ℕ). set l j x) z ∙ there ∙ ap (fixed j 0 ++_) (sym (drop-stored a j x (omega arith))))
+
+  pub zeros-done : (w n m i : ℕ) → m ≡ 0 → a ≡ fixed i 0 ++ drop i a → fixed w n ≡ fixed i m ++ drop i a → a ≡ fixed w n
+  zeros-done w n m i z e q = e ∙ ap (λ (k : ℕ). fixed i k ++ drop i a) (sym z) ∙ sym q
+
+pub zeros-start : replicate 20 48 ≡ fixed 20 0 ++ drop 20 (replicate 20 48)
+unfolding fixed
+zeros-start = refl

@@ -64,7 +64,7 @@ pub fn read_range(s: &[u8], most: usize, low: u64, high: u64) -> Digits
     }
 }
 
-// The twenty digits of a number, with leading zeros.
+// The twenty digits of a number, with leading zeros; those are there from the start.
 pub fn twenty(n: u64) -> [u8; 20]
     ensures { λ r. ⌜ r ≡ fixed 20 n ⌝ }
 {
@@ -72,6 +72,9 @@ pub fn twenty(n: u64) -> [u8; 20]
     let mut m = n;
     let mut i: usize = 20;
     while 0 < i {
+        if m == 0 {
+            return a;
+        }
         i -= 1;
         a[i] = b'0' + (m % 10) as u8;
         m = m / 10;
