@@ -67,3 +67,15 @@ fn calls_of_the_agent() {
         book.take_report(TODAY, b"1").unwrap();
     });
 }
+
+/// Above 512 entries a book is counted by days, which takes the most stack of the agent's calls.
+#[test]
+fn a_book_of_more_than_512_entries() {
+    let (mut book, mut out) = (full_day(), vec![0; REGISTRY_ROOM]);
+    run(STACK, move || {
+        for _ in 0..2 {
+            book.accept(choir(), 1, 100, b"2005-09-21T09:00:00").unwrap();
+        }
+        book.write_registry(TODAY, &mut out).unwrap();
+    });
+}
