@@ -2,21 +2,31 @@
 use Prim.Native.Nat.{ℕ, _+_, _-_, _*_, _^_, _≤_, _<_}
 use native.Mathlib.Omega.{arith}
 use mathlib.Core.Path.{_≡_, refl, sym, ap, _∙_}
-use mathlib.Core.Bool.{Bool, true, not}
 use mathlib.Core.List.{List, _++_, map}
+use lib.IntN.{ℤ, pos, _+ℤ_}
+use lib.Signed.{mag}
 use lib.ListN.{length, drop, length-map}
+use mir.Syntax.{w64}
+use mir.Val.{toZ, ofZ}
 use lib.Seq.{drop-append-add, drop-drop}
 use Rattle.lines.specs.declared.line.Line.{Line}
+use Rattle.lists.specs.declared.Found.{Found}
+use Rattle.lists.specs.declared.Found.the-variants.{At, Nothing}
 use Rattle.table.specs.declared.Gate.{Gate}
 use Rattle.table.specs.declared.Record.{Record}
 use Rattle.table.specs.Table.{Rows, recordsOf, rowsFrom, numsOf, datesOf}
+use Rattle.table.specs.Accounts.{balanceAt, gateBalance, withUsed, Funds}
 use Rattle.table.proofs.TableLaws.{length-records, rows-kept}
 use Rattle.posting.specs.declared.verdict.Verdict.{Verdict}
-use Rattle.posting.specs.Posting.{Ledger, verdictOf, applied, settleLine, ledgerOf}
+use Rattle.posting.specs.Posting.{Ledger, verdictOf, settleLine, ledgerOf}
 use Rattle.clearing.specs.Clearing.{settleLines}
-use Rattle.posting.specs.Steps.{isChange, Held, Left}
+use Rattle.posting.specs.declared.applying.Due.{Due}
+use Rattle.posting.specs.Steps.{Held, Left, paid, Applied}
+use Rattle.planning.specs.Plan.{Within}
+use Rattle.directory.specs.Directory.{Listed}
 use Rattle.line_rows.specs.Lines.{LineRows, lineAt, linesOf, Read}
-use Rattle.posting.proofs.PostLaws.{line-applied, line-kept}
+use Rattle.posting.proofs.PostLaws.{line-applied}
+use Rattle.posting.proofs.DueLaws.{due-place, due-balance, due-near, paid-none, paid-at}
 use Rattle.posting.proofs.HeldLaws.{held-more, Step, line-step, left-size, left-records, left-held}
 use Rattle.line_rows.proofs.ReadLaws.{next-line, last-line, read-small}
 
@@ -53,7 +63,7 @@ module _ (clock : List ℕ) (u : LineRows) (n : ℕ) (read : Read u n) (t₀ : R
   pub going-last : i ≤ n → Held g t 11000000000000
   going-last h = held-more g t (10000000000000 + i * 1000000000) 11000000000000 (going .held) (omega (arith, read .few))
 
-  pub going-held : i < n → Held g t 10000000000000000
+  going-held : i < n → Held g t 10000000000000000
   going-held h = held-more g t 11000000000000 10000000000000000 (going-last (omega arith)) (omega arith)
 
   pub ledger-end : n ≤ i → whole ≡ ledgerOf g t
@@ -91,12 +101,33 @@ module _ (clock : List ℕ) (u : LineRows) (n : ℕ) (read : Read u n) (t₀ : R
 pub going-fits : (u : LineRows) (n : ℕ) → Read u n → (i : ℕ) → i < n → i + 1 < 2 ^ 64
 going-fits u n read i h = omega (arith, read .few)
 
--- a line that is judged, and applied where it changes something
+-- a line that is judged and applied, and what is due credited
 module _ (clock : List ℕ) (u : LineRows) (n : ℕ) (read : Read u n) (t₀ : Rows) (whole : Ledger) (t : Rows) (g : Gate) (i : ℕ) (going : Going clock (linesOf u n) t₀ whole t g i)
-    (h : i < n) (x : Line) (ex : x ≡ lineAt u i) (v : Verdict) (e : v ≡ verdictOf g (recordsOf t (g .used)) (length (t .nums)) x) where
-  pub going-kept : (c : Bool) → c ≡ isChange v → not c ≡ true → Going clock (linesOf u n) t₀ whole t g (i + 1)
-  going-kept c ec un =
-      going-on clock u n read t₀ whole t g i going h x ex g t (line-kept g t clock x (length (t .nums)) (going .held .backed .whole) v e c ec un)
+    (h : i < n) (names keys : List (List ℕ)) (listed : Listed names keys g) where
+  module _ (f : Found) (within : Within f (length names)) (at : ℕ) (ea : f ≡ At at) where
+    funds : Funds g 10000000000000000
+    funds = going-held clock u n read t₀ whole t g i going h .backed .funds
 
-  pub going-applied : (g′ : Gate) (t′ : Rows) → Left t (applied clock x v (ledgerOf g t)) g′ t′ → Going clock (linesOf u n) t₀ whole t′ g′ (i + 1)
-  going-applied g′ t′ left = going-on clock u n read t₀ whole t g i going h x ex g′ t′ (line-applied g t clock x (length (t .nums)) v e g′ t′ left)
+    pub going-account : at < 256
+    going-account = due-place names keys g listed f within at ea 10000000000000000 funds
+
+    pub going-near : mag (toZ w64 (ofZ w64 (balanceAt g at))) ≤ 10000000000000000
+    going-near = due-near names keys g listed f within at ea 10000000000000000 funds (omega arith)
+
+    near : mag (balanceAt g at) ≤ 10000000000000000
+    near = due-balance names keys g listed f within at ea 10000000000000000 funds
+
+  module _ (x : Line) (ex : x ≡ lineAt u i) (v : Verdict) (ev : v ≡ verdictOf g (recordsOf t (g .used)) (length (t .nums)) x)
+      (t′ : Rows) (d : Due) (done : Applied names keys (g .used) t clock x v d t′) where
+    out : (g′ : Gate) → g′ ≡ paid g d (x .amount) → Going clock (linesOf u n) t₀ whole t′ g′ (i + 1)
+    out g′ eg =
+        going-on clock u n read t₀ whole t g i going h x ex g′ t′
+        (line-applied g t clock x (length (t .nums)) v ev g′ t′ (rw eg (done .left g listed refl)))
+
+    pub going-none : d .account ≡ Nothing → Going clock (linesOf u n) t₀ whole t′ (withUsed g (d .used)) (i + 1)
+    going-none e = out _ (paid-none g d (x .amount) e)
+
+    pub going-credited : Within (d .account) (length names) → (at : ℕ) → d .account ≡ At at
+        → (z : ℤ) → z ≡ toZ w64 (ofZ w64 (balanceAt g at)) +ℤ pos (x .amount) → mag z < 2 ^ 63
+        → Going clock (linesOf u n) t₀ whole t′ (gateBalance (withUsed g (d .used)) at z) (i + 1)
+    going-credited within at ea z ez fits = out _ (paid-at g d (x .amount) at ea (near (d .account) within at ea) z fits ez)

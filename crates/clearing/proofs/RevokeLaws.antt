@@ -1,26 +1,36 @@
 -- Laws of a record that is revoked in its place, and its amount taken off its account.
-use Prim.Native.Nat.{ℕ, _+_, _<_}
+use Prim.Native.Nat.{ℕ, _+_, _^_, _<_, _≤_}
 use native.Mathlib.Omega.{arith}
 use mathlib.Core.Path.{_≡_, refl, sym, ap, _∙_}
 use mathlib.Core.List.{List}
-use lib.IntN.{pos, _-ℤ_}
+use lib.IntN.{ℤ, pos, _-ℤ_}
+use lib.Signed.{mag}
 use lib.ListN.{length, set, length-set}
+use mir.Syntax.{w64}
+use mir.Val.{toZ, ofZ}
 use Rattle.lists.specs.declared.Found.{Found}
 use Rattle.lists.specs.declared.Found.the-variants.{At, Nothing}
 use Rattle.table.specs.declared.Gate.{Gate}
 use Rattle.table.specs.declared.Record.{Record}
 use Rattle.table.specs.Table.{Rows, recordsOf, rowsWith}
-use Rattle.table.specs.Accounts.{accountsOf, findAccount, balanceAt, debited}
-use Rattle.table.proofs.SignedLaws.{mag-down}
-use Rattle.table.proofs.AccountLaws.{holder-within}
+use Rattle.table.specs.Accounts.{accountsOf, findAccount, balanceAt, gateBalance, debited}
+use Rattle.table.proofs.SignedLaws.{back, mag-down}
+use Rattle.table.proofs.AccountLaws.{holder-within, debit-is}
 use Rattle.table.proofs.TableLaws.{length-records, rows-set}
 use Rattle.table.specs.Accounts.{Funds}
 use Rattle.ledger.specs.Change.{revoked, debitedAt}
 use Rattle.ledger.proofs.ChangeLaws.{debit-used}
 use Rattle.posting.specs.Steps.{Held, Left}
-use Rattle.posting.specs.Posting.{ledgerOf}
+use Rattle.posting.specs.Posting.{Ledger, ledgerOf}
 use Rattle.posting.proofs.HeldLaws.{funds-more, funds-moved, small-set, held-small, Step}
-use Rattle.clearing.specs.Steps.{revokedAt}
+
+-- r cancelled in the place i, and its amount off its account
+unfoldable pub revokedAt : List ℕ → Record → ℕ → Ledger → Ledger
+revokedAt clock r i l =
+    record {
+      gate = debitedAt (l .gate) (findAccount (r .number) (r .kind) (accountsOf (l .gate))) (r .amount);
+      records = set (l .records) i (revoked clock r);
+    }
 
 module _ (g : Gate) (b n : ℕ) (f : Funds g b) (few : n < 1000000000) where
   funds-debited : (a : ℕ) → a < g .count → Funds (debited g a n) (b + 1000000000)
@@ -48,8 +58,17 @@ module _ (g : Gate) (t : Rows) (b : ℕ) (held : Held g t b) (clock : List ℕ) 
         small = small-set rs i (revoked clock r) (held-small g t b held) (λ _. few);
       }
 
-  pub revoked-out : (q : Record) → q ≡ revoked clock r → (t′ : Rows) → t′ ≡ rowsWith t i q → (k : Found) → k ≡ findAccount (r .number) (r .kind) (accountsOf g)
+  pub revoked-out : (t′ : Rows) → t′ ≡ rowsWith t i (revoked clock r) → (k : Found) → k ≡ findAccount (r .number) (r .kind) (accountsOf g)
       → (g′ : Gate) → g′ ≡ debitedAt g k (r .amount) → Left t (revokedAt clock r i (ledgerOf g t)) g′ t′
   unfolding revokedAt
-  revoked-out q eq t′ et k ek g′ eg =
-      record { gates = eg ∙ ap (λ (f : Found). debitedAt g f (r .amount)) ek; left = et ∙ rw eq (sym (rows-set t (g .used) (held .backed .whole) i (revoked clock r) h)) }
+  revoked-out t′ et k ek g′ eg =
+      record { gates = eg ∙ ap (λ (f : Found). debitedAt g f (r .amount)) ek; left = et ∙ sym (rows-set t (g .used) (held .backed .whole) i (revoked clock r) h) }
+
+-- ---- the account that was found, debited on the gate's own copy
+module _ (g : Gate) (f : Found) (n : ℕ) where
+  pub debited-none : f ≡ Nothing → g ≡ debitedAt g f n
+  debited-none e = rw e
+
+  pub debited-at : (at : ℕ) → f ≡ At at → mag (balanceAt g at) ≤ 10000000000000000 → (z : ℤ) → mag z < 2 ^ 63
+      → z ≡ toZ w64 (ofZ w64 (balanceAt g at)) -ℤ pos n → gateBalance g at z ≡ debitedAt g f n
+  debited-at at e near z fits ez = debit-is g at n z near fits (gateBalance g at z) (ap (gateBalance g at) (sym (back z fits))) ez ∙ ap (λ (k : Found). debitedAt g k n) (sym e)

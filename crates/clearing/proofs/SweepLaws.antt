@@ -5,31 +5,40 @@ use mathlib.Core.Path.{_≡_, refl, sym, ap, _∙_}
 use mathlib.Core.Bool.{Bool, true, false, not}
 use mathlib.Core.List.{List, [], _∷_, _++_, map}
 use native.Mathlib.Numerals.{add-one}
+use lib.IntN.{ℤ, pos, _-ℤ_}
+use lib.Signed.{mag}
 use lib.ListN.{length, getD, take, drop, set, length-set, drop-of-length-le}
+use mir.Syntax.{w64}
+use mir.Val.{toZ, ofZ}
 use lib.Seq.{drop-cons}
 use Rattle.lists.proofs.ListLaws.{partly-get, partly-turn, partly-all}
 use Rattle.table.proofs.TableLaws.{length-records, getD-records, rows-kept}
 use Rattle.posting.proofs.HeldLaws.{held-more, Step, left-records, left-held}
 use Rattle.clearing.proofs.LinesLaws.{from-from}
-use Rattle.clearing.proofs.RevokeLaws.{revoke-step}
+use Rattle.clearing.proofs.RevokeLaws.{revokedAt, revoke-step, revoked-out, debited-none, debited-at}
 use Rattle.posting.proofs.MatchLaws.{other-receipt}
-use Rattle.posting.proofs.PostLaws.{at-nums, at-numbers, at-dates}
+use Rattle.posting.proofs.PostLaws.{at-nums, at-numbers, at-dates, found-within}
+use Rattle.posting.proofs.DueLaws.{due-place, due-balance, due-near}
+use Rattle.directory.specs.Directory.{holdersOf, Listed}
+use Rattle.directory.proofs.FindLaws.{listed-find}
 use Rattle.line_rows.proofs.ReadLaws.{next-line, last-line}
 use borrow.Author.Tests.{eq-eqb, ne-eqb, not-true, not-false}
+use Rattle.fields.specs.declared.number.Number.{Number}
+use Rattle.lists.specs.declared.Found.{Found}
+use Rattle.lists.specs.declared.Found.the-variants.{At, Nothing}
 use Rattle.days.specs.declared.calendar.Day.{Day}
 use Rattle.days.specs.Calendar.{onDay}
 use Rattle.dates.specs.Date.{dateDay}
 use Rattle.lines.specs.declared.line.Line.{Line}
 use Rattle.table.specs.declared.Gate.{Gate}
 use Rattle.table.specs.declared.Record.{Record}
-use Rattle.table.specs.Table.{Rows, recordAt, recordsOf, rowsFrom}
-use Rattle.table.specs.Table.{noRecord}
-use Rattle.ledger.specs.Change.{revoked}
+use Rattle.table.specs.Table.{Rows, recordAt, recordsOf, rowsFrom, rowsWith, noRecord}
+use Rattle.table.specs.Accounts.{findAccount, balanceAt, gateBalance}
+use Rattle.ledger.specs.Change.{revoked, debitedAt}
 use Rattle.posting.specs.Posting.{matches, Ledger, ledgerOf}
 use Rattle.clearing.specs.Clearing.{anyMatches, isStray, sweptRecord, sweptGate, sweepGates, swept}
 use Rattle.line_rows.specs.Lines.{LineRows, lineAt, linesOf}
 use Rattle.posting.specs.Steps.{Held, Left}
-use Rattle.clearing.specs.Steps.{revokedAt}
 
 -- ---- whether any line matches a record
 module _ (u : LineRows) (n : ℕ) (r : Record) (i : ℕ) (passed : anyMatches (linesOf u n) r ≡ anyMatches (drop i (linesOf u n)) r) where
@@ -92,23 +101,35 @@ module _ (clock : List ℕ) (day : Day) (xs : List Line) (t₀ : Rows) (g₀ : G
   sweeping-last h =
       held-more g t (11000000000000 + i * 1000000000) 16000000000000 (going .held) (omega (arith, going .used, going .held .backed .whole .nums, going .held .backed .size))
 
-  pub sweeping-held : i < g₀ .used → Held g t 10000000000000000
+  sweeping-held : i < g₀ .used → Held g t 10000000000000000
   sweeping-held h = held-more g t 16000000000000 10000000000000000 (sweeping-last (omega arith)) (omega arith)
 
-  pub sweeping-place : i < g₀ .used → i < g .used
+  sweeping-place : i < g₀ .used → i < g .used
   sweeping-place h = omega (arith, going .used)
 
   pub sweeping-fits : i < g₀ .used → i + 1 < 2 ^ 64
   sweeping-fits h = omega (arith, going .used, going .held .backed .whole .nums, going .held .backed .size)
 
   pub sweeping-nums : i < g₀ .used → i < length (t .nums)
-  sweeping-nums h = at-nums g t _ (going .held) i (sweeping-place h)
+  sweeping-nums h = at-nums t (g .used) (going .held .backed .whole) i (sweeping-place h)
 
   pub sweeping-numbers : i < g₀ .used → i < length (t .numbers)
-  sweeping-numbers h = at-numbers g t _ (going .held) i (sweeping-place h)
+  sweeping-numbers h = at-numbers t (g .used) (going .held .backed .whole) i (sweeping-place h)
 
   pub sweeping-dates : i < g₀ .used → i < length (t .dates)
-  sweeping-dates h = at-dates g t _ (going .held) i (sweeping-place h)
+  sweeping-dates h = at-dates t (g .used) (going .held .backed .whole) i (sweeping-place h)
+
+  -- the account of a record that is cancelled
+  module _ (h : i < g₀ .used) (names keys : List (List ℕ)) (listed : Listed names keys g) (n : Number) (k : ℕ) (f : Found) (ef : f ≡ findAccount n k (holdersOf names keys))
+      (at : ℕ) (e : f ≡ At at) where
+    pub sweeping-account : at < 256
+    sweeping-account = due-place names keys g listed f (found-within names keys n k f ef) at e _ (going .held .backed .funds)
+
+    pub sweeping-near : mag (toZ w64 (ofZ w64 (balanceAt g at))) ≤ 10000000000000000
+    sweeping-near = due-near names keys g listed f (found-within names keys n k f ef) at e 10000000000000000 (sweeping-held h .backed .funds) (omega arith)
+
+    balance-near : mag (balanceAt g at) ≤ 10000000000000000
+    balance-near = due-balance names keys g listed f (found-within names keys n k f ef) at e 10000000000000000 (sweeping-held h .backed .funds)
 
   pub sweeping-end : g₀ .used ≤ i → Left t₀ (swept clock day xs (ledgerOf g₀ t₀)) g t
   unfolding swept sweepGates
@@ -169,7 +190,7 @@ module _ (clock : List ℕ) (day : Day) (xs : List Line) (t₀ : Rows) (g₀ : G
             used = going .used;
           }
 
-      pub sweeping-on : not s ≡ false → (g′ : Gate) (t′ : Rows) → Left t (revokedAt clock r i (ledgerOf g t)) g′ t′ → Sweeping clock day xs t₀ g₀ t′ g′ (i + 1)
+      sweeping-on : not s ≡ false → (g′ : Gate) (t′ : Rows) → Left t (revokedAt clock r i (ledgerOf g t)) g′ t′ → Sweeping clock day xs t₀ g₀ t′ g′ (i + 1)
       unfolding sweptRecord sweptGate revokedAt
       sweeping-on e g′ t′ left =
           let y : isStray day xs r ≡ true = sym es ∙ not-false s e in
@@ -190,3 +211,19 @@ module _ (clock : List ℕ) (day : Day) (xs : List Line) (t₀ : Rows) (g₀ : G
                 (left-held t (g .used) (b + 1000000000) l step g′ t′ left g b (going .held)) (omega arith);
             used = omega (arith, length-records t (g .used), going .used);
           }
+
+      -- what is cancelled is debited, where its account is known
+      module _ (e : not s ≡ false) (t′ : Rows) (et : t′ ≡ rowsWith t i (revoked clock r)) (names keys : List (List ℕ)) (listed : Listed names keys g)
+          (f : Found) (ef : f ≡ findAccount (r .number) (r .kind) (holdersOf names keys)) where
+        out : (g′ : Gate) → g′ ≡ debitedAt g f (r .amount) → Sweeping clock day xs t₀ g₀ t′ g′ (i + 1)
+        out g′ eg =
+            sweeping-on e g′ t′
+            (revoked-out g t _ (going .held) clock r i (sweeping-place h) t′ et f (ef ∙ listed-find names keys g listed (r .number) (r .kind)) g′ eg)
+
+        pub sweeping-none : f ≡ Nothing → Sweeping clock day xs t₀ g₀ t′ g (i + 1)
+        sweeping-none none = out g (debited-none g f (r .amount) none)
+
+        pub sweeping-debited : (at : ℕ) → f ≡ At at → (z : ℤ) → z ≡ toZ w64 (ofZ w64 (balanceAt g at)) -ℤ pos (r .amount) → mag z < 2 ^ 63
+            → Sweeping clock day xs t₀ g₀ t′ (gateBalance g at z) (i + 1)
+        sweeping-debited at ea z ez fits =
+            out _ (debited-at g f (r .amount) at ea (balance-near h names keys listed (r .number) (r .kind) f ef at ea) z fits ez)

@@ -3,6 +3,7 @@ use dates::date;
 use days::calendar::Day;
 use ledger::change;
 use line_rows::reading;
+use lists::Found;
 use posting::matching;
 use table::Gate;
 use table::Record;
@@ -10,11 +11,15 @@ use table::accounts;
 use table::rows;
 ghost use mathlib.Core.Path.{_≡_};
 ghost use Prim.Native.Nat.{_<_};
+ghost use lib.ListN.{length};
+ghost use Rattle.table.specs.Table.{rowsWith};
 ghost use Rattle.table.specs.Lent.{lent, before, after};
+ghost use Rattle.table.specs.Accounts.{findAccount};
+ghost use Rattle.directory.specs.Directory.{holdersOf, Listed};
+ghost use Rattle.ledger.specs.Change.{revoked};
 ghost use Rattle.posting.specs.Posting.{Ledger, ledgerOf};
 ghost use Rattle.clearing.specs.Clearing.{anyMatches, isStray, swept};
 ghost use Rattle.posting.specs.Steps.{Held, Left};
-ghost use Rattle.clearing.specs.Steps.{revokedAt};
 ghost use Rattle.line_rows.specs.Lines.{linesOf, Read, linesLent, linesBefore};
 
 // Whether any line matches the record.
@@ -65,28 +70,27 @@ fn is_stray(
     !any_matches(values, holders, days, count, r)
 }
 
-// Cancels the record r at i, and takes its amount off its account, where it is known.
+// Cancels the record r at i; its account, where it is known.
 fn revoke_at(
     nums: &mut [[u64; 6]],
     numbers: &mut [[u8; 30]],
     dates: &mut [[[u8; 19]; 3]],
-    g: Gate,
     clock: [u8; 19],
     r: Record,
     i: usize,
-) -> Gate
-    requires { ⌜ Held g (lent nums numbers dates) 10000000000000000 × (i < g .used) × (r .amount < 1000000000) ⌝ }
-    ensures { λ x. ⌜ Left (before nums numbers dates)
-        (revokedAt clock r i (ledgerOf g (before nums numbers dates)))
-        x (after nums numbers dates) ⌝ }
+    names: &[[u8; 30]],
+    keys: &[[u64; 2]],
+) -> Found
+    requires { ⌜ (i < length (now nums)) × (i < length (now numbers)) × (i < length (now dates)) × (length (now keys) ≡ length (now names)) ⌝ }
+    ensures { λ f. ⌜ after nums numbers dates ≡ rowsWith (before nums numbers dates) i (revoked clock r) ⌝ }
+    ensures { λ f. ⌜ f ≡ findAccount (r .number) (r .kind) (holdersOf (now (names .entry)) (now (keys .entry))) ⌝ }
 {
     rows::store(nums, numbers, dates, i, change::revoke_record(clock, r));
     let n = r.number;
-    let account = accounts::find_account(g, n, r.kind);
-    change::debit_at(g, account, r.amount)
+    directory::find(names, keys, n, r.kind)
 }
 
-// Sweeps every used record.
+// Sweeps every used record; what is cancelled is debited on the gate's own copy.
 pub fn sweep(
     nums: &mut [[u64; 6]],
     numbers: &mut [[u8; 30]],
@@ -98,8 +102,11 @@ pub fn sweep(
     holders: &[[u8; 30]],
     days: &[[u8; 19]],
     count: usize,
+    names: &[[u8; 30]],
+    keys: &[[u64; 2]],
 ) -> Gate
     requires { ⌜ Held g (lent nums numbers dates) 11000000000000 × Read (linesLent values holders days) count ⌝ }
+    requires { ⌜ Listed (now names) (now keys) g ⌝ }
     ensures { λ r. ⌜ Left (before nums numbers dates)
         (swept clock day (linesOf (linesBefore values holders days) count) (ledgerOf g (before nums numbers dates)))
         r (after nums numbers dates) ⌝ }
@@ -116,8 +123,15 @@ pub fn sweep(
             i += 1;
             continue;
         }
-        gate = revoke_at(nums, numbers, dates, gate, clock, r, i);
+        let account = revoke_at(nums, numbers, dates, clock, r, i, names, keys);
         i += 1;
+        let Found::At(at) = account else {
+            continue;
+        };
+        let mut a = gate.accounts[at];
+        let b = a.balance;
+        a.balance = accounts::minus(b, r.amount);
+        gate.accounts[at] = a;
     }
     gate
 }

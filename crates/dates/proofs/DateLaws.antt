@@ -14,11 +14,12 @@ use Rattle.days.specs.declared.calendar.DayRead.the-variants.{Good, NoDate}
 use Rattle.dates.specs.declared.date.DateRead.{DateRead}
 use Rattle.texts.specs.Lists.{every, written}
 use Rattle.texts.specs.Digits.{isDigit}
-use Rattle.days.specs.Calendar.{isDate, dayOf, isDay, twoDigits, twoAt, dayPart}
+use Rattle.days.specs.Calendar.{isDate, dayOf, isDay, twoDigits, twoAt, dayWith, dayPart}
 use Rattle.dates.specs.Date.{clockTime, dateDay, found, isWritten, emptyDate, noDate, dateRead}
 use Rattle.texts.proofs.Tests.{both, cond-elim}
 use Rattle.texts.proofs.ListLaws.{every-step, every-all}
 use Rattle.texts.proofs.OutLaws.{written-over}
+use Rattle.days.proofs.CalendarLaws.{part-with}
 use Rattle.days.proofs.DayLaws.{is-date, days-high, read-good, made}
 
 module _ (s : List ℕ) where
@@ -54,9 +55,13 @@ module _ (s : List ℕ) where
     unfolding dateDay
     date-no-time f = rw (← test, f) (simp and-false)
 
-    pub date-good : t ≡ true → length s ≡ 19 → (r : DayRead) → r ≡ dayPart s → r ≡ dateDay s
+    pub date-good : t ≡ true → length s ≡ 19 → (c y m d : ℕ) (r : DayRead)
+        → c ≡ twoDigits (getD s 0 0) (getD s 1 0) → y ≡ twoDigits (getD s 2 0) (getD s 3 0)
+        → m ≡ twoDigits (getD s 5 0) (getD s 6 0) → d ≡ twoDigits (getD s 8 0) (getD s 9 0)
+        → r ≡ dayWith (getD s 4 0) (getD s 7 0) c y m d → r ≡ dateDay s
     unfolding dateDay
-    date-good f l r e = e ∙ rw (← test, f, eq-eqb _ _ l)
+    date-good f l c y m d r ec ey em ed e =
+        let ten : 10 ≤ length s = omega arith in part-with s c y m d r ten ec ey em ed e ∙ rw (← test, f, eq-eqb _ _ l)
 
   module _ (x : DayRead) (ex : x ≡ dateDay s) where
     pub written-is : (y : Day) → x ≡ Good y → true ≡ isWritten s
@@ -98,10 +103,10 @@ module _ (s : List ℕ) where
 -- the tests that a day which was read has passed
 module _ (s : List ℕ) (x : Day) where
   part-tests : dayPart s ≡ Good x
-      → (leb 10 (length s) && (eqb (getD s 4 0) 45 && (eqb (getD s 7 0) 45 && (eqb (twoAt s 0) 20 && leb (twoAt s 2) 99))) ≡ true)
+      → (eqb (getD s 4 0) 45 && (eqb (getD s 7 0) 45 && (eqb (twoAt s 0) 20 && leb (twoAt s 2) 99)) ≡ true)
       × (dayOf (2000 + twoAt s 2) (twoAt s 5) (twoAt s 8) ≡ Good x)
   unfolding dayPart
-  part-tests = read-good _ _
+  part-tests e = read-good _ _ (read-good (leb 10 (length s)) _ e .1)
 
   date-tests : dateDay s ≡ Good x → (eqb (length s) 19 && clockTime s ≡ true) × (dayPart s ≡ Good x)
   unfolding dateDay
@@ -153,8 +158,7 @@ written-parts s h =
     let colon-2 = both (eqb (getD s 16 0) 58) _ (colon .1) in
     let hour = both (leb (twoAt s 11) 23) _ (colon-2 .1) in
     let minute = both (leb (twoAt s 14) 59) _ (hour .1) in
-    let long = both (leb 10 (length s)) _ (part .0) in
-    let dash = both (eqb (getD s 4 0) 45) _ (long .1) in
+    let dash = both (eqb (getD s 4 0) 45) _ (part .0) in
     let dash-2 = both (eqb (getD s 7 0) 45) _ (dash .1) in
     let century = both (eqb (twoAt s 0) 20) _ (dash-2 .1) in
     record {

@@ -43,8 +43,11 @@ pub fn day_of_date(d: [u8; 19]) -> DayRead
     ensures { λ r. ⌜ r ≡ dateDay d ⌝ }
 {
     if has_time(d) {
-        let a = d;
-        calendar::day_part(&a)
+        let century = calendar::two(d[0], d[1]);
+        let y = calendar::two(d[2], d[3]);
+        let month = calendar::two(d[5], d[6]);
+        let day = calendar::two(d[8], d[9]);
+        calendar::day_with(d[4], d[7], century, y, month, day)
     } else {
         DayRead::NoDate
     }

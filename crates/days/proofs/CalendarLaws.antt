@@ -13,7 +13,7 @@ use borrow.Author.Tests.{le-leb, lt-leb, lt-ltb, le-ltb, eq-eqb, ne-eqb, leb-tru
 use Rattle.days.specs.declared.calendar.Day.{Day}
 use Rattle.days.specs.declared.calendar.DayRead.{DayRead}
 use Rattle.days.specs.declared.calendar.DayRead.the-variants.{Good, NoDate}
-use Rattle.days.specs.Calendar.{leapYear, daysIn, isDate, isDay, dayOf, nextDay, dayKey, dayBefore, sameDay, onDay, upTo, twoDigits, dayPart, dayRead}
+use Rattle.days.specs.Calendar.{leapYear, daysIn, isDate, isDay, dayOf, nextDay, dayKey, dayBefore, sameDay, onDay, upTo, twoDigits, dayWith, dayPart, dayRead}
 use Rattle.texts.proofs.Tests.{and-left, and-right}
 
 module _ (y : ℕ) where
@@ -151,34 +151,33 @@ module _ (a b : ℕ) where
   unfolding twoDigits
   two-good h i j k = simp le-leb
 
+module _ (a b c y m d : ℕ) where
+  pub with-dash : (a ≡ 45 → ⊥) → NoDate ≡ dayWith a b c y m d
+  with-dash n = simp (ne-eqb _ _ n)
+
+  pub with-other : (b ≡ 45 → ⊥) → NoDate ≡ dayWith a b c y m d
+  with-other n = simp (ne-eqb _ _ n, and-false)
+
+  pub with-century : (c ≡ 20 → ⊥) → NoDate ≡ dayWith a b c y m d
+  with-century n = simp (ne-eqb _ _ n, and-false)
+
+  pub with-year : 99 < y → NoDate ≡ dayWith a b c y m d
+  with-year h = simp (lt-leb _ _ h, and-false)
+
+  pub with-good : (r : DayRead) → a ≡ 45 → b ≡ 45 → c ≡ 20 → y ≤ 99 → r ≡ dayOf (2000 + y) m d → r ≡ dayWith a b c y m d
+  with-good r ea eb ec l e = e ∙ simp (eq-eqb _ _ ea, eq-eqb _ _ eb, eq-eqb _ _ ec, le-leb _ _ l)
+
 module _ (s : List ℕ) where
   pub part-short : length s < 10 → NoDate ≡ dayPart s
   unfolding dayPart
   part-short h = simp (lt-leb _ _ h)
 
-  pub part-mark : (getD s 4 0 ≡ 45 → ⊥) → NoDate ≡ dayPart s
+  pub part-with : (c y m d : ℕ) (r : DayRead) → 10 ≤ length s
+      → c ≡ twoDigits (getD s 0 0) (getD s 1 0) → y ≡ twoDigits (getD s 2 0) (getD s 3 0)
+      → m ≡ twoDigits (getD s 5 0) (getD s 6 0) → d ≡ twoDigits (getD s 8 0) (getD s 9 0)
+      → r ≡ dayWith (getD s 4 0) (getD s 7 0) c y m d → r ≡ dayPart s
   unfolding dayPart
-  part-mark n = simp (ne-eqb _ _ n, and-false)
-
-  pub part-mark-2 : (getD s 7 0 ≡ 45 → ⊥) → NoDate ≡ dayPart s
-  unfolding dayPart
-  part-mark-2 n = simp (ne-eqb _ _ n, and-false)
-
-  pub part-century : (n : ℕ) → n ≡ twoDigits (getD s 0 0) (getD s 1 0) → (n ≡ 20 → ⊥) → NoDate ≡ dayPart s
-  unfolding dayPart
-  part-century n e f = rw (← e, ne-eqb _ _ f) (simp and-false)
-
-  module _ (y : ℕ) (ey : y ≡ twoDigits (getD s 2 0) (getD s 3 0)) where
-    pub part-year : 99 < y → NoDate ≡ dayPart s
-    unfolding dayPart
-    part-year f = rw (← ey, lt-leb _ _ f) (simp and-false)
-
-    pub part-good : (n m d : ℕ) (r : DayRead) → 10 ≤ length s → getD s 4 0 ≡ 45 → getD s 7 0 ≡ 45
-        → n ≡ twoDigits (getD s 0 0) (getD s 1 0) → n ≡ 20 → y ≤ 99
-        → m ≡ twoDigits (getD s 5 0) (getD s 6 0) → d ≡ twoDigits (getD s 8 0) (getD s 9 0) → r ≡ dayOf (2000 + y) m d → r ≡ dayPart s
-    unfolding dayPart
-    part-good n m d r l a b en tn ly em ed er =
-        er ∙ rw (← en, ← ey, ← em, ← ed) (simp (le-leb _ _ l, eq-eqb _ _ a, eq-eqb _ _ b, tn, le-leb _ _ ly))
+  part-with c y m d r l ec ey em ed er = er ∙ rw (le-leb _ _ l, ← ec, ← ey, ← em, ← ed)
 
   pub alone-other : (length s ≡ 10 → ⊥) → NoDate ≡ dayRead s
   unfolding dayRead

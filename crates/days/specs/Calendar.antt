@@ -78,12 +78,15 @@ twoDigits a b = cond (isDigit a && isDigit b) ((a - 48) * 10 + (b - 48)) 100
 abbrev pub twoAt : List ℕ → ℕ → ℕ
 twoAt s i = twoDigits (getD s i 0) (getD s (i + 1) 0)
 
+-- the day of its two dashes and four pairs of digits
+abbrev pub dayWith : ℕ → ℕ → ℕ → ℕ → ℕ → ℕ → DayRead
+dayWith dash other century y m d =
+    cond (eqb dash 45 && (eqb other 45 && (eqb century 20 && leb y 99))) (dayOf (2000 + y) m d) NoDate
+
 -- the day that the first ten bytes are
 unfoldable pub dayPart : List ℕ → DayRead
 dayPart s =
-    cond (leb 10 (length s) && (eqb (getD s 4 0) 45 && (eqb (getD s 7 0) 45 && (eqb (twoAt s 0) 20 && leb (twoAt s 2) 99))))
-    (dayOf (2000 + twoAt s 2) (twoAt s 5) (twoAt s 8))
-    NoDate
+    cond (leb 10 (length s)) (dayWith (getD s 4 0) (getD s 7 0) (twoAt s 0) (twoAt s 2) (twoAt s 5) (twoAt s 8)) NoDate
 
 -- a day that stands alone
 unfoldable pub dayRead : List ℕ → DayRead

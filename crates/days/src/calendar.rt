@@ -1,6 +1,6 @@
 // Days of the Gregorian calendar from 2000 to 2099.
 ghost use mathlib.Core.Path.{_≡_};
-ghost use Rattle.days.specs.Calendar.{twoDigits, leapYear, daysIn, isDate, isDay, dayOf, nextDay, dayBefore, sameDay, onDay, upTo, dayPart, dayRead};
+ghost use Rattle.days.specs.Calendar.{twoDigits, dayWith, leapYear, daysIn, isDate, isDay, dayOf, nextDay, dayBefore, sameDay, onDay, upTo, dayPart, dayRead};
 
 #[repr(C)]
 pub struct Day {
@@ -165,27 +165,35 @@ pub fn two(a: u8, b: u8) -> u8
     (a - 48) * 10 + (b - 48)
 }
 
+// The day of two dashes and four pairs of digits: its parts as numbers, so that no text is copied for it.
+pub fn day_with(dash: u8, other: u8, century: u8, y: u8, month: u8, day: u8) -> DayRead
+    ensures { λ r. ⌜ r ≡ dayWith dash other century y month day ⌝ }
+{
+    if dash != b'-' {
+        return DayRead::NoDate;
+    }
+    if other != b'-' {
+        return DayRead::NoDate;
+    }
+    if century != 20 {
+        return DayRead::NoDate;
+    }
+    if 99 < y {
+        return DayRead::NoDate;
+    }
+    day_of(2000 + y as u16, month, day)
+}
+
 // The day that the first ten bytes are.
-pub fn day_part(s: &[u8]) -> DayRead
+fn day_part(s: &[u8]) -> DayRead
     ensures { λ r. ⌜ r ≡ dayPart (now (s .entry)) ⌝ }
 {
     if s.len() < 10 {
         return DayRead::NoDate;
     }
-    if s[4] != b'-' {
-        return DayRead::NoDate;
-    }
-    if s[7] != b'-' {
-        return DayRead::NoDate;
-    }
-    if two(s[0], s[1]) != 20 {
-        return DayRead::NoDate;
-    }
+    let century = two(s[0], s[1]);
     let y = two(s[2], s[3]);
-    if 99 < y {
-        return DayRead::NoDate;
-    }
-    day_of(2000 + y as u16, two(s[5], s[6]), two(s[8], s[9]))
+    day_with(s[4], s[7], century, y, two(s[5], s[6]), two(s[8], s[9]))
 }
 
 // A day that stands alone, YYYY-MM-DD.

@@ -2,6 +2,7 @@
 use Prim.Native.Nat.{ℕ, _+_}
 use mathlib.Core.Path.{_≡_}
 use mathlib.Core.List.{List, [], _∷_, _++_}
+use lib.IntN.{ℤ}
 use lib.ListN.{set}
 use Rattle.dates.specs.Date.{emptyDate}
 use Rattle.payments.specs.declared.Details.{Details}
@@ -11,7 +12,7 @@ use Rattle.table.specs.declared.Gate.{Gate}
 use Rattle.lists.specs.declared.Found.{Found}
 use Rattle.lists.specs.declared.Found.the-variants.{At, Nothing}
 use Rattle.table.specs.Table.{done, cancelled, Rows, rowsFrom}
-use Rattle.table.specs.Accounts.{credited, debited, withUsed}
+use Rattle.table.specs.Accounts.{credited, debited, withUsed, gateBalance}
 use Rattle.rules.specs.declared.decision.Change.{Change}
 use Rattle.rules.specs.declared.decision.Change.the-variants.{Keep, Append, Revoke}
 use Rattle.planning.specs.declared.plan.Plan.{Plan}
@@ -83,6 +84,11 @@ changed Revoke g rs clock q p =
 
 abbrev pub executed : Gate → List Record → List ℕ → Instruction → Plan → Changed
 executed g rs clock q p = changed (p .decided .change) g rs clock q p
+
+-- the gate with the balance z at the account that was found, and n records
+abbrev pub movedAt : Gate → Found → ℤ → ℕ → Gate
+movedAt g Nothing z n = withUsed g n
+movedAt g (At a) z n = withUsed (gateBalance g a z) n
 
 -- what a change leaves of the gate, the rows and the record that it speaks of
 pub record Made (t : Rows) (c : Changed) (gate : Gate) (subject : Record) (rows : Rows) : Type 0 where

@@ -14,13 +14,14 @@ ghost use mathlib.Core.List.{[], _∷_, _++_};
 ghost use mathlib.Core.Bool.{true};
 ghost use Prim.Native.Nat.{_+_, _<_, _≤_};
 ghost use lib.ListN.{length};
-ghost use Rattle.table.specs.Table.{recordsOf, rowsFrom, Whole};
+ghost use lib.IntN.{ℤ, pos, _+ℤ_, _-ℤ_};
+ghost use lib.Signed.{mag};
+ghost use Rattle.table.specs.Table.{recordsOf, rowsFrom, Whole, SameLengths};
 ghost use Rattle.table.specs.Lent.{lent, before, after};
-ghost use Rattle.table.specs.Accounts.{withUsed};
-ghost use Rattle.validity.specs.Valid.{Ready, tableGood};
+ghost use Rattle.table.specs.Accounts.{balanceOf};
+ghost use Rattle.validity.specs.Valid.{Sound, Ready, tableGood};
 ghost use Rattle.planning.specs.Plan.{Within, planOf, Planned};
-ghost use Rattle.table.specs.Accounts.{Funds};
-ghost use Rattle.ledger.specs.Change.{makeRecord, revoked, creditedAt, debitedAt, replacedAt, executed, Made};
+ghost use Rattle.ledger.specs.Change.{makeRecord, revoked, replacedAt, executed, movedAt, Made};
 
 // What an instruction comes to: the code, the gate, and the record that the answer speaks of.
 pub struct Execution {
@@ -29,16 +30,17 @@ pub struct Execution {
     pub subject: Record,
 }
 
-// What a change leaves: the gate, and the record that the answer speaks of.
+// What a change leaves: how many records, the balance of the account that it concerns, and the record that the answer speaks of.
 pub(crate) struct Outcome {
-    pub gate: Gate,
+    pub used: usize,
+    pub balance: i64,
     pub subject: Record,
 }
 
-// The record of a payment that is credited now.
-pub fn make_record(g: Gate, clock: [u8; 19], q: Details) -> Record
-    requires { ⌜ g .used < 4096 ⌝ }
-    ensures { λ r. ⌜ r ≡ makeRecord g clock q ⌝ }
+// The record of a payment that is credited now, by a gate with so many records.
+pub fn make_record(used: usize, clock: [u8; 19], q: Details) -> Record
+    requires { ⌜ used < 4096 ⌝ }
+    ensures { λ r. ⌜ ((g : Gate) → g .used ≡ used → r ≡ makeRecord g clock q) ⌝ }
 {
     let number = q.number;
     let date = q.date;
@@ -49,7 +51,7 @@ pub fn make_record(g: Gate, clock: [u8; 19], q: Details) -> Record
         amount: q.amount,
         date,
         state: table::DONE,
-        authcode: g.used as u64 + 1,
+        authcode: used as u64 + 1,
         credit: clock,
         cancel: [0u8; 19],
     }
@@ -65,26 +67,19 @@ pub fn revoke_record(clock: [u8; 19], r: Record) -> Record
     next
 }
 
-// An amount added to the balance of the account that was found.
-pub fn credit_at(g: Gate, f: Found, n: u64) -> Gate
-    requires { ⌜ Funds g 10000000000000000 × Within f (g .count) × (n < 1000000000) ⌝ }
-    ensures { λ r. ⌜ r ≡ creditedAt g f n ⌝ }
+// The gate with the balance z at the account that was found, and so many records.
+fn move_balance(g: Gate, f: Found, z: i64, used: usize) -> Gate
+    requires { ⌜ Sound g × Within f (g .count) ⌝ }
+    ensures { λ r. ⌜ r ≡ movedAt g f z used ⌝ }
 {
-    match f {
-        Found::At(a) => accounts::credit(g, a, n),
-        Found::Nothing => g,
+    let mut next = g;
+    next.used = used;
+    if let Found::At(i) = f {
+        let mut a = next.accounts[i];
+        a.balance = z;
+        next.accounts[i] = a;
     }
-}
-
-// An amount taken from the balance of the account that was found.
-pub fn debit_at(g: Gate, f: Found, n: u64) -> Gate
-    requires { ⌜ Funds g 10000000000000000 × Within f (g .count) × (n < 1000000000) ⌝ }
-    ensures { λ r. ⌜ r ≡ debitedAt g f n ⌝ }
-{
-    match f {
-        Found::At(a) => accounts::debit(g, a, n),
-        Found::Nothing => g,
-    }
+    next
 }
 
 // Puts a record in the place that was found.
@@ -104,87 +99,87 @@ fn replace_at(
     }
 }
 
-// A record more, and its amount on its account.
+// A record more, and its amount on the balance of its account.
 fn append(
     nums: &mut [[u64; 6]],
     numbers: &mut [[u8; 30]],
     dates: &mut [[[u8; 19]; 3]],
-    g: Gate,
+    used: usize,
     clock: [u8; 19],
     q: Details,
-    account: Found,
+    b: i64,
 ) -> Outcome
-    requires { ⌜ Ready g (lent nums numbers dates) ⌝ }
-    requires { ⌜ (g .used < length (now nums)) × Within account (g .count) × (q .amount < 1000000000) ⌝ }
-    ensures { λ o. ⌜ (o .gate ≡ withUsed (creditedAt g account (q .amount)) (g .used + 1)) × (o .subject ≡ makeRecord g clock q) ⌝ }
-    ensures { λ o. ⌜ after nums numbers dates ≡ rowsFrom (before nums numbers dates) (recordsOf (before nums numbers dates) (g .used) ++ (makeRecord g clock q ∷ [])) ⌝ }
+    requires { ⌜ Whole (lent nums numbers dates) used × SameLengths (lent nums numbers dates) × (length (now nums) ≤ 4096) ⌝ }
+    requires { ⌜ (used < length (now nums)) × (mag b ≤ 10000000000000000) × (q .amount < 1000000000) ⌝ }
+    ensures { λ o. ⌜ (o .used ≡ used + 1) × (o .balance ≡ b +ℤ pos (q .amount)) ⌝ }
+    ensures { λ o. ⌜ ((g : Gate) → g .used ≡ used → o .subject ≡ makeRecord g clock q) ⌝ }
+    ensures { λ o. ⌜ after nums numbers dates ≡ rowsFrom (before nums numbers dates) (recordsOf (before nums numbers dates) used ++ (o .subject ∷ [])) ⌝ }
 {
-    let used = g.used;
-    let r = make_record(g, clock, q);
+    let r = make_record(used, clock, q);
     rows::store(nums, numbers, dates, used, r);
-    let mut next = credit_at(g, account, q.amount);
-    next.used = used + 1;
     Outcome {
-        gate: next,
+        used: used + 1,
+        balance: accounts::plus(b, q.amount),
         subject: r,
     }
 }
 
-// The record that was found cancelled, and its amount off its account.
+// The record that was found cancelled, and its amount off the balance of its account.
 fn revoke(
     nums: &mut [[u64; 6]],
     numbers: &mut [[u8; 30]],
     dates: &mut [[[u8; 19]; 3]],
-    g: Gate,
+    used: usize,
     clock: [u8; 19],
     f: Found,
     r: Record,
-    account: Found,
+    b: i64,
 ) -> Outcome
-    requires { ⌜ Ready g (lent nums numbers dates) ⌝ }
-    requires { ⌜ Within f (g .used) × Within account (g .count) × (r .amount < 1000000000) ⌝ }
-    ensures { λ o. ⌜ (o .gate ≡ debitedAt g account (r .amount)) × (o .subject ≡ revoked clock r) ⌝ }
-    ensures { λ o. ⌜ after nums numbers dates ≡ rowsFrom (before nums numbers dates) (replacedAt (recordsOf (before nums numbers dates) (g .used)) f (revoked clock r)) ⌝ }
+    requires { ⌜ Whole (lent nums numbers dates) used × SameLengths (lent nums numbers dates) × (length (now nums) ≤ 4096) ⌝ }
+    requires { ⌜ Within f used × (mag b ≤ 10000000000000000) × (r .amount < 1000000000) ⌝ }
+    ensures { λ o. ⌜ (o .used ≡ used) × (o .balance ≡ b -ℤ pos (r .amount)) × (o .subject ≡ revoked clock r) ⌝ }
+    ensures { λ o. ⌜ after nums numbers dates ≡ rowsFrom (before nums numbers dates) (replacedAt (recordsOf (before nums numbers dates) used) f (revoked clock r)) ⌝ }
 {
-    let used = g.used;
     let next = revoke_record(clock, r);
     replace_at(nums, numbers, dates, used, f, next);
     Outcome {
-        gate: debit_at(g, account, r.amount),
+        used,
+        balance: accounts::minus(b, r.amount),
         subject: next,
     }
 }
 
-// Makes the change that was decided.
+// Makes the change that was decided, at a gate with so many records and b on the account that it concerns.
 fn make_change(
     nums: &mut [[u64; 6]],
     numbers: &mut [[u8; 30]],
     dates: &mut [[[u8; 19]; 3]],
-    g: Gate,
+    used: usize,
     clock: [u8; 19],
     q: Instruction,
     p: Plan,
+    b: i64,
 ) -> Outcome
-    requires { ⌜ Ready g (lent nums numbers dates) ⌝ }
-    requires { ⌜ Planned g (lent nums numbers dates) p × (q .details .amount < 1000000000) ⌝ }
-    ensures { λ o. ⌜ Made (before nums numbers dates)
-        (executed g (recordsOf (before nums numbers dates) (g .used)) clock q p)
-        (o .gate) (o .subject)
-        (after nums numbers dates) ⌝ }
+    requires { ⌜ Whole (lent nums numbers dates) used × SameLengths (lent nums numbers dates) × (length (now nums) ≤ 4096) ⌝ }
+    requires { ⌜ Planned used (lent nums numbers dates) p × (q .details .amount < 1000000000) × (mag b ≤ 10000000000000000) ⌝ }
+    ensures { λ o. ⌜ ((g : Gate) → g .used ≡ used → balanceOf g (p .account) ≡ b → Made (before nums numbers dates)
+        (executed g (recordsOf (before nums numbers dates) used) clock q p)
+        (movedAt g (p .account) (o .balance) (o .used)) (o .subject)
+        (after nums numbers dates)) ⌝ }
 {
     let details = q.details;
     let d = p.decided;
     let c = d.change;
     let found = p.found;
-    let account = p.account;
     let payment = p.payment;
     match c {
         Change::Keep => Outcome {
-            gate: g,
+            used,
+            balance: b,
             subject: payment,
         },
-        Change::Append => append(nums, numbers, dates, g, clock, details, account),
-        Change::Revoke => revoke(nums, numbers, dates, g, clock, found, payment, account),
+        Change::Append => append(nums, numbers, dates, used, clock, details, b),
+        Change::Revoke => revoke(nums, numbers, dates, used, clock, found, payment, b),
     }
 }
 
@@ -206,10 +201,17 @@ pub fn execute(
         (x .gate) (x .subject)
         (after nums numbers dates) ⌝ }
 {
-    let p = plan::make_plan(nums, numbers, dates, g, fault, q);
-    let o = make_change(nums, numbers, dates, g, clock, q, p);
+    let used = g.used;
+    let closed = g.closed;
+    let details = q.details;
+    let found = rows::find_record(nums, numbers, dates, used, details.receipt);
+    let payment = plan::found_record(nums, numbers, dates, used, found);
+    let h = plan::holding_of(g, q, payment);
+    let p = plan::make_plan(closed, used, nums.len(), fault, q, found, payment, h);
+    let o = make_change(nums, numbers, dates, used, clock, q, p, h.balance);
     let d = p.decided;
-    let gate = o.gate;
+    let account = p.account;
+    let gate = move_balance(g, account, o.balance, o.used);
     let subject = o.subject;
     Execution {
         code: d.code,

@@ -5,7 +5,7 @@ use native.Mathlib.Omega.{arith}
 use mathlib.Core.Path.{_≡_, sym, _∙_}
 use mathlib.Core.Bool.{Bool, true, false, not, _&&_}
 use lib.IntN.{pos}
-use lib.Signed.{ltZ}
+use lib.Signed.{ltZ, mag}
 use lib.Seq.{length-take-le}
 use borrow.Author.Tests.{not-true, not-false, le-leb, lt-leb}
 use Rattle.fields.specs.declared.number.Number.{Number}
@@ -23,6 +23,10 @@ use Rattle.lists.proofs.ListLaws.{search-within}
 use Rattle.ledger.specs.declared.Reply.{Reply}
 use Rattle.planning.specs.Plan.{Within}
 use Rattle.opening.specs.Opening.{replies, openTo, openAccount, drawOn, drawFrom, drawFunds}
+
+-- the account that was found is in use, and its balance within its bound
+pub draw-near : (g : Gate) (f : Found) (a : ℕ) → f ≡ At a → Sound g → Within f (g .count) → mag (balanceAt g a) ≤ 10000000000000000
+draw-near g f a e s w = omega (arith, s .balances a (w .at a e))
 
 module _ (n : Number) (k : ℕ) where
   pub named-not : (t : Bool) → t ≡ isNumber n → not t ≡ true → false ≡ isNumber n && isKind k

@@ -2,15 +2,16 @@
 use Prim.Native.Nat.{ℕ, _≤_, _<_}
 use native.Mathlib.Nat.{zero-add}
 use native.Mathlib.Omega.{arith}
-use mathlib.Core.Path.{_≡_, refl, sym, _∙_}
+use mathlib.Core.Path.{_≡_, refl, sym, ap, _∙_}
 use mathlib.Core.Bool.{Bool, true, false}
 use mathlib.Core.List.{List}
 use lib.Dec.{leb}
-use lib.IntN.{pos}
+use lib.IntN.{ℤ, pos}
 use lib.Signed.{ltZ}
 use lib.ListN.{length, getD}
 use lib.Seq.{length-take-le}
 use borrow.Author.Tests.{eq-eqb, ne-eqb}
+use Rattle.days.specs.declared.calendar.Day.{Day}
 use Rattle.days.specs.Calendar.{upTo}
 use Rattle.dates.specs.Date.{dateDay}
 use Rattle.payments.specs.declared.Instruction.{Instruction}
@@ -20,7 +21,8 @@ use Rattle.lists.specs.declared.Found.{Found}
 use Rattle.lists.specs.declared.Found.the-variants.{At, Nothing}
 use Rattle.lists.specs.Lists.{isFound, allFrom}
 use Rattle.table.specs.Table.{Rows, recordAt, recordsOf, hasReceipt, findRecord}
-use Rattle.table.specs.Accounts.{isAccount, accountsOf, findAccount, balanceAt}
+use Rattle.table.specs.declared.accounts.Holding.{Holding}
+use Rattle.table.specs.Accounts.{isAccount, accountsOf, findAccount, balanceOf, holdingOf}
 use Rattle.fields.specs.declared.number.Number.{Number}
 use Rattle.fields.specs.Amount.{isAmount}
 use Rattle.fields.specs.Codes.{isReceipt}
@@ -52,18 +54,14 @@ module _ (f : Found) (r : Record) (i : ℕ) (is : f ≡ At i) where
   stands-cancelled n s q = q ∙ rw (is, ne-eqb _ _ n)
 
 -- ---- dates and accounts that a request concerns
-pub closed-day : (g : Gate) (d : List ℕ) (b : Bool) → b ≡ upTo (g .closed) (dateDay d) → b ≡ dateClosed g d
-unfolding dateClosed
-closed-day g d b e = e
-
 module _ (g : Gate) (q : Instruction) (r : Record) (t : Bool) (et : t ≡ isCancel (q .action)) where
-  pub account-record : t ≡ true → (f : Found) → f ≡ findAccount (r .number) (r .kind) (accountsOf g) → f ≡ accountOf g q r
+  pub account-record : t ≡ true → (x : Holding) → x ≡ holdingOf g (findAccount (r .number) (r .kind) (accountsOf g)) → x ≡ holdingOf g (accountOf g q r)
   unfolding accountOf
-  account-record h f e = e ∙ rw (← et, h)
+  account-record h x e = e ∙ rw (← et, h)
 
-  pub account-own : t ≡ false → (f : Found) → f ≡ findAccount (q .details .number) (q .details .kind) (accountsOf g) → f ≡ accountOf g q r
+  pub account-own : t ≡ false → (x : Holding) → x ≡ holdingOf g (findAccount (q .details .number) (q .details .kind) (accountsOf g)) → x ≡ holdingOf g (accountOf g q r)
   unfolding accountOf
-  account-own h f e = e ∙ rw (← et, h)
+  account-own h x e = e ∙ rw (← et, h)
 
   pub date-record : t ≡ true → (d : List ℕ) → d ≡ r .date → d ≡ dateOf q r
   unfolding dateOf
@@ -74,21 +72,26 @@ module _ (g : Gate) (q : Instruction) (r : Record) (t : Bool) (et : t ≡ isCanc
   date-own h d e = e ∙ rw (← et, h)
 
 -- ---- balances
-module _ (g : Gate) (f : Found) (n : ℕ) where
-  pub account-place : (a : ℕ) → f ≡ At a → Sound g → Within f (g .count) → a < 256
-  account-place a e s w = let h : a < g .count = w .at a e in omega (arith, s .count)
+module _ (h : Holding) (n : ℕ) (k : Bool) (ek : k ≡ isFound (h .at)) (g : Gate) (eb : h .balance ≡ balanceOf g (h .at)) where
+  pub short-unknown : k ≡ false → false ≡ isShort g (h .at) n
+  short-unknown e = go (h .at) (sym ek ∙ e)
+    where
+      go : (f : Found) → isFound f ≡ false → false ≡ isShort g f n
+      go Nothing z = refl
+      go (At a) z = let o : _≡_ {A = ℕ} 0 1 = cc in absurd (omega arith)
 
-  pub short-at : (a : ℕ) → f ≡ At a → (t : Bool) → t ≡ ltZ (balanceAt g a) (pos n) → t ≡ isShort g f n
-  short-at a e t q = q ∙ rw e
+  pub short-known : k ≡ true → (t : Bool) → t ≡ ltZ (h .balance) (pos n) → t ≡ isShort g (h .at) n
+  short-known e t q = q ∙ ap (λ (z : ℤ). ltZ z (pos n)) eb ∙ go (h .at) (sym ek ∙ e)
+    where
+      go : (f : Found) → isFound f ≡ true → ltZ (balanceOf g f) (pos n) ≡ isShort g f n
+      go (At a) z = refl
+      go Nothing z = let o : _≡_ {A = ℕ} 0 1 = cc in absurd (omega arith)
 
-  pub short-none : f ≡ Nothing → false ≡ isShort g f n
-  short-none e = rw e
-
-pub view-is : (g : Gate) (lent : ℕ) (q : Instruction) (r : Record) (account : Found) (k c s : Bool) (d : List ℕ)
-    → k ≡ isFound account → d ≡ dateOf q r → c ≡ dateClosed g d → s ≡ isShort g account (r .amount)
-    → record { known = k; full = leb lent (g .used); closed = c; short = s } ≡ viewOf g lent q r account
-unfolding viewOf isFull
-view-is g lent q r account k c s d ek ed ec es = rw (ek, ec, ed, es)
+pub view-is : (lent : ℕ) (q : Instruction) (r : Record) (h : Holding) (closed : Day) (used : ℕ) (k c s : Bool) (d : List ℕ)
+    → k ≡ isFound (h .at) → d ≡ dateOf q r → c ≡ upTo closed (dateDay d) → (g : Gate) → g .closed ≡ closed → g .used ≡ used → s ≡ isShort g (h .at) (r .amount)
+    → record { known = k; full = leb lent used; closed = c; short = s } ≡ viewOf g lent q r (h .at)
+unfolding viewOf isFull dateClosed
+view-is lent q r h closed used k c s d ek ed ec g gc gu es = rw (ek, ec, ed, es, ← gc, ← gu)
 
 -- ---- the record that was found
 module _ (t : Rows) (used : ℕ) (f : Found) where
@@ -139,8 +142,12 @@ account-within g q r f s is = go (isCancel (q .action)) refl
     go true z = inside (r .number) (r .kind) (is ∙ rw z)
     go false z = inside (q .details .number) (q .details .kind) (is ∙ rw z)
 
-pub plan-is : (g : Gate) (rs : List Record) (lent fault : ℕ) (q : Instruction) (f : Found) (r : Record) (k : Found) (v : View) (s : Standing) (d : Decided)
-    → f ≡ findRecord (q .details .receipt) rs → r ≡ recordFound rs f → k ≡ accountOf g q r → v ≡ viewOf g lent q r k → s ≡ standingOf f r
-    → d ≡ decision fault (q .action) s v → (p : Plan) → p ≡ record { decided = d; found = f; payment = r; account = k } → p ≡ planOf g rs lent fault q
-unfolding planOf planWith
-plan-is g rs lent fault q f r k v s d ef er ek ev es ed p e = e ∙ rw (ed, ev, es, ek, er, ef)
+-- the balance that was looked up is that of the place
+pub held-balance : (g : Gate) (f : Found) (h : Holding) → h ≡ holdingOf g f → h .balance ≡ balanceOf g (h .at)
+held-balance g f h e = ap (λ (x : Holding). x .balance) e ∙ ap (λ (x : Holding). balanceOf g (x .at)) (sym e)
+
+pub plan-is : (g : Gate) (lent fault : ℕ) (q : Instruction) (f : Found) (r : Record) (h : Holding) (v : View) (s : Standing) (d : Decided)
+    → h ≡ holdingOf g (accountOf g q r) → v ≡ viewOf g lent q r (h .at) → s ≡ standingOf f r
+    → d ≡ decision fault (q .action) s v → _≡_ {A = Plan} (record { decided = d; found = f; payment = r; account = h .at }) (planWith g lent fault q f r)
+unfolding planWith
+plan-is g lent fault q f r h v s d eh ev es ed = rw (ed, ev, es, eh)

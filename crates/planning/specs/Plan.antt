@@ -74,9 +74,8 @@ planWith g lent fault q found r =
 unfoldable pub planOf : Gate → List Record → ℕ → ℕ → Instruction → Plan
 planOf g rs lent fault q = planWith g lent fault q (findRecord (q .details .receipt) rs) (recordFound rs (findRecord (q .details .receipt) rs))
 
--- what a change may lean on: room for a record more, places that are there, an amount in its range
-pub record Planned (g : Gate) (t : Rows) (p : Plan) : Type 0 where
-  pub room : p .decided .change ≡ Append → g .used < length (t .nums)
-  pub found : Within (p .found) (g .used)
-  pub account : Within (p .account) (g .count)
+-- what a change of so many records may lean on: room for one more, a place that is there, an amount in its range
+pub record Planned (used : ℕ) (t : Rows) (p : Plan) : Type 0 where
+  pub room : p .decided .change ≡ Append → used < length (t .nums)
+  pub found : Within (p .found) used
   pub amount : p .payment .amount < 1000000000

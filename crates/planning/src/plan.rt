@@ -1,5 +1,6 @@
 // What the gate looks up for a request, and its decision.
 use dates::date;
+use days::calendar::Day;
 use fields::number::Number;
 use lists::Found;
 use payments::Instruction;
@@ -11,6 +12,7 @@ use rules::decision::View;
 use table::Gate;
 use table::Record;
 use table::accounts;
+use table::accounts::Holding;
 use table::rows;
 ghost use mathlib.Core.Path.{_≡_};
 ghost use Prim.Native.Nat.{_≤_, _<_};
@@ -21,6 +23,7 @@ ghost use mathlib.Core.Bool.{true};
 ghost use Rattle.validity.specs.Valid.{Sound, Ready, tableGood};
 ghost use Rattle.planning.specs.Plan.{Within, recordFound, standingOf, dateClosed, accountOf, dateOf, isShort, isFull, viewOf, planWith, planOf};
 ghost use Rattle.table.specs.Table.{noRecord};
+ghost use Rattle.table.specs.Accounts.{balanceOf, holdingOf};
 
 // The decision, with the record and the account that it concerns.
 pub struct Plan {
@@ -66,27 +69,19 @@ pub fn standing(found: Found, r: Record) -> Standing
     }
 }
 
-// Whether the day of a date is closed.
-pub fn date_closed(g: Gate, d: [u8; 19]) -> bool
-    ensures { λ t. ⌜ t ≡ dateClosed g d ⌝ }
-{
-    let closed = g.closed;
-    date::is_up_to(closed, d)
-}
-
-// The account that a request concerns: a cancel's is its record's.
-pub fn account_of(g: Gate, q: Instruction, r: Record) -> Found
+// The account that a request concerns, with its balance: a cancel's is its record's.
+pub fn holding_of(g: Gate, q: Instruction, r: Record) -> Holding
     requires { ⌜ g .count ≤ 256 ⌝ }
-    ensures { λ f. ⌜ f ≡ accountOf g q r ⌝ }
+    ensures { λ h. ⌜ h ≡ holdingOf g (accountOf g q r) ⌝ }
 {
     let a = q.action;
     if answer::is_cancel(a) {
         let n = r.number;
-        return accounts::find_account(g, n, r.kind);
+        return accounts::look_up(g, n, r.kind);
     }
     let d = q.details;
     let n = d.number;
-    accounts::find_account(g, n, d.kind)
+    accounts::look_up(g, n, d.kind)
 }
 
 // The date that a request concerns: a cancel's is its record's.
@@ -100,27 +95,30 @@ pub fn date_of(q: Instruction, r: Record) -> [u8; 19]
     if answer::is_cancel(a) { recorded } else { own }
 }
 
-// Whether a balance is below an amount.
-pub fn is_short(g: Gate, f: Found, n: u64) -> bool
-    requires { ⌜ Sound g × Within f (g .count) × (n < 1000000000) ⌝ }
-    ensures { λ t. ⌜ t ≡ isShort g f n ⌝ }
+// Whether the balance of the account that was found is below an amount.
+pub fn is_short(h: Holding, n: u64) -> bool
+    requires { ⌜ n < 1000000000 ⌝ }
+    ensures { λ t. ⌜ ((g : Gate) → h .balance ≡ balanceOf g (h .at) → t ≡ isShort g (h .at) n) ⌝ }
 {
-    match f {
-        Found::At(a) => accounts::below(g, a, n),
-        Found::Nothing => false,
+    let account = h.at;
+    if lists::is_found(account) {
+        accounts::is_less(h.balance, n)
+    } else {
+        false
     }
 }
 
-// What else the decision looks at.
-pub fn view_of(g: Gate, lent: usize, q: Instruction, r: Record, account: Found) -> View
-    requires { ⌜ Sound g × Within account (g .count) × (r .amount < 1000000000) ⌝ }
-    ensures { λ v. ⌜ v ≡ viewOf g lent q r account ⌝ }
+// What else the decision looks at, at a gate of this closed day and so many records.
+pub fn view_of(closed: Day, used: usize, lent: usize, q: Instruction, r: Record, h: Holding) -> View
+    requires { ⌜ r .amount < 1000000000 ⌝ }
+    ensures { λ v. ⌜ ((g : Gate) → g .closed ≡ closed → g .used ≡ used → h .balance ≡ balanceOf g (h .at) → v ≡ viewOf g lent q r (h .at)) ⌝ }
 {
+    let account = h.at;
     View {
         known: lists::is_found(account),
-        full: lent <= g.used,
-        closed: date_closed(g, date_of(q, r)),
-        short: is_short(g, account, r.amount),
+        full: lent <= used,
+        closed: date::is_up_to(closed, date_of(q, r)),
+        short: is_short(h, r.amount),
     }
 }
 
@@ -141,26 +139,23 @@ pub fn found_record(
     }
 }
 
-// The decision for an instruction, with what it concerns; a fault of its request decides first.
+// The decision for an instruction, with what it concerns, at a gate of this closed day and so many records; a fault of its request decides first.
 pub fn make_plan(
-    nums: &[[u64; 6]],
-    numbers: &[[u8; 30]],
-    dates: &[[[u8; 19]; 3]],
-    g: Gate,
+    closed: Day,
+    used: usize,
+    lent: usize,
     fault: u64,
     q: Instruction,
+    found: Found,
+    payment: Record,
+    h: Holding,
 ) -> Plan
-    requires { ⌜ Ready g (lent nums numbers dates) ⌝ }
-    requires { ⌜ tableGood g (lent nums numbers dates) ≡ true ⌝ }
-    ensures { λ p. ⌜ p ≡ planOf g (recordsOf (before nums numbers dates) (g .used)) (length (now (nums .entry))) fault q ⌝ }
+    requires { ⌜ payment .amount < 1000000000 ⌝ }
+    ensures { λ p. ⌜ ((g : Gate) → g .closed ≡ closed → g .used ≡ used → h ≡ holdingOf g (accountOf g q payment) → p ≡ planWith g lent fault q found payment) ⌝ }
 {
-    let used = g.used;
-    let details = q.details;
-    let found = rows::find_record(nums, numbers, dates, used, details.receipt);
-    let payment = found_record(nums, numbers, dates, used, found);
-    let account = account_of(g, q, payment);
-    let v = view_of(g, nums.len(), q, payment, account);
+    let v = view_of(closed, used, lent, q, payment, h);
     let a = q.action;
+    let account = h.at;
     let decided = decision::decide(fault, a, standing(found, payment), v);
     Plan {
         decided,

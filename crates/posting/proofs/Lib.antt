@@ -1,3 +1,4 @@
 pub mod HeldLaws
+pub mod DueLaws
 pub mod MatchLaws
 pub mod PostLaws

@@ -1,23 +1,29 @@
-// What one line of a registry does to the table.
+// What one line of a registry does to the table, and what is due on its account.
 use crate::verdict::Verdict;
 use ledger::change;
 use lines::line::Line;
+use lists::Found;
 use payments::Details;
 use table::Gate;
 use table::Record;
-use table::accounts;
 use table::rows;
 ghost use mathlib.Core.Path.{_≡_};
-ghost use mathlib.Core.List.{[]};
-ghost use Prim.Native.Nat.{_<_};
+ghost use Prim.Native.Nat.{_<_, _≤_};
 ghost use lib.ListN.{length};
-ghost use Rattle.table.specs.Table.{recordsOf};
+ghost use Rattle.table.specs.Table.{recordAt, rowsWith, Whole, SameLengths};
 ghost use Rattle.table.specs.Lent.{lent, before, after};
-ghost use Rattle.posting.specs.Posting.{verdictOf, restored, postedRecord, applied, Restores, Posts, ledgerOf};
-ghost use Rattle.posting.specs.Steps.{Held, Left};
+ghost use Rattle.planning.specs.Plan.{Within};
+ghost use Rattle.posting.specs.Posting.{restored, postedRecord};
+ghost use Rattle.posting.specs.Steps.{Placed, Applied};
+
+// The account that a line's amount is due on, and how many records the table has then.
+pub struct Due {
+    pub account: Found,
+    pub used: usize,
+}
 
 // A record that is done again.
-pub(crate) fn restore_record(r: Record) -> Record
+fn restore_record(r: Record) -> Record
     ensures { λ x. ⌜ x ≡ restored r ⌝ }
 {
     let mut next = r;
@@ -26,10 +32,10 @@ pub(crate) fn restore_record(r: Record) -> Record
     next
 }
 
-// The record of a line that is posted now.
-pub(crate) fn posted_record(g: Gate, clock: [u8; 19], x: Line) -> Record
-    requires { ⌜ g .used < 4096 ⌝ }
-    ensures { λ r. ⌜ r ≡ postedRecord g clock x ⌝ }
+// The record of a line that is posted now, by a gate with so many records.
+fn posted_record(used: usize, clock: [u8; 19], x: Line) -> Record
+    requires { ⌜ used < 4096 ⌝ }
+    ensures { λ r. ⌜ ((g : Gate) → g .used ≡ used → r ≡ postedRecord g clock x) ⌝ }
 {
     let number = x.number;
     let date = x.date;
@@ -40,74 +46,73 @@ pub(crate) fn posted_record(g: Gate, clock: [u8; 19], x: Line) -> Record
         amount: x.amount,
         date,
     };
-    change::make_record(g, clock, q)
+    change::make_record(used, clock, q)
 }
 
-// The record at i done again, with the line's amount on its account, where it is known.
-pub(crate) fn restore(
-    nums: &mut [[u64; 6]],
-    numbers: &mut [[u8; 30]],
-    dates: &mut [[[u8; 19]; 3]],
-    g: Gate,
-    x: Line,
-    i: usize,
-) -> Gate
-    requires { ⌜ Held g (lent nums numbers dates) 10000000000000000 × (i < g .used) × (x .amount < 1000000000) ⌝ }
-    ensures { λ r. ⌜ Left (before nums numbers dates)
-        (applied [] x (Restores i) (ledgerOf g (before nums numbers dates)))
-        r (after nums numbers dates) ⌝ }
+// The record at i done again.
+fn restore(nums: &mut [[u64; 6]], numbers: &mut [[u8; 30]], dates: &mut [[[u8; 19]; 3]], i: usize)
+    requires { ⌜ (i < length (now nums)) × (i < length (now numbers)) × (i < length (now dates)) ⌝ }
+    ensures { λ _. ⌜ after nums numbers dates ≡ rowsWith (before nums numbers dates) i (restored (recordAt (before nums numbers dates) i)) ⌝ }
 {
     let r = rows::load(nums, numbers, dates, i);
     rows::store(nums, numbers, dates, i, restore_record(r));
-    let n = x.number;
-    let account = accounts::find_account(g, n, x.kind);
-    change::credit_at(g, account, x.amount)
 }
 
-// A record more, with the line's amount on account a.
-pub(crate) fn post(
+// A record more.
+fn post(
     nums: &mut [[u64; 6]],
     numbers: &mut [[u8; 30]],
     dates: &mut [[[u8; 19]; 3]],
-    g: Gate,
+    used: usize,
     clock: [u8; 19],
     x: Line,
-    a: usize,
-) -> Gate
-    requires { ⌜ Held g (lent nums numbers dates) 10000000000000000 ⌝ }
-    requires { ⌜ (a < g .count) × (g .used < length (now nums)) × (x .amount < 1000000000) ⌝ }
-    ensures { λ r. ⌜ Left (before nums numbers dates)
-        (applied clock x (Posts a) (ledgerOf g (before nums numbers dates)))
-        r (after nums numbers dates) ⌝ }
+)
+    requires { ⌜ (used < length (now nums)) × (used < length (now numbers)) × (used < length (now dates)) × (used < 4096) ⌝ }
+    ensures { λ _. ⌜ ((g : Gate) → g .used ≡ used → after nums numbers dates ≡ rowsWith (before nums numbers dates) used (postedRecord g clock x)) ⌝ }
 {
-    let used = g.used;
-    let r = posted_record(g, clock, x);
-    rows::store(nums, numbers, dates, used, r);
-    let mut next = accounts::credit(g, a, x.amount);
-    next.used = used + 1;
-    next
+    rows::store(nums, numbers, dates, used, posted_record(used, clock, x));
 }
 
-// Makes the change that a verdict says.
+// Makes the change that a verdict says, but for the balance.
 pub fn apply(
     nums: &mut [[u64; 6]],
     numbers: &mut [[u8; 30]],
     dates: &mut [[[u8; 19]; 3]],
-    g: Gate,
+    used: usize,
+    names: &[[u8; 30]],
+    keys: &[[u64; 2]],
     clock: [u8; 19],
     x: Line,
     v: Verdict,
-) -> Gate
-    requires { ⌜ Held g (lent nums numbers dates) 10000000000000000 × (x .amount < 1000000000) ⌝ }
-    requires { ⌜ v ≡ verdictOf g (recordsOf (lent nums numbers dates) (g .used)) (length (now nums)) x ⌝ }
-    ensures { λ r. ⌜ Left (before nums numbers dates)
-        (applied clock x v (ledgerOf g (before nums numbers dates)))
-        r (after nums numbers dates) ⌝ }
+) -> Due
+    requires { ⌜ Whole (lent nums numbers dates) used × SameLengths (lent nums numbers dates) × (length (now nums) ≤ 4096) ⌝ }
+    requires { ⌜ (length (now keys) ≡ length (now names)) × Placed v used (length (now nums)) (length (now names)) ⌝ }
+    ensures { λ d. ⌜ Applied (now (names .entry)) (now (keys .entry)) used (before nums numbers dates) clock x v d (after nums numbers dates) ⌝ }
+    ensures { λ d. ⌜ Within (d .account) (length (now (names .entry))) ⌝ }
 {
     match v {
-        Verdict::Keeps => g,
-        Verdict::Restores(i) => restore(nums, numbers, dates, g, x, i),
-        Verdict::Posts(a) => post(nums, numbers, dates, g, clock, x, a),
-        Verdict::Unposted => g,
+        Verdict::Keeps => Due {
+            account: Found::Nothing,
+            used,
+        },
+        Verdict::Restores(i) => {
+            restore(nums, numbers, dates, i);
+            let n = x.number;
+            Due {
+                account: directory::find(names, keys, n, x.kind),
+                used,
+            }
+        }
+        Verdict::Posts(a) => {
+            post(nums, numbers, dates, used, clock, x);
+            Due {
+                account: Found::At(a),
+                used: used + 1,
+            }
+        }
+        Verdict::Unposted => Due {
+            account: Found::Nothing,
+            used,
+        },
     }
 }

@@ -4,15 +4,14 @@ use lines::line::Line;
 use lists::Found;
 use table::Gate;
 use table::Record;
-use table::accounts;
 use table::rows;
 ghost use mathlib.Core.Path.{_≡_};
 ghost use mathlib.Core.Bool.{cond};
 ghost use lib.ListN.{length};
-ghost use Rattle.table.specs.Table.{recordsOf};
+ghost use Rattle.table.specs.Table.{recordsOf, Whole};
 ghost use Rattle.table.specs.Lent.{lent, before};
 ghost use Rattle.posting.specs.Posting.{isDone, postVerdict, verdictOf, Keeps, Restores};
-ghost use Rattle.posting.specs.Steps.{isChange, Held};
+ghost use Rattle.directory.specs.Directory.{Listed};
 
 // The record that it matches is done, or at a place to be done again; it is posted to an account; or none of these.
 pub enum Verdict {
@@ -20,18 +19,6 @@ pub enum Verdict {
     Restores(usize),
     Posts(usize),
     Unposted,
-}
-
-// Whether a verdict changes the table.
-pub fn is_change(v: Verdict) -> bool
-    ensures { λ b. ⌜ b ≡ isChange v ⌝ }
-{
-    match v {
-        Verdict::Keeps => false,
-        Verdict::Restores(_) => true,
-        Verdict::Posts(_) => true,
-        Verdict::Unposted => false,
-    }
 }
 
 // The verdict on a line that matches the record at i.
@@ -62,25 +49,27 @@ fn judge_new(recorded: Found, account: Found, full: bool) -> Verdict
     }
 }
 
-// The verdict on a line; nothing is changed yet.
+// The verdict on a line, by the first `used` records and the accounts; nothing is changed yet.
 pub fn judge(
     nums: &[[u64; 6]],
     numbers: &[[u8; 30]],
     dates: &[[[u8; 19]; 3]],
-    g: Gate,
+    used: usize,
+    names: &[[u8; 30]],
+    keys: &[[u64; 2]],
     x: Line,
 ) -> Verdict
-    requires { ⌜ Held g (lent nums numbers dates) 10000000000000000 ⌝ }
-    ensures { λ v. ⌜ v ≡ verdictOf g (recordsOf (before nums numbers dates) (g .used)) (length (now (nums .entry))) x ⌝ }
+    requires { ⌜ Whole (lent nums numbers dates) used × (length (now keys) ≡ length (now names)) ⌝ }
+    ensures { λ v. ⌜ ((g : Gate) → Listed (now (names .entry)) (now (keys .entry)) g → g .used ≡ used
+        → v ≡ verdictOf g (recordsOf (before nums numbers dates) (g .used)) (length (now (nums .entry))) x) ⌝ }
 {
-    let used = g.used;
     let found = matching::find_match(nums, numbers, dates, used, x);
     match found {
         Found::At(i) => judge_match(rows::load(nums, numbers, dates, i), i),
         Found::Nothing => {
             let n = x.number;
             let recorded = rows::find_record(nums, numbers, dates, used, x.receipt);
-            let account = accounts::find_account(g, n, x.kind);
+            let account = directory::find(names, keys, n, x.kind);
             judge_new(recorded, account, nums.len() <= used)
         }
     }

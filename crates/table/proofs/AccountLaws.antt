@@ -15,10 +15,11 @@ use Rattle.fields.specs.declared.number.Number.{Number}
 use Rattle.fields.specs.Number.{sameNumber}
 use Rattle.table.specs.declared.Account.{Account}
 use Rattle.table.specs.declared.Gate.{Gate}
+use Rattle.table.specs.declared.accounts.Holding.{Holding}
 use Rattle.lists.specs.declared.Found.{Found}
 use Rattle.lists.specs.declared.Found.the-variants.{At, Nothing}
 use Rattle.lists.specs.Lists.{firstFrom}
-use Rattle.table.specs.Accounts.{isAccount, accountsOf, findAccount, noAccount, balanceAt, gateBalance, credited, debited}
+use Rattle.table.specs.Accounts.{isAccount, accountsOf, findAccount, noAccount, balanceAt, holdingOf, gateBalance, credited, debited}
 use Rattle.lists.proofs.ListLaws.{search-hit, search-miss, search-end, search-within, found-fits}
 use Rattle.table.proofs.SignedLaws.{back}
 
@@ -56,6 +57,17 @@ module _ (g : Gate) (n : Number) (k i : ℕ) (size : length (g .accounts) ≡ 25
 
   pub account-none : g .count ≤ i → Nothing ≡ findAccount n k (accountsOf g)
   account-none h = sym (passed ∙ search-end (isAccount n k) i (accountsOf g) noAccount (omega (arith, in-use g size few)))
+
+  -- the same with its balance
+  pub held-here : (t : Bool) → t ≡ isAccount n k (getD (g .accounts) i noAccount) → t ≡ true → i < g .count
+      → (z : ℤ) → z ≡ balanceAt g i → _≡_ {A = Holding} (record { at = At i; balance = z }) (holdingOf g (findAccount n k (accountsOf g)))
+  held-here t e y h z ez = ap (λ (x : ℤ). record { at = At i; balance = x }) ez ∙ ap (holdingOf g) (account-here t e y h)
+
+  pub held-none : g .count ≤ i → _≡_ {A = Holding} (record { at = Nothing; balance = pos 0 }) (holdingOf g (findAccount n k (accountsOf g)))
+  held-none h = ap (holdingOf g) (account-none h)
+
+pub held-place : (g : Gate) (f : Found) (h : Holding) → h ≡ holdingOf g f → h .at ≡ f
+held-place g f h e = ap (λ (x : Holding). x .at) e
 
 pub account-start : (n : Number) (k : ℕ) (l : List Account) → findAccount n k l ≡ firstFrom (isAccount n k) 0 (drop 0 l)
 unfolding findAccount

@@ -12,7 +12,9 @@ use Rattle.fields.specs.declared.number.Number.{Number}
 use Rattle.fields.specs.Number.{sameNumber}
 use Rattle.table.specs.declared.Account.{Account}
 use Rattle.table.specs.declared.Gate.{Gate}
+use Rattle.table.specs.declared.accounts.Holding.{Holding}
 use Rattle.lists.specs.declared.Found.{Found}
+use Rattle.lists.specs.declared.Found.the-variants.{At, Nothing}
 use Rattle.lists.specs.Lists.{firstFrom}
 use Rattle.table.specs.Table.{Rows, Whole, SameLengths}
 
@@ -33,6 +35,14 @@ noAccount = record { number = record { bytes = []; len = 0 }; kind = 0; balance 
 
 abbrev pub balanceAt : Gate → ℕ → ℤ
 balanceAt g i = (getD (g .accounts) i noAccount) .balance
+
+-- what a lookup tells: the account's place and its balance, or nothing and 0
+abbrev pub balanceOf : Gate → Found → ℤ
+balanceOf g Nothing = pos 0
+balanceOf g (At i) = balanceAt g i
+
+abbrev pub holdingOf : Gate → Found → Holding
+holdingOf g f = record { at = f; balance = balanceOf g f }
 
 abbrev pub withBalance : Account → ℤ → Account
 withBalance a z = record { number = a .number; kind = a .kind; balance = z }

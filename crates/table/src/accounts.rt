@@ -1,4 +1,4 @@
-// The gate's accounts: found, opened, credited and debited.
+// The gate's accounts: found, opened and debited, and what moves a balance.
 use crate::Account;
 use crate::Gate;
 use fields::number::Number;
@@ -7,7 +7,13 @@ ghost use mathlib.Core.Path.{_≡_};
 ghost use Prim.Native.Nat.{_^_, _<_, _≤_};
 ghost use lib.IntN.{ℤ, pos, _+ℤ_, _-ℤ_};
 ghost use lib.Signed.{mag, ltZ};
-ghost use Rattle.table.specs.Accounts.{isAccount, accountsOf, findAccount, balanceAt, credited, debited, opened};
+ghost use Rattle.table.specs.Accounts.{isAccount, accountsOf, findAccount, balanceAt, holdingOf, debited, opened};
+
+// An account that was looked for: its place and its balance, or nothing and 0.
+pub struct Holding {
+    pub at: Found,
+    pub balance: i64,
+}
 
 // Whether a is the account of this number and type.
 pub fn is_account(n: Number, kind: u64, a: Account) -> bool
@@ -20,21 +26,36 @@ pub fn is_account(n: Number, kind: u64, a: Account) -> bool
     m.same(n)
 }
 
-// The first account of this number and type.
-pub fn find_account(g: Gate, n: Number, kind: u64) -> Found
+// The first account of this number and type, with its balance.
+pub fn look_up(g: Gate, n: Number, kind: u64) -> Holding
     requires { ⌜ g .count ≤ 256 ⌝ }
-    ensures { λ r. ⌜ r ≡ findAccount n kind (accountsOf g) ⌝ }
+    ensures { λ r. ⌜ r ≡ holdingOf g (findAccount n kind (accountsOf g)) ⌝ }
 {
     let count = g.count;
     let mut i: usize = 0;
     while i < count {
         let a = g.accounts[i];
         if is_account(n, kind, a) {
-            return Found::At(i);
+            return Holding {
+                at: Found::At(i),
+                balance: a.balance,
+            };
         }
         i += 1;
     }
-    Found::Nothing
+    Holding {
+        at: Found::Nothing,
+        balance: 0,
+    }
+}
+
+// The first account of this number and type.
+pub fn find_account(g: Gate, n: Number, kind: u64) -> Found
+    requires { ⌜ g .count ≤ 256 ⌝ }
+    ensures { λ r. ⌜ r ≡ findAccount n kind (accountsOf g) ⌝ }
+{
+    let h = look_up(g, n, kind);
+    h.at
 }
 
 // One account more, with a balance of 0.
@@ -55,7 +76,7 @@ pub fn add_account(g: Gate, n: Number, kind: u64) -> Gate
 }
 
 // b + n
-fn plus(b: i64, n: u64) -> i64
+pub fn plus(b: i64, n: u64) -> i64
     requires { ⌜ (mag b ≤ 10000000000000000) × (n < 1000000000) ⌝ }
     ensures { λ r. ⌜ (r ≡ b +ℤ pos n) × (mag r < 2 ^ 63) ⌝ }
 {
@@ -63,7 +84,7 @@ fn plus(b: i64, n: u64) -> i64
 }
 
 // b - n
-fn minus(b: i64, n: u64) -> i64
+pub fn minus(b: i64, n: u64) -> i64
     requires { ⌜ (mag b ≤ 10000000000000000) × (n < 1000000000) ⌝ }
     ensures { λ r. ⌜ (r ≡ b -ℤ pos n) × (mag r < 2 ^ 63) ⌝ }
 {
@@ -71,24 +92,11 @@ fn minus(b: i64, n: u64) -> i64
 }
 
 // Whether b is less than n.
-fn is_less(b: i64, n: u64) -> bool
+pub fn is_less(b: i64, n: u64) -> bool
     requires { ⌜ n < 1000000000 ⌝ }
     ensures { λ r. ⌜ r ≡ ltZ b (pos n) ⌝ }
 {
     b < n as i64
-}
-
-// The gate with amount added to the balance of account i.
-pub fn credit(g: Gate, i: usize, amount: u64) -> Gate
-    requires { ⌜ (i < 256) × (amount < 1000000000) × (mag (balanceAt g i) ≤ 10000000000000000) ⌝ }
-    ensures { λ r. ⌜ r ≡ credited g i amount ⌝ }
-{
-    let mut next = g;
-    let mut a = next.accounts[i];
-    let b = a.balance;
-    a.balance = plus(b, amount);
-    next.accounts[i] = a;
-    next
 }
 
 // The gate with amount taken from the balance of account i.

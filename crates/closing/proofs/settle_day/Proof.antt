@@ -7,24 +7,21 @@ use Rattle.closing.proofs.settle_day.Tie as tie
 write-report-requires : tie.Need-write-report-requires
 write-report-requires c κs =
     let w = c .before .before .before .before .before .before .before in
-    let l = w .before .before .before .before .before .before .before in
-    let s = l .before .before .before .before .before in
-    let h = w .sweep .ensures .1 .0 .backed .whole in
+    let s = w .before .before .before .before .before in
+    let h = w .clear-day .ensures .1 .1 in
     ((h .nums, h .numbers, h .dates, omega (arith, s .pre .1 .0 .few, s .pre .1 .1)), s .pre .1 .0)
 
 returns : tie.Need-returns
 returns c =
     let r = c .before .before in
     let w = r .before .before .before .before .before .before .before .before in
-    let l = w .before .before .before .before .before .before .before in
-    let s = l .before .before .before .before .before in
-    day-settled _ _ _ _ _ _ _ (s .pre .1 .0) (s .pre .1 .1) _ _ (l .settle-lines .ensures .0) (l .settle-lines .ensures .1 .1) _ _ (w .sweep .ensures .0) (w .sweep .ensures .1 .1) _ (r .write-report .ensures)
+    let s = w .before .before .before .before .before in
+    day-settled _ _ _ _ _ _ _ (s .pre .1 .0) (s .pre .1 .1) _ _ (w .clear-day .ensures .0) (w .clear-day .ensures .1 .0) _ (r .write-report .ensures)
 
 pub settle-day-spec : {M : Type 1} → statement M
 settle-day-spec =
     tie.close
     (tie.spec
-    (λ c κs. search needs)
     (λ c κs. search needs)
     write-report-requires
     (λ c. search needs)

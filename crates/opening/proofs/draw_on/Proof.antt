@@ -1,10 +1,10 @@
 use borrow.Author.Needs.{needs}
-use Rattle.opening.proofs.OpeningLaws.{draw-unknown, draw-amount, draw-short, draw-done, kopecks-small}
-use Rattle.ledger.proofs.ChangeLaws.{at-place, at-balance, sound-funds}
+use Rattle.opening.proofs.OpeningLaws.{draw-unknown, draw-amount, draw-short, draw-done, draw-near, kopecks-small}
+use Rattle.ledger.proofs.ChangeLaws.{moved-place}
 use Rattle.opening.proofs.draw_on.Statement.{statement}
 use Rattle.opening.proofs.draw_on.Tie as tie
 
-ruleset laws = (draw-unknown, draw-amount, draw-short, draw-done, kopecks-small, at-place, at-balance, sound-funds, needs)
+ruleset laws = (draw-unknown, draw-amount, draw-short, draw-done, draw-near, kopecks-small, moved-place, needs)
 
 pub draw-on-spec : {M : Type 1} → statement M
 draw-on-spec =

@@ -1,8 +1,12 @@
 use borrow.Author.Needs.{needs}
-use Rattle.clearing.proofs.LinesLaws.{Going, going-start, going-held, going-last, going-kept, going-applied, going-fits, going-end, ledger-end}
+use Rattle.directory.specs.Directory.{Listed}
+use Rattle.directory.proofs.FindLaws.{listed-same, listed-used, listed-moved}
+use Rattle.posting.proofs.PostLaws.{verdict-placed}
+use Rattle.clearing.proofs.LinesLaws.{Going, going-start, going-last, going-account, going-near, going-none, going-credited, going-fits, going-end, ledger-end}
 use Rattle.line_rows.proofs.ReadLaws.{read-nums, read-numbers, read-dates, read-small}
 use Prim.Native.Nat.{_≤_, _-_}
-use mathlib.Core.Path.{_≡_, _∙_}
+use native.Mathlib.Omega.{arith}
+use mathlib.Core.Path.{_≡_, refl, _∙_}
 use lib.ListN.{length}
 use Rattle.table.specs.Table.{Rows}
 use Rattle.clearing.specs.Clearing.{settleLines}
@@ -12,49 +16,83 @@ use Rattle.clearing.proofs.each_line.settle_lines.Statement.{statement}
 use Rattle.clearing.proofs.each_line.settle_lines.Tie as tie
 
 abbrev Inv-loop : tie.InvT-loop
-Inv-loop nums₀ numbers₀ dates₀ clock values holders days count gate₀ i₀ nums numbers dates gate i =
+Inv-loop nums₀ numbers₀ dates₀ clock values holders days count names keys gate₀ i₀ nums numbers dates gate i =
     let t₀ : Rows = record { nums = nums₀; numbers = numbers₀; dates = dates₀ } in
     let u : LineRows = record { nums = values; numbers = holders; dates = days } in
-    (i ≤ count) × (length nums ≡ length nums₀) × (length numbers ≡ length numbers₀) × (length dates ≡ length dates₀)
+    (i ≤ count) × (length nums ≡ length nums₀) × (length numbers ≡ length numbers₀) × (length dates ≡ length dates₀) × Listed names keys gate
     × Going clock (linesOf u count) t₀ (settleLines clock (length nums₀) (linesOf u count) (ledgerOf gate₀ t₀)) (record { nums = nums; numbers = numbers; dates = dates }) gate i
 
 abbrev μ-loop : tie.MeasureT-loop
-μ-loop nums₀ numbers₀ dates₀ clock values holders days count gate₀ i₀ nums numbers dates gate i = count - i
+μ-loop nums₀ numbers₀ dates₀ clock values holders days count names keys gate₀ i₀ nums numbers dates gate i = count - i
+
+apply-requires : tie.Need-apply-requires Inv-loop μ-loop
+apply-requires c κs =
+    let j = c .before .before .before in
+    let v = j .before .before .before .before .before .before .loop .inv in
+    let k = v .5 .held .backed in
+    ((k .whole, k .same, k .size), (listed-same _ _ _ (v .4), verdict-placed _ _ _ _ (j .judge .ensures _ (v .4) refl) _ _ (v .4)))
+
+add-i : tie.Need-add-i Inv-loop μ-loop
+add-i c =
+    let n = c .before .before .before .before .before .before .before .before .before .before .before .before in
+    search (going-fits _ _ (n .before .before .pre .0 .1) _ (n .loop-test .taken), needs)
 
 loop-again : tie.Need-loop-again Inv-loop μ-loop
 loop-again c =
-    let j = c .before .before in
+    let w = c .before .before .before .before .before in
+    let j = w .before .before .before .before in
     let x = j .before .before .before .before in
     let n = x .before in
-    let v = n .before .loop .inv in (
-      search needs,
-      v .1,
-      v .2,
-      v .3,
-      going-kept _ _ _ (n .before .before .pre .1) _ _ _ _ _ (v .4) (n .loop-test .taken) _ (x .line-at .ensures) _ (j .judge .ensures) _ (c .before .is-change .ensures) (c .if1 .taken),
-    )
-
-add-i-2 : tie.Need-add-i-2 Inv-loop μ-loop
-add-i-2 c =
-    let j = c .before .before .before .before .before .before .before .before .before in
-    let n = j .before .before .before .before .before in
-    search (going-fits _ _ (n .before .before .pre .1) _ (n .loop-test .taken), needs)
-
-loop-again-2 : tie.Need-loop-again-2 Inv-loop μ-loop
-loop-again-2 c =
-    let w = c .before .before .before in
-    let j = w .before .before .before .before .before .before in
-    let x = j .before .before .before .before in
-    let n = x .before in
-    let v = n .before .loop .inv in (
-      search needs,
+    let v = n .before .loop .inv in
+    let h = n .loop-test .taken in
+    let p = n .before .before .pre .0 .1 in (
+      omega (arith, h),
       w .apply .kept .0 ∙ v .1,
       w .apply .kept .1 .0 ∙ v .2,
       w .apply .kept .1 .1 .0 ∙ v .3,
-      going-applied _ _ _ (n .before .before .pre .1) _ _ _ _ _ (v .4) (n .loop-test .taken) _ (x .line-at .ensures) _ (j .judge .ensures) _ _ (w .apply .ensures),
+      listed-used _ _ _ (v .4) _,
+      going-none _ _ _ p _ _ _ _ _ (v .5) h _ _ (v .4) _ (x .line-at .ensures) _ (j .judge .ensures _ (v .4) refl) _ _ (w .apply .ensures .0) (c .enum-told .given .1),
     )
 
-ruleset laws = (going-start, going-held, read-nums, read-numbers, read-dates, read-small, needs)
+element-copy-out-a : tie.Need-element-copy-out-a Inv-loop μ-loop
+element-copy-out-a c =
+    let a = c .before in
+    let w = a .before .before .before .before .before in
+    let n = w .before .before .before .before .before .before .before .before .before in
+    let v = n .before .loop .inv in
+    going-account _ _ _ (n .before .before .pre .0 .1) _ _ _ _ _ (v .5) (n .loop-test .taken) _ _ (v .4) _ (w .apply .ensures .1) _ (a .account .given .1)
+
+plus-requires : tie.Need-plus-requires Inv-loop μ-loop
+plus-requires c κs =
+    let a = c .before .before .before in
+    let w = a .before .before .before .before .before in
+    let x = w .before .before .before .before .before .before .before .before in
+    let n = x .before in
+    let v = n .before .loop .inv in
+    let h = n .loop-test .taken in
+    let p = n .before .before .pre .0 .1 in
+    (going-near _ _ _ p _ _ _ _ _ (v .5) h _ _ (v .4) _ (w .apply .ensures .1) _ (a .account .given .1), read-small _ _ p _ h _ (x .line-at .ensures))
+
+element-set-from-a : tie.Need-element-set-from-a Inv-loop μ-loop
+element-set-from-a c = element-copy-out-a (c .before .before .before)
+
+loop-again-2 : tie.Need-loop-again-2 Inv-loop μ-loop
+loop-again-2 c =
+    let a = c .before .before .before .before in
+    let w = a .before .before .before .before .before in
+    let j = w .before .before .before .before in
+    let x = j .before .before .before .before in
+    let n = x .before in
+    let v = n .before .loop .inv in
+    let h = n .loop-test .taken in
+    let p = n .before .before .pre .0 .1 in (
+      omega (arith, h),
+      w .apply .kept .0 ∙ v .1,
+      w .apply .kept .1 .0 ∙ v .2,
+      w .apply .kept .1 .1 .0 ∙ v .3,
+      listed-moved _ _ _ (listed-used _ _ _ (v .4) _) _ _,
+      going-credited _ _ _ p _ _ _ _ _ (v .5) h _ _ (v .4) _ (x .line-at .ensures) _ (j .judge .ensures _ (v .4) refl) _ _ (w .apply .ensures .0) (w .apply .ensures .1) _ (a .account .given .1) _ (c .plus .ensures .0) (c .plus .ensures .1),
+    )
 
 pub settle-lines-spec : {M : Type 1} → statement M
 settle-lines-spec =
@@ -62,18 +100,23 @@ settle-lines-spec =
     (tie.spec
     Inv-loop
     μ-loop
-    (λ c. search laws)
-    (λ c κs. search laws)
-    (λ c κs. search laws)
-    (λ c κs. search laws)
-    (λ c. search laws)
-    (λ c. search laws)
+    (λ c. (search needs, search needs, search needs, search needs, search needs, search going-start))
+    (λ c κs. search (read-nums, read-numbers, read-dates, needs))
+    (λ c κs. let v = c .before .before .before .before .before .loop .inv in (v .5 .held .backed .whole, listed-same _ _ _ (v .4)))
+    apply-requires
+    add-i
+    (λ c. search needs)
+    (λ c. search needs)
+    (λ c. search (c .before .before .before .before .before .before .before .before .before .before .before .before .before .before .loop-test .taken, needs))
     loop-again
-    (λ c κs. search laws)
-    add-i-2
-    (λ c. search laws)
+    (λ c. search (element-copy-out-a c, needs))
+    element-copy-out-a
+    plus-requires
+    (λ c. search (element-set-from-a c, needs))
+    element-set-from-a
+    (λ c. search (c .before .before .before .before .before .before .before .before .before .before .before .before .before .before .before .before .before .before .loop-test .taken, needs))
     loop-again-2
-    (λ c. search laws)
-    (λ c. search laws)
-    (λ c. search laws)
-    (λ c. (search going-end, (search going-last, search ledger-end))))
+    (λ c. search needs)
+    (λ c. search needs)
+    (λ c. search needs)
+    (λ c. (search going-end, (search going-last, (search ledger-end, search needs)))))

@@ -1,9 +1,9 @@
 use borrow.Author.Needs.{needs}
-use Rattle.days.proofs.CalendarLaws.{part-short, part-mark, part-mark-2, part-century, part-year, part-good}
+use Rattle.days.proofs.CalendarLaws.{part-short, part-with}
 use Rattle.days.proofs.calendar.day_part.Statement.{statement}
 use Rattle.days.proofs.calendar.day_part.Tie as tie
 
-ruleset laws = (part-short, part-mark, part-mark-2, part-century, part-year, part-good, needs)
+ruleset laws = (part-short, part-with, needs)
 
 pub day-part-spec : {M : Type 1} → statement M
 day-part-spec =
@@ -12,16 +12,10 @@ day-part-spec =
     (λ c. search laws)
     (λ c. search laws)
     (λ c. search laws)
-    (λ c. search laws)
-    (λ c. search laws)
-    (λ c. search laws)
-    (λ c. search laws)
     (λ c κs. search laws)
     (λ c. search laws)
     (λ c. search laws)
-    (λ c. search laws)
     (λ c κs. search laws)
-    (λ c. search laws)
     (λ c. search laws)
     (λ c. search laws)
     (λ c. search laws)

@@ -1,25 +1,85 @@
 use borrow.Author.Needs.{needs}
+use mathlib.Core.Path.{refl, sym, _∙_}
+use mir.Syntax.{w64}
+use mir.Val.{toZ, ofZ}
 use Rattle.table.specs.Table.{Rows}
-use Rattle.ledger.proofs.ChangeLaws.{planned, decided-code, made-by}
+use Rattle.planning.proofs.PlanLaws.{found-within, found-amount, account-within, held-balance}
+use Rattle.ledger.proofs.ChangeLaws.{near-back, near-passed, plan-by, plan-balance, plan-within, plan-near, planned, made-moved, decided-code, made-by}
 use Rattle.ledger.proofs.change.execute.Statement.{statement}
 use Rattle.ledger.proofs.change.execute.Tie as tie
 
+found-record-requires : tie.Need-found-record-requires
+found-record-requires c κs =
+    let f = c .before .before .before in
+    let s = f .before .before .before .before .before .before in
+    let t : Rows = record { nums = s .args .nums .now; numbers = s .args .numbers .now; dates = s .args .dates .now } in
+    (search needs, search needs, search needs, found-within (s .args .g) t (s .pre .1 .0) _ _ (f .find-record .ensures))
+
+make-plan-requires : tie.Need-make-plan-requires
+make-plan-requires c κs =
+    let h = c in
+    let r = h .before in
+    let f = r .before .before .before .before in
+    let s = f .before .before .before .before .before .before in
+    let t : Rows = record { nums = s .args .nums .now; numbers = s .args .numbers .now; dates = s .args .dates .now } in
+    found-amount (s .args .g) t (s .pre .1 .0) _ _ (f .find-record .ensures) _ (r .found-record .ensures)
+
 make-change-requires : tie.Need-make-change-requires
 make-change-requires c κs =
-    let m = c .before .before .before in
-    let s = m .before .before .before .before in
+    let m = c .before .before .before .before in
+    let h = c .before .before .before .before .before in
+    let r = h .before in
+    let f = r .before .before .before .before in
+    let s = f .before .before .before .before .before .before in
     let t : Rows = record { nums = s .args .nums .now; numbers = s .args .numbers .now; dates = s .args .dates .now } in
-    (s .pre .0, (planned (s .args .g) t (s .args .fault) (s .args .q) (m .make-plan .result) (m .make-plan .ensures) (s .pre .1 .0) (s .pre .0 .funds), s .pre .1 .1))
+    let p = m .make-plan .ensures (s .args .g) refl refl (h .holding-of .ensures) in (
+      (s .pre .0 .whole, s .pre .0 .same, s .pre .0 .size),
+      (
+        planned (s .args .g) t (s .args .fault) (s .args .q) _ (plan-by (s .args .g) t (s .args .fault) (s .args .q) _ (f .find-record .ensures) _ (r .found-record .ensures) _ (h .holding-of .ensures) _ p) (s .pre .1 .0),
+        s .pre .1 .1,
+        near-passed (h .holding-of .result .balance) (plan-near (s .args .g) t (s .args .fault) (s .args .q) _ (f .find-record .ensures) _ (r .found-record .ensures) _ (h .holding-of .ensures) (s .pre .0 .funds)),
+      ),
+    )
 
-ruleset laws = (decided-code, made-by, needs)
+move-balance-requires : tie.Need-move-balance-requires
+move-balance-requires c κs =
+    let m = c .before .before .before .before .before .before .before .before .before .before in
+    let h = c .before .before .before .before .before .before .before .before .before .before .before in
+    let r = h .before in
+    let f = r .before .before .before .before in
+    let s = f .before .before .before .before .before .before in
+    let t : Rows = record { nums = s .args .nums .now; numbers = s .args .numbers .now; dates = s .args .dates .now } in
+    let p = m .make-plan .ensures (s .args .g) refl refl (h .holding-of .ensures) in
+    (s .pre .0 .funds, plan-within (s .args .g) t (s .args .fault) (s .args .q) _ (f .find-record .ensures) _ (r .found-record .ensures) _ (h .holding-of .ensures) _ p (s .pre .0 .funds))
+
+returns : tie.Need-returns
+returns c =
+    let v = c .before in
+    let k = c .before .before .before .before .before .before .before in
+    let m = c .before .before .before .before .before .before .before .before .before .before .before .before in
+    let h = m .before in
+    let r = h .before in
+    let f = r .before .before .before .before in
+    let s = f .before .before .before .before .before .before in
+    let t : Rows = record { nums = s .args .nums .now; numbers = s .args .numbers .now; dates = s .args .dates .now } in
+    let p = m .make-plan .ensures (s .args .g) refl refl (h .holding-of .ensures) in
+    let is = plan-by (s .args .g) t (s .args .fault) (s .args .q) _ (f .find-record .ensures) _ (r .found-record .ensures) _ (h .holding-of .ensures) _ p in
+    let near = plan-near (s .args .g) t (s .args .fault) (s .args .q) _ (f .find-record .ensures) _ (r .found-record .ensures) _ (h .holding-of .ensures) (s .pre .0 .funds) in
+    let b = plan-balance (s .args .g) t (s .args .fault) (s .args .q) _ (f .find-record .ensures) _ (r .found-record .ensures) _ (h .holding-of .ensures) _ p in
+    let made = k .make-change .ensures (s .args .g) refl (b ∙ sym (near-back (h .holding-of .result .balance) near)) in
+    (decided-code (s .args .g) t (s .args .clock) (s .args .q) _ _ is, made-by (s .args .g) t (s .args .clock) (s .args .q) _ _ is _ _ _ (made-moved t _ (s .args .g) (m .make-plan .result .account) (toZ w64 (ofZ w64 (k .make-change .result .balance))) (k .make-change .result .balance) (k .make-change .result .used) _ _ made (search (c .before .before .struct-told2, needs)) _ (v .move-balance .ensures)))
 
 pub execute-spec : {M : Type 1} → statement M
 execute-spec =
     tie.close
     (tie.spec
-    (λ c κs. search laws)
+    (λ c κs. search needs)
+    found-record-requires
+    (λ c κs. search needs)
+    make-plan-requires
     make-change-requires
-    (λ c. search laws)
-    (λ c. search laws)
-    (λ c. search laws)
-    (λ c. search laws))
+    move-balance-requires
+    (λ c. search needs)
+    (λ c. search needs)
+    (λ c. search needs)
+    returns)

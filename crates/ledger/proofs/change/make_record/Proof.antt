@@ -11,4 +11,4 @@ make-record-spec =
     tie.close
     (tie.spec
     (λ c. search laws)
-    (λ c. search laws))
+    (λ c g e. rw e))

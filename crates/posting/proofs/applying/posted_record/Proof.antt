@@ -3,12 +3,10 @@ use Rattle.posting.specs.Posting.{postedRecord}
 use Rattle.posting.proofs.applying.posted_record.Statement.{statement}
 use Rattle.posting.proofs.applying.posted_record.Tie as tie
 
-ruleset laws = (needs)
-
 pub posted-record-spec : {M : Type 1} → statement M
 unfolding postedRecord
 posted-record-spec =
     tie.close
     (tie.spec
-    (λ c. search laws)
-    (λ c. search laws))
+    (λ c κs. search needs)
+    (λ c. c .make-record .ensures))

@@ -1,12 +1,12 @@
 use borrow.Author.Needs.{needs}
 use Rattle.planning.proofs.PlanLaws.{account-record, account-own}
-use Rattle.planning.proofs.plan.account_of.Statement.{statement}
-use Rattle.planning.proofs.plan.account_of.Tie as tie
+use Rattle.planning.proofs.plan.holding_of.Statement.{statement}
+use Rattle.planning.proofs.plan.holding_of.Tie as tie
 
 ruleset laws = (account-record, account-own, needs)
 
-pub account-of-spec : {M : Type 1} → statement M
-account-of-spec =
+pub holding-of-spec : {M : Type 1} → statement M
+holding-of-spec =
     tie.close
     (tie.spec
     (λ c κs. search laws)
