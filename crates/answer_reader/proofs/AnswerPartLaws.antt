@@ -1,71 +1,71 @@
 -- Laws of the elements of a response and of the steps that read them, at each way out.
 use Prim.Native.Nat.{ℕ, _+_, _≤_, _<_}
-use mathlib.Core.Path.{_≡_, _∙_}
+use mathlib.Core.Path.{_≡_, refl, sym, ap, _∙_}
+use native.Mathlib.Omega.{arith}
 use mathlib.Core.List.{List}
-use mathlib.Core.Bool.{Bool, true, false, cond}
+use mathlib.Core.Bool.{Bool, true, false, cond, not}
+use lib.Dec.{leb}
 use lib.ListN.{length, take, drop, drop-of-length-le}
-use lib.Seq.{drop-drop}
-use borrow.Author.Tests.{le-leb, lt-leb}
+use lib.Seq.{drop-drop, take-all, length-take-le}
+use borrow.Author.Tests.{le-leb, lt-leb, leb-true, leb-false, not-true, not-false}
 use Rattle.texts.specs.declared.digits.Digits.{Digits}
 use Rattle.texts.specs.declared.digits.Digits.the-variants.{Value, Malformed}
 use Rattle.dates.specs.declared.date.DateRead.{DateRead}
 use Rattle.texts.specs.Digits.{digitsRead}
-use Rattle.dates.specs.Date.{dateRead}
+use Rattle.dates.specs.Date.{isWritten, emptyDate, dateRead}
+use Rattle.dates.proofs.DateLaws.{written-parts}
+use Rattle.texts.proofs.Tests.{cond-elim, no-claim}
 use Rattle.texts.proofs.ListLaws.{drop-next}
 use Rattle.payments.specs.declared.Action.{Action}
 use Rattle.payments.specs.declared.Answer.{Answer}
 use Rattle.answer_reader.specs.declared.answer.AnswerRead.{AnswerRead}
-use Rattle.answer_reader.specs.declared.read.Parsed.{Parsed}
+use Rattle.answer_reader.specs.declared.read.Place.{Place}
+use Rattle.answer_reader.specs.declared.read.Parts.{Parts}
+use Rattle.answer_reader.specs.declared.parts.Step.{Step}
 use Rattle.answer_reader.specs.declared.tags.Element.{Element}
 use Rattle.answer_reader.specs.declared.tags.Element.the-variants.{Absent, Broken, Held}
 use Rattle.answer_reader.specs.declared.parts.Part.{Part}
 use Rattle.answer_reader.specs.declared.parts.Part.the-variants.{Code, Authcode, Date, Message}
 use Rattle.answers.specs.Answer.{xmlLine, responseTag, opening, closing}
-use Rattle.answer_reader.specs.AnswerRead.{starts, skipBlanks, Found, elementAt, nameOf, mayStand, mayLackDate, mayLack, emptyAnswer, withDate, unreadable, good, numberHeld, dateHeld, messageHeld, filled, Reading, Unreadable, SoFar, tagStep, partFound, partStep, openStep, partsStep, endStep, answerRead}
-use Rattle.answer_reader.specs.AnswerParts.{foundOf, readingOf, unparsed}
+use Rattle.answer_reader.specs.AnswerRead.{starts, skipBlanks, Found, elementAt, nameOf, mayStand, mayLackDate, mayLack, emptyAnswer, withCode, withAuthcode, withDate, unreadable, good, numberHeld, filled, Reading, Unreadable, SoFar, readOn, tagStep, partStep, openStep, partsStep, endStep, answerRead}
+use Rattle.answer_reader.specs.AnswerParts.{foundOf, noStep, absentStep, numberStep, dateStep, messageStep, filledStep, dateIn, heldBy, given, Unheld, Takes, Gives, placed, Passes, noParts, answerOf, partsOf}
 
-module _ (x : Answer) (none : x ≡ emptyAnswer) where
-  pub none-read : record { ok = false; answer = x } ≡ unreadable
-  none-read = rw none
-
-  pub none-parsed : record { ok = false; answer = x; at = 0 } ≡ unparsed
-  none-parsed = rw none
+pub none-read : (x : Answer) → x ≡ emptyAnswer → record { ok = false; answer = x } ≡ unreadable
+none-read x none = rw none
 
 -- ---- the element that stands at the start of a text
 pub part-as : (k l : Part) (t : List ℕ) (f : Found) → k ≡ l → f ≡ elementAt (nameOf l) t → f ≡ elementAt (nameOf k) t
 part-as k l t f e q = rw e q
 
--- ---- what an element holds
-module _ (r : AnswerRead) where
-  pub number-good : (f : ℕ → Answer) (d : Digits) (v : ℕ) → d ≡ Value v → r ≡ good (f v) → r ≡ numberHeld f d
-  number-good f d v e q = rw e q
+-- ---- what an element gives
+module _ (r : Step) where
+  pub number-good : (d : Digits) (v at : ℕ) → d ≡ Value v → r ≡ record { ok = true; there = true; value = v; from = 0; at = at } → r ≡ numberStep d at
+  number-good d v at e q = rw e q
 
-  pub number-bad : (f : ℕ → Answer) (d : Digits) → d ≡ Malformed → r ≡ unreadable → r ≡ numberHeld f d
-  number-bad f d e q = rw e q
+  pub number-bad : (d : Digits) (at : ℕ) → d ≡ Malformed → r ≡ noStep → r ≡ numberStep d at
+  number-bad d at e q = rw e q
 
-  module _ (x : Answer) where
-    pub date-good : (d : DateRead) → d .ok ≡ true → r ≡ good (withDate x (d .date)) → r ≡ dateHeld x d
-    date-good d e q = rw e q
+  pub date-good : (w : Bool) (from at : ℕ) → w ≡ true → r ≡ record { ok = true; there = true; value = 0; from = from; at = at } → r ≡ dateStep w from at
+  date-good w from at e q = rw e q
 
-    pub date-bad : (d : DateRead) → d .ok ≡ false → r ≡ unreadable → r ≡ dateHeld x d
-    date-bad d e q = rw e q
+  pub date-bad : (w : Bool) (from at : ℕ) → w ≡ false → r ≡ noStep → r ≡ dateStep w from at
+  date-bad w from at e q = rw e q
 
-    pub message-good : (n : ℕ) → n ≤ 512 → r ≡ good x → r ≡ messageHeld x n
-    message-good n h q = rw (le-leb n 512 h) q
+  pub message-good : (n at : ℕ) → n ≤ 512 → r ≡ absentStep true at → r ≡ messageStep n at
+  message-good n at h q = rw (le-leb n 512 h) q
 
-    pub message-long : (n : ℕ) → 512 < n → r ≡ unreadable → r ≡ messageHeld x n
-    message-long n h q = rw (lt-leb n 512 h) q
+  pub message-long : (n at : ℕ) → 512 < n → r ≡ noStep → r ≡ messageStep n at
+  message-long n at h q = rw (lt-leb n 512 h) q
 
-  -- by the element
-  module _ (c : List ℕ) where
-    pub fill-as : (k l : Part) (x : Answer) → k ≡ l → r ≡ filled l x c → r ≡ filled k x c
-    fill-as k l x e q = rw e q
+  module _ (k : Part) (c : List ℕ) (from at : ℕ) where
+    pub fill-as : (l : Part) → k ≡ l → r ≡ filledStep l c from at → r ≡ filledStep k c from at
+    fill-as l e q = rw e q
 
-    pub fill-number : (f : ℕ → Answer) (most : ℕ) (d : Digits) → r ≡ numberHeld f d → d ≡ digitsRead most c → r ≡ numberHeld f (digitsRead most c)
-    fill-number f most d q e = rw (← e) q
+    pub fill-number : (most : ℕ) (d : Digits) → r ≡ numberStep d at → d ≡ digitsRead most c → r ≡ numberStep (digitsRead most c) at
+    fill-number most d q e = rw (← e) q
 
-    pub fill-date : (x : Answer) (d : DateRead) → r ≡ dateHeld x d → d ≡ dateRead c → r ≡ dateHeld x (dateRead c)
-    fill-date x d q e = rw (← e) q
+    pub fill-date : (d : DateRead) → r ≡ dateStep (d .ok) from at → d ≡ dateRead c → r ≡ dateStep ((dateRead c) .ok) from at
+    fill-date d q e = rw (← e) q
 
 -- ---- what may be missing
 pub date-as : (a b : Action) (code : ℕ) (r : Bool) → a ≡ b → r ≡ mayLackDate b code → r ≡ mayLackDate a code
@@ -74,75 +74,237 @@ date-as a b code r e q = rw e q
 pub lack-as : (k l : Part) (a : Action) (code : ℕ) (r : Bool) → k ≡ l → r ≡ mayLack l a code → r ≡ mayLack k a code
 lack-as k l a code r e q = rw e q
 
--- ---- the step of a tag
-module _ (s tag : List ℕ) (p : Parsed) where
-  pub tag-stopped : p .ok ≡ false → readingOf s p ≡ tagStep tag (readingOf s p)
-  unfolding tagStep
-  tag-stopped n = rw n
+-- ---- a date is nineteen bytes, however they were cut off
+nineteen : (n : ℕ) (l : List ℕ) → length (take n l) ≡ 19 → take 19 l ≡ take n l
+nineteen n l e = go (leb n (length l)) refl
+  where
+    go : (b : Bool) → leb n (length l) ≡ b → take 19 l ≡ take n l
+    go true b = let z : n ≡ 19 = sym (length-take-le n l (leb-true n (length l) b)) ∙ e in rw z
+    go false b =
+        let h : length l < n = leb-false n (length l) b in
+        let w : take n l ≡ l = take-all n l (omega arith) in
+        let z : length l ≡ 19 = sym (ap length w) ∙ e in
+        take-all 19 l (omega arith) ∙ sym w
 
-  module _ (going : p .ok ≡ true) (t : Bool) (is : t ≡ starts tag (drop (p .at) s)) where
-    pub tag-missing : t ≡ false → (r : Parsed) → r ≡ unparsed → readingOf s r ≡ tagStep tag (readingOf s p)
-    unfolding tagStep
-    tag-missing n r q = rw (q, going, ← is, n)
+date-length : (c : List ℕ) → (dateRead c) .ok ≡ true → length c ≡ 19
+unfolding dateRead
+date-length c = cond-elim (λ (r : DateRead). r .ok ≡ true → length c ≡ 19) (isWritten c) _ _ (λ h _. (written-parts c h) .size) (λ _ e. no-claim e)
 
-    pub tag-passed : t ≡ true → (next : ℕ) → drop next s ≡ skipBlanks (drop (p .at + length tag) s) → SoFar (p .answer) (drop next s) ≡ tagStep tag (readingOf s p)
-    unfolding tagStep
-    tag-passed y next e = rw (going, ← is, y, drop-drop, e)
+module _ (s : List ℕ) (dated : Bool) (from : ℕ) where
+  pub date-there : dated ≡ true → (u c : List ℕ) → u ≡ drop from s → c ≡ take 19 u → (d : DateRead) → d ≡ dateRead c → d .date ≡ dateIn s dated from
+  date-there h u c eu ec d ed = rw (h, ed, ec, eu)
+
+  pub date-none : (r : List ℕ) → r ≡ emptyDate → dated ≡ false → r ≡ dateIn s dated from
+  date-none r q h = q ∙ rw h
+
+pub answer-parts : (s : List ℕ) (p : Parts) (d : List ℕ) → d ≡ dateIn s (p .dated) (p .from) → (r : Answer)
+    → r ≡ record { code = p .code; authorized = p .authorized; authcode = p .authcode; dated = p .dated; date = d } → r ≡ answerOf s p
+answer-parts s p d e r q = q ∙ rw e
+
+-- ---- what was filled in is what the definition fills in
+module _ (s : List ℕ) (x : Answer) (from size next : ℕ) where
+  number-given : (k : Part) (f : ℕ → Answer) → ((r : Step) → heldBy k s x r ≡ f (r .value)) → (d : Digits)
+      → given k s x (numberStep d next) ≡ readOn (numberHeld f d) (drop next s)
+  unfolding given
+  number-given k f h Malformed = refl
+  number-given k f h (Value v) = rw h
+
+  fill-given : (k : Part) (c : List ℕ) → c ≡ take size (drop from s) → given k s x (filledStep k c from next) ≡ readOn (filled k x c) (drop next s)
+  unfolding filledStep filled given
+  fill-given Code c e = number-given Code (withCode x) (λ r. refl) (digitsRead 4 c)
+  fill-given Authcode c e = number-given Authcode (withAuthcode x) (λ r. refl) (digitsRead 15 c)
+  fill-given Date c e = go ((dateRead c) .ok) refl
+    where
+      go : (b : Bool) → (dateRead c) .ok ≡ b → given Date s x (dateStep b from next) ≡ readOn (cond b (good (withDate x ((dateRead c) .date))) unreadable) (drop next s)
+      go true b =
+          let l : length c ≡ 19 = date-length c b in
+          let z : take 19 (drop from s) ≡ c = nineteen size (drop from s) (ap length (sym e) ∙ l) ∙ sym e in
+          rw z
+      go false b = refl
+  fill-given Message c e = go (leb (length c) 512)
+    where
+      go : (b : Bool) → given Message s x (cond b (absentStep true next) noStep) ≡ readOn (cond b (good x) unreadable) (drop next s)
+      go true = refl
+      go false = refl
 
 -- ---- the step of an element
-module _ (k : Part) (a : Action) (s : List ℕ) (x : Answer) (at : ℕ) (e : Element) where
-  pub part-absent : e ≡ Absent → (t : Bool) → t ≡ mayLack k a (x .code) → cond t (SoFar x (drop at s)) Unreadable ≡ partFound k a x (drop at s) (foundOf s e)
-  part-absent q t et = rw (q, et)
+number-unheld : (d : Digits) (at : ℕ) → Unheld (numberStep d at)
+number-unheld Malformed at h = refl
+number-unheld (Value v) at h = no-claim (sym h)
 
-  pub part-broken : e ≡ Broken → (r : Parsed) → r ≡ unparsed → readingOf s r ≡ partFound k a x (drop at s) (foundOf s e)
-  part-broken q r er = rw (q, er)
+fill-unheld : (k : Part) (c : List ℕ) (from at : ℕ) → Unheld (filledStep k c from at)
+unfolding filledStep
+fill-unheld Code c from at = number-unheld (digitsRead 4 c) at
+fill-unheld Authcode c from at = number-unheld (digitsRead 15 c) at
+fill-unheld Date c from at = cond-elim Unheld ((dateRead c) .ok) _ noStep (λ _ h. refl) (λ _ h. refl)
+fill-unheld Message c from at = cond-elim Unheld (leb (length c) 512) _ noStep (λ _ h. refl) (λ _ h. refl)
 
-  pub part-held : (from size next : ℕ) → e ≡ Held from size next → (u c : List ℕ) → u ≡ drop from s → c ≡ take size u → (f : AnswerRead) → f ≡ filled k x c
-      → cond (f .ok) (SoFar (f .answer) (drop next s)) Unreadable ≡ partFound k a x (drop at s) (foundOf s e)
-  part-held from size next q u c eu ec f ef = rw (q, ← eu, ← ec, ← ef)
+module _ (k : Part) (a : Action) (code : ℕ) (s : List ℕ) (at : ℕ) (r : Step) where
+  module _ (e : Element) where
+    pub take-absent : e ≡ Absent → (t : Bool) → t ≡ mayLack k a code → r ≡ absentStep t at → Takes k a code s at e r
+    unfolding given
+    take-absent q t et er x ex = rw (er, q, ex, et)
 
-module _ (k : Part) (a : Action) (s : List ℕ) (p : Parsed) where
-  pub step-stopped : p .ok ≡ false → readingOf s p ≡ partStep k a (readingOf s p)
-  unfolding partStep
-  step-stopped n = rw n
+    pub take-broken : e ≡ Broken → r ≡ noStep → Takes k a code s at e r
+    unfolding given
+    take-broken q er x ex = rw (er, q)
 
-  module _ (going : p .ok ≡ true) (t : Bool) (may : t ≡ mayStand k a) where
-    pub step-barred : t ≡ false → readingOf s p ≡ partStep k a (readingOf s p)
+    pub take-held : (from size next : ℕ) → e ≡ Held from size next → (u c : List ℕ) → u ≡ drop from s → c ≡ take size u → r ≡ filledStep k c from next → Takes k a code s at e r
+    take-held from size next q u c eu ec er x ex = rw (er, q) (fill-given s x from size next k c (ec ∙ rw eu) ∙ rw (ec, eu))
+
+  module _ (t : Bool) (may : t ≡ mayStand k a) where
+    pub step-barred : t ≡ false → r ≡ absentStep true at → Gives k a code s at r
+    unfolding partStep given
+    step-barred n er x ex = rw (er, ← may, n)
+
+    pub step-part : t ≡ true → (e : Element) → foundOf s e ≡ elementAt (nameOf k) (drop at s) → Takes k a code s at e r → Gives k a code s at r
     unfolding partStep
-    step-barred n = rw (going, ← may, n)
+    step-part y e ee takes x ex = takes x ex ∙ rw (ee, ← may, y)
 
-    pub step-part : t ≡ true → (e : Element) → foundOf s e ≡ elementAt (nameOf k) (drop (p .at) s) → (r : Parsed)
-        → readingOf s r ≡ partFound k a (p .answer) (drop (p .at) s) (foundOf s e) → readingOf s r ≡ partStep k a (readingOf s p)
-    unfolding partStep
-    step-part y e ee r er = er ∙ rw (ee, going, ← may, y)
+module _ (r : Step) where
+  pub absent-unheld : (ok : Bool) (at : ℕ) → r ≡ absentStep ok at → Unheld r
+  absent-unheld ok at e h = rw e
 
--- ---- the end
-module _ (s : List ℕ) (p : Parsed) where
-  pub end-stopped : p .ok ≡ false → (r : AnswerRead) → r ≡ unreadable → r ≡ endStep (readingOf s p)
-  unfolding endStep
-  end-stopped n r q = q ∙ rw n
+  pub none-unheld : r ≡ noStep → Unheld r
+  none-unheld e h = rw e
 
-  module _ (going : p .ok ≡ true) where
-    pub end-here : length s ≤ p .at → good (p .answer) ≡ endStep (readingOf s p)
-    unfolding endStep
-    end-here h = rw (going, drop-of-length-le s h)
+  pub filled-unheld : (k : Part) (c : List ℕ) (from at : ℕ) → r ≡ filledStep k c from at → Unheld r
+  filled-unheld k c from at e = rw e (fill-unheld k c from at)
 
-    pub end-later : p .at < length s → (r : AnswerRead) → r ≡ unreadable → r ≡ endStep (readingOf s p)
-    unfolding endStep
-    end-later h r q = q ∙ rw (going, drop-next s (p .at) h)
+-- ---- the step of a tag
+module _ (s : List ℕ) (at : ℕ) (tag : List ℕ) (t : Bool) (is : t ≡ starts tag (drop at s)) (r : Place) where
+  pub tag-missing : t ≡ false → r .ok ≡ false → Passes s at tag r
+  unfolding tagStep placed
+  tag-missing n q x = rw (q, ← is, n)
 
--- ---- the ways out of the functions that go through the steps
-pub open-is : (s : List ℕ) (x : Answer) (r q : Reading) → r ≡ tagStep (opening responseTag) q → q ≡ tagStep xmlLine (SoFar x s) → x ≡ emptyAnswer → r ≡ openStep s
-unfolding openStep
-open-is s x r q er eq ex = er ∙ rw (eq, ex)
+  pub tag-passed : t ≡ true → (next : ℕ) → drop next s ≡ skipBlanks (drop (at + length tag) s) → r ≡ record { ok = true; at = next } → Passes s at tag r
+  unfolding tagStep placed
+  tag-passed y next e q x = rw (q, ← is, y, drop-drop, e)
 
-module _ (a : Action) where
-  pub parts-are : (r₀ r₁ r₂ r₃ r : Reading)
-      → r ≡ partStep Message a r₃ → r₃ ≡ partStep Date a r₂ → r₂ ≡ partStep Authcode a r₁ → r₁ ≡ partStep Code a r₀ → r ≡ partsStep a r₀
-  unfolding partsStep
-  parts-are r₀ r₁ r₂ r₃ r e₄ e₃ e₂ e₁ = e₄ ∙ rw (e₃, e₂, e₁)
+-- ---- the elements together
+module _ (k : Part) (s : List ℕ) (x : Answer) (r : Step) where
+  stopped : not (r .ok) ≡ true → given k s x r ≡ Unreadable
+  unfolding given
+  stopped h = rw (not-true (r .ok) h)
 
-  pub answer-is : (s : List ℕ) (r₁ r₂ r₃ : Reading) (r : AnswerRead)
-      → r ≡ endStep r₃ → r₃ ≡ tagStep (closing responseTag) r₂ → r₂ ≡ partsStep a r₁ → r₁ ≡ openStep s → r ≡ answerRead a s
+  going : not (r .ok) ≡ false → (y : Answer) → cond (r .there) (heldBy k s x r) x ≡ y → given k s x r ≡ SoFar y (drop (r .at) s)
+  unfolding given
+  going h y e = go (r .ok) (not-false (r .ok) h)
+    where
+      go : (b : Bool) → b ≡ true → cond b (SoFar (cond (r .there) (heldBy k s x r) x) (drop (r .at) s)) Unreadable ≡ SoFar y (drop (r .at) s)
+      go true q = ap (λ (z : Answer). SoFar z (drop (r .at) s)) e
+      go false q = no-claim q
+
+-- the answer after each element
+abbrev coded : Step → Answer
+coded c = withCode emptyAnswer (c .value)
+
+abbrev authorizedBy : Step → Step → Answer
+authorizedBy c n = record { code = c .value; authorized = n .there; authcode = n .value; dated = false; date = emptyDate }
+
+abbrev datedBy : List ℕ → Step → Step → Step → Answer
+datedBy s c n d = record { code = c .value; authorized = n .there; authcode = n .value; dated = d .there; date = dateIn s (d .there) (d .from) }
+
+code-held : (s : List ℕ) (c : Step) → Unheld c → cond (c .there) (heldBy Code s emptyAnswer c) emptyAnswer ≡ coded c
+code-held s c u = go (c .there) refl
+  where
+    go : (b : Bool) → c .there ≡ b → cond b (heldBy Code s emptyAnswer c) emptyAnswer ≡ coded c
+    go true e = refl
+    go false e = rw (u e)
+
+authcode-held : (s : List ℕ) (c n : Step) → Unheld n → cond (n .there) (heldBy Authcode s (coded c) n) (coded c) ≡ authorizedBy c n
+authcode-held s c n u = go (n .there) refl
+  where
+    go : (b : Bool) → n .there ≡ b → cond b (heldBy Authcode s (coded c) n) (coded c) ≡ authorizedBy c n
+    go true e = rw e
+    go false e = rw (e, u e)
+
+date-held : (s : List ℕ) (c n d : Step) → cond (d .there) (heldBy Date s (authorizedBy c n) d) (authorizedBy c n) ≡ datedBy s c n d
+date-held s c n d = go (d .there) refl
+  where
+    go : (b : Bool) → d .there ≡ b → cond b (heldBy Date s (authorizedBy c n) d) (authorizedBy c n) ≡ datedBy s c n d
+    go true e = rw e
+    go false e = rw e
+
+cond-same : {A : Type 0} (b : Bool) (x : A) → cond b x x ≡ x
+cond-same true x = refl
+cond-same false x = refl
+
+module _ (a : Action) (s : List ℕ) (at : ℕ) (c : Step) (gc : Gives Code a 0 s at c) where
+  pub no-code : not (c .ok) ≡ true → (r : Parts) → r ≡ noParts → partsOf s r ≡ partsStep a (SoFar emptyAnswer (drop at s))
+  unfolding partsStep partsOf
+  no-code h r q = rw (q, ← gc emptyAnswer refl, stopped Code s emptyAnswer c h) (unfold partStep in refl)
+
+  module _ (fine : not (c .ok) ≡ false) (uc : Unheld c) where
+    code-read : partStep Code a (SoFar emptyAnswer (drop at s)) ≡ SoFar (coded c) (drop (c .at) s)
+    code-read = sym (gc emptyAnswer refl) ∙ going Code s emptyAnswer c fine (coded c) (code-held s c uc)
+
+    module _ (n : Step) (gn : Gives Authcode a (c .value) s (c .at) n) where
+      pub no-authcode : not (n .ok) ≡ true → (r : Parts) → r ≡ noParts → partsOf s r ≡ partsStep a (SoFar emptyAnswer (drop at s))
+      unfolding partsStep partsOf
+      no-authcode h r q = rw (q, code-read, ← gn (coded c) refl, stopped Authcode s (coded c) n h) (unfold partStep in refl)
+
+      module _ (fine₁ : not (n .ok) ≡ false) (un : Unheld n) where
+        authcode-read : partStep Authcode a (SoFar (coded c) (drop (c .at) s)) ≡ SoFar (authorizedBy c n) (drop (n .at) s)
+        authcode-read = sym (gn (coded c) refl) ∙ going Authcode s (coded c) n fine₁ (authorizedBy c n) (authcode-held s c n un)
+
+        module _ (d : Step) (gd : Gives Date a (c .value) s (n .at) d) where
+          pub no-date : not (d .ok) ≡ true → (r : Parts) → r ≡ noParts → partsOf s r ≡ partsStep a (SoFar emptyAnswer (drop at s))
+          unfolding partsStep partsOf
+          no-date h r q = rw (q, code-read, authcode-read, ← gd (authorizedBy c n) refl, stopped Date s (authorizedBy c n) d h) (unfold partStep in refl)
+
+          pub all-parts : not (d .ok) ≡ false → (m : Step) → Gives Message a (c .value) s (d .at) m → (r : Parts)
+              → r ≡ record { ok = m .ok; code = c .value; authorized = n .there; authcode = n .value; dated = d .there; from = d .from; at = m .at }
+              → partsOf s r ≡ partsStep a (SoFar emptyAnswer (drop at s))
+          unfolding partsStep partsOf given
+          all-parts fine₂ m gm r q =
+              let y = datedBy s c n d in
+              let read : partStep Date a (SoFar (authorizedBy c n) (drop (n .at) s)) ≡ SoFar y (drop (d .at) s) =
+              sym (gd (authorizedBy c n) refl) ∙ going Date s (authorizedBy c n) d fine₂ y (date-held s c n d) in
+              rw (q, code-read, authcode-read, read) (ap (λ (z : Answer). cond (m .ok) (SoFar z (drop (m .at) s)) Unreadable) (sym (cond-same (m .there) y)) ∙ gm y refl)
+
+-- ---- the answer
+module _ (s : List ℕ) (p : Place) (passes : Passes s 0 xmlLine p) where
+  pub open-none : not (p .ok) ≡ true → placed s emptyAnswer p ≡ openStep s
+  unfolding openStep placed
+  open-none h = rw (← passes emptyAnswer, not-true (p .ok) h) (unfold tagStep in refl)
+
+  pub open-both : not (p .ok) ≡ false → (r : Place) → Passes s (p .at) (opening responseTag) r → placed s emptyAnswer r ≡ openStep s
+  unfolding openStep
+  open-both h r next =
+      let e : placed s emptyAnswer p ≡ SoFar emptyAnswer (drop (p .at) s) = unfold placed in rw (not-false (p .ok) h) in
+      next emptyAnswer ∙ ap (tagStep (opening responseTag)) (sym e ∙ passes emptyAnswer)
+
+module _ (a : Action) (s : List ℕ) (o : Place) (eo : placed s emptyAnswer o ≡ openStep s) (r : AnswerRead) where
+  pub not-open : not (o .ok) ≡ true → r ≡ unreadable → r ≡ answerRead a s
   unfolding answerRead
-  answer-is s r₁ r₂ r₃ r e e₃ e₂ e₁ = e ∙ rw (e₃, e₂, e₁)
+  not-open h q =
+      let e : openStep s ≡ Unreadable = sym eo ∙ unfold placed in rw (not-true (o .ok) h) in
+      q ∙ rw e (unfold partsStep partStep tagStep endStep in refl)
+
+  module _ (fine : not (o .ok) ≡ false) (p : Parts) (ep : partsOf s p ≡ partsStep a (SoFar emptyAnswer (drop (o .at) s))) where
+    opened : openStep s ≡ SoFar emptyAnswer (drop (o .at) s)
+    opened = sym eo ∙ unfold placed in rw (not-false (o .ok) fine)
+
+    pub not-parts : not (p .ok) ≡ true → r ≡ unreadable → r ≡ answerRead a s
+    unfolding answerRead
+    not-parts h q =
+        let e : partsOf s p ≡ Unreadable = unfold partsOf in rw (not-true (p .ok) h) in
+        q ∙ rw (opened, ← ep, e) (unfold tagStep endStep in refl)
+
+    module _ (fine₁ : not (p .ok) ≡ false) (e : Place) (passes : Passes s (p .at) (closing responseTag) e) where
+      closed : answerRead a s ≡ endStep (placed s (answerOf s p) e)
+      unfolding answerRead
+      closed =
+          let z : partsOf s p ≡ SoFar (answerOf s p) (drop (p .at) s) = unfold partsOf in rw (not-false (p .ok) fine₁) in
+          rw (opened, ← ep, z, passes (answerOf s p))
+
+      pub not-closed : not (e .ok) ≡ true → r ≡ unreadable → r ≡ answerRead a s
+      not-closed h q = q ∙ sym (closed ∙ unfold placed endStep in rw (not-true (e .ok) h))
+
+      module _ (fine₂ : not (e .ok) ≡ false) where
+        pub not-ended : e .at < length s → r ≡ unreadable → r ≡ answerRead a s
+        not-ended h q = q ∙ sym (closed ∙ unfold placed endStep in rw (not-false (e .ok) fine₂, drop-next s (e .at) h))
+
+        pub answered : length s ≤ e .at → (x : Answer) → x ≡ answerOf s p → r ≡ good x → r ≡ answerRead a s
+        answered h x ex q = q ∙ sym (closed ∙ unfold placed endStep in rw (not-false (e .ok) fine₂, drop-of-length-le s h, ex))

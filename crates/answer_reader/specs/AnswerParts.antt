@@ -1,12 +1,24 @@
 -- How the code walks through an answer: by places in its text. Cited by inner contracts only: it needs no belief.
 use Prim.Native.Nat.{ℕ}
+use mathlib.Core.Path.{_≡_}
 use mathlib.Core.List.{List}
-use mathlib.Core.Bool.{false, cond}
-use lib.ListN.{take, drop}
-use Rattle.answer_reader.specs.declared.read.Parsed.{Parsed}
+use mathlib.Core.Bool.{Bool, true, false, cond}
+use lib.Dec.{leb}
+use lib.ListN.{length, take, drop}
+use Rattle.texts.specs.declared.digits.Digits.{Digits}
+use Rattle.texts.specs.declared.digits.Digits.the-variants.{Value, Malformed}
+use Rattle.texts.specs.Digits.{digitsRead}
+use Rattle.dates.specs.Date.{emptyDate, dateRead}
+use Rattle.payments.specs.declared.Action.{Action}
+use Rattle.payments.specs.declared.Answer.{Answer}
+use Rattle.answer_reader.specs.declared.read.Place.{Place}
+use Rattle.answer_reader.specs.declared.read.Parts.{Parts}
+use Rattle.answer_reader.specs.declared.parts.Part.{Part}
+use Rattle.answer_reader.specs.declared.parts.Part.the-variants.{Code, Authcode, Date, Message}
+use Rattle.answer_reader.specs.declared.parts.Step.{Step}
 use Rattle.answer_reader.specs.declared.tags.Element.{Element}
 use Rattle.answer_reader.specs.declared.tags.Element.the-variants.{Absent, Broken, Held}
-use Rattle.answer_reader.specs.AnswerRead.{Found, NoTag, Unclosed, Content, Reading, Unreadable, SoFar, emptyAnswer}
+use Rattle.answer_reader.specs.AnswerRead.{Found, NoTag, Unclosed, Content, Reading, Unreadable, SoFar, withCode, withAuthcode, withDate, tagStep, partFound, partStep}
 
 -- an element by its places in the text s
 abbrev pub foundOf : List ℕ → Element → Found
@@ -14,10 +26,67 @@ foundOf s Absent = NoTag
 foundOf s Broken = Unclosed
 foundOf s (Held from size next) = Content (take size (drop from s)) (drop next s)
 
--- a reading: the answer so far and a cursor into the text s
-abbrev pub readingOf : List ℕ → Parsed → Reading
-readingOf s p = cond (p .ok) (SoFar (p .answer) (drop (p .at) s)) Unreadable
+-- ---- what an element gives
+abbrev pub noStep : Step
+noStep = record { ok = false; there = false; value = 0; from = 0; at = 0 }
 
--- what is held of a text that cannot be read
-abbrev pub unparsed : Parsed
-unparsed = record { ok = false; answer = emptyAnswer; at = 0 }
+abbrev pub absentStep : Bool → ℕ → Step
+absentStep ok at = record { ok = ok; there = false; value = 0; from = 0; at = at }
+
+abbrev pub numberStep : Digits → ℕ → Step
+numberStep Malformed at = noStep
+numberStep (Value v) at = record { ok = true; there = true; value = v; from = 0; at = at }
+
+abbrev pub dateStep : Bool → ℕ → ℕ → Step
+dateStep written from at = cond written (record { ok = true; there = true; value = 0; from = from; at = at }) noStep
+
+abbrev pub messageStep : ℕ → ℕ → Step
+messageStep size at = cond (leb size 512) (absentStep true at) noStep
+
+unfoldable pub filledStep : Part → List ℕ → ℕ → ℕ → Step
+filledStep Code c from at = numberStep (digitsRead 4 c) at
+filledStep Authcode c from at = numberStep (digitsRead 15 c) at
+filledStep Date c from at = dateStep ((dateRead c) .ok) from at
+filledStep Message c from at = messageStep (length c) at
+
+-- the date that begins at a place
+abbrev pub dateIn : List ℕ → Bool → ℕ → List ℕ
+dateIn s dated from = cond dated ((dateRead (take 19 (drop from s))) .date) emptyDate
+
+-- the answer x with what an element gives, and the reading
+abbrev pub heldBy : Part → List ℕ → Answer → Step → Answer
+heldBy Code s x r = withCode x (r .value)
+heldBy Authcode s x r = withAuthcode x (r .value)
+heldBy Date s x r = withDate x (dateIn s true (r .from))
+heldBy Message s x r = x
+
+unfoldable pub given : Part → List ℕ → Answer → Step → Reading
+given k s x r = cond (r .ok) (SoFar (cond (r .there) (heldBy k s x r) x) (drop (r .at) s)) Unreadable
+
+abbrev pub Unheld : Step → Type 0
+Unheld r = r .there ≡ false → r .value ≡ 0
+
+-- it is the definition's, whatever was read before it but for the code
+abbrev pub Takes : Part → Action → ℕ → List ℕ → ℕ → Element → Step → Type 0
+Takes k a code s at e r = (x : Answer) → x .code ≡ code → given k s x r ≡ partFound k a x (drop at s) (foundOf s e)
+
+abbrev pub Gives : Part → Action → ℕ → List ℕ → ℕ → Step → Type 0
+Gives k a code s at r = (x : Answer) → x .code ≡ code → given k s x r ≡ partStep k a (SoFar x (drop at s))
+
+-- ---- a tag that was passed
+unfoldable pub placed : List ℕ → Answer → Place → Reading
+placed s x r = cond (r .ok) (SoFar x (drop (r .at) s)) Unreadable
+
+abbrev pub Passes : List ℕ → ℕ → List ℕ → Place → Type 0
+Passes s at tag r = (x : Answer) → placed s x r ≡ tagStep tag (SoFar x (drop at s))
+
+-- ---- the elements together
+abbrev pub noParts : Parts
+noParts = record { ok = false; code = 0; authorized = false; authcode = 0; dated = false; from = 0; at = 0 }
+
+abbrev pub answerOf : List ℕ → Parts → Answer
+answerOf s p =
+    record { code = p .code; authorized = p .authorized; authcode = p .authcode; dated = p .dated; date = dateIn s (p .dated) (p .from) }
+
+unfoldable pub partsOf : List ℕ → Parts → Reading
+partsOf s p = cond (p .ok) (SoFar (answerOf s p) (drop (p .at) s)) Unreadable

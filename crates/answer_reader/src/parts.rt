@@ -1,18 +1,14 @@
 // The four elements of a response, under one rule.
-use crate::answer;
-use crate::answer::AnswerRead;
 use crate::tags;
 use crate::tags::Element;
 use dates::date;
-use dates::date::DateRead;
 use payments::Action;
-use payments::Answer;
 use texts::digits;
 use texts::digits::Digits;
 ghost use mathlib.Core.Path.{_≡_};
 ghost use lib.ListN.{drop};
-ghost use Rattle.answer_reader.specs.AnswerRead.{elementAt, nameOf, takesMore, mayStand, mayLackDate, mayLack, withCode, withAuthcode, numberHeld, dateHeld, messageHeld, filled};
-ghost use Rattle.answer_reader.specs.AnswerParts.{foundOf};
+ghost use Rattle.answer_reader.specs.AnswerRead.{elementAt, nameOf, takesMore, mayStand, mayLackDate, mayLack};
+ghost use Rattle.answer_reader.specs.AnswerParts.{foundOf, noStep, absentStep, numberStep, dateStep, messageStep, filledStep};
 
 // The most bytes of a message.
 const MESSAGE_MOST: usize = 512;
@@ -22,6 +18,41 @@ pub(crate) enum Part {
     Authcode,
     Date,
     Message,
+}
+
+// What an element gives: its number, or where its date begins, and where the text goes on; `ok` false where it cannot be read.
+pub(crate) struct Step {
+    pub ok: bool,
+    pub there: bool,
+    pub value: u64,
+    pub from: usize,
+    pub at: usize,
+}
+
+// An element that cannot be read.
+pub(crate) fn no_step() -> Step
+    ensures { λ r. ⌜ r ≡ noStep ⌝ }
+{
+    Step {
+        ok: false,
+        there: false,
+        value: 0,
+        from: 0,
+        at: 0,
+    }
+}
+
+// An element that is not there, or of which nothing is kept.
+pub(crate) fn absent(ok: bool, at: usize) -> Step
+    ensures { λ r. ⌜ r ≡ absentStep ok at ⌝ }
+{
+    Step {
+        ok,
+        there: false,
+        value: 0,
+        from: 0,
+        at,
+    }
 }
 
 // The element that stands at a place, if it is this one.
@@ -84,72 +115,61 @@ pub(crate) fn may_lack(k: Part, a: Action, code: u64) -> bool
     }
 }
 
-// An answer with a code, where it was read.
-fn with_code(x: Answer, d: Digits) -> AnswerRead
-    ensures { λ r. ⌜ r ≡ numberHeld (withCode x) d ⌝ }
+// A number, where it was read.
+fn held_number(d: Digits, at: usize) -> Step
+    ensures { λ r. ⌜ r ≡ numberStep d at ⌝ }
 {
     match d {
-        Digits::Value(v) => {
-            let mut answer = x;
-            answer.code = v;
-            AnswerRead { ok: true, answer }
-        }
-        Digits::Malformed => answer::unreadable(),
+        Digits::Value(v) => Step {
+            ok: true,
+            there: true,
+            value: v,
+            from: 0,
+            at,
+        },
+        Digits::Malformed => no_step(),
     }
 }
 
-// An answer with an authcode, where it was read.
-fn with_authcode(x: Answer, d: Digits) -> AnswerRead
-    ensures { λ r. ⌜ r ≡ numberHeld (withAuthcode x) d ⌝ }
+// A date that begins at `from`, where it is one.
+fn held_date(written: bool, from: usize, at: usize) -> Step
+    ensures { λ r. ⌜ r ≡ dateStep written from at ⌝ }
 {
-    match d {
-        Digits::Value(v) => {
-            let mut answer = x;
-            answer.authorized = true;
-            answer.authcode = v;
-            AnswerRead { ok: true, answer }
+    if written {
+        Step {
+            ok: true,
+            there: true,
+            value: 0,
+            from,
+            at,
         }
-        Digits::Malformed => answer::unreadable(),
-    }
-}
-
-// An answer with a date, where it was read.
-fn with_date(x: Answer, d: DateRead) -> AnswerRead
-    ensures { λ r. ⌜ r ≡ dateHeld x d ⌝ }
-{
-    if d.ok {
-        let date = d.date;
-        let mut answer = x;
-        answer.dated = true;
-        answer.date = date;
-        AnswerRead { ok: true, answer }
     } else {
-        answer::unreadable()
+        no_step()
     }
 }
 
-// An answer with a message of this size, of which nothing is kept.
-fn with_message(x: Answer, size: usize) -> AnswerRead
-    ensures { λ r. ⌜ r ≡ messageHeld x size ⌝ }
+// A message of this size, of which nothing is kept.
+fn held_message(size: usize, at: usize) -> Step
+    ensures { λ r. ⌜ r ≡ messageStep size at ⌝ }
 {
     if size <= MESSAGE_MOST {
-        AnswerRead {
-            ok: true,
-            answer: x,
-        }
+        absent(true, at)
     } else {
-        answer::unreadable()
+        no_step()
     }
 }
 
-// An answer with what an element holds.
-pub(crate) fn fill(k: Part, x: Answer, content: &[u8]) -> AnswerRead
-    ensures { λ r. ⌜ r ≡ filled k x (now (content .entry)) ⌝ }
+// What an element gives whose content begins at `from`; the text goes on at `at`.
+pub(crate) fn fill(k: Part, content: &[u8], from: usize, at: usize) -> Step
+    ensures { λ r. ⌜ r ≡ filledStep k (now (content .entry)) from at ⌝ }
 {
     match k {
-        Part::Code => with_code(x, digits::read_digits(content, 4)),
-        Part::Authcode => with_authcode(x, digits::read_digits(content, 15)),
-        Part::Date => with_date(x, date::read_date(content)),
-        Part::Message => with_message(x, content.len()),
+        Part::Code => held_number(digits::read_digits(content, 4), at),
+        Part::Authcode => held_number(digits::read_digits(content, 15), at),
+        Part::Date => {
+            let d = date::read_date(content);
+            held_date(d.ok, from, at)
+        }
+        Part::Message => held_message(content.len(), at),
     }
 }

@@ -3,134 +3,154 @@ use crate::answer;
 use crate::answer::AnswerRead;
 use crate::parts;
 use crate::parts::Part;
+use crate::parts::Step;
 use crate::tags;
 use crate::tags::Element;
+use dates::date;
 use payments::Action;
 use payments::Answer;
 use texts::scan;
 ghost use mathlib.Core.Path.{_≡_};
 ghost use lib.ListN.{drop};
-ghost use Rattle.answer_reader.specs.AnswerRead.{tagStep, partFound, partStep, openStep, partsStep, endStep, answerRead};
-ghost use Rattle.answer_reader.specs.AnswerParts.{foundOf, readingOf, unparsed};
+ghost use Rattle.answer_reader.specs.AnswerRead.{emptyAnswer, SoFar, openStep, partsStep, answerRead};
+ghost use Rattle.answer_reader.specs.AnswerParts.{Passes, Takes, Gives, Unheld, placed, noParts, partsOf, dateIn, answerOf};
 
-// An answer as far as it is read, and where the rest of its text begins.
-struct Parsed {
+// Where the text goes on behind a tag; `ok` false where it does not stand.
+struct Place {
     ok: bool,
-    answer: Answer,
     at: usize,
 }
 
-// What is held of a text that cannot be read.
-fn unparsed() -> Parsed
-    ensures { λ r. ⌜ r ≡ unparsed ⌝ }
+// What the elements give, a date by its place, and where the text goes on.
+struct Parts {
+    ok: bool,
+    code: u64,
+    authorized: bool,
+    authcode: u64,
+    dated: bool,
+    from: usize,
+    at: usize,
+}
+
+// Elements that cannot be read.
+fn no_parts() -> Parts
+    ensures { λ r. ⌜ r ≡ noParts ⌝ }
 {
-    let answer = answer::empty_answer();
-    Parsed {
+    Parts {
         ok: false,
-        answer,
+        code: 0,
+        authorized: false,
+        authcode: 0,
+        dated: false,
+        from: 0,
         at: 0,
     }
 }
 
 // A tag that must stand here, and the blanks behind it.
-fn tag_step(s: &[u8], tag: &[u8], p: Parsed) -> Parsed
-    ensures { λ r. ⌜ readingOf (now (s .entry)) r ≡ tagStep (now (tag .entry)) (readingOf (now (s .entry)) p) ⌝ }
+fn tag_at(s: &[u8], at: usize, tag: &[u8]) -> Place
+    ensures { λ r. ⌜ Passes (now (s .entry)) at (now (tag .entry)) r ⌝ }
 {
-    if p.ok {
-        let at = p.at;
-        if tags::starts_at(s, at, tag) {
-            let answer = p.answer;
-            let next = tags::skip_blanks(s, at + tag.len());
-            Parsed {
-                ok: true,
-                answer,
-                at: next,
-            }
-        } else {
-            unparsed()
+    if tags::starts_at(s, at, tag) {
+        Place {
+            ok: true,
+            at: tags::skip_blanks(s, at + tag.len()),
         }
     } else {
-        p
-    }
-}
-
-// The reading behind an element, from the answer x before it and the place it would stand at.
-fn take_part(k: Part, a: Action, s: &[u8], x: Answer, at: usize, e: Element) -> Parsed
-    ensures { λ r. ⌜ readingOf (now (s .entry)) r ≡ partFound k a x (drop at (now (s .entry))) (foundOf (now (s .entry)) e) ⌝ }
-{
-    match e {
-        Element::Absent => {
-            let ok = parts::may_lack(k, a, x.code);
-            Parsed { ok, answer: x, at }
-        }
-        Element::Broken => unparsed(),
-        Element::Held(from, size, next) => {
-            let r = parts::fill(k, x, scan::first_bytes(tags::rest(s, from), size));
-            let answer = r.answer;
-            Parsed {
-                ok: r.ok,
-                answer,
-                at: next,
-            }
-        }
-    }
-}
-
-// One element, where the action's answers may have it.
-fn part_step(k: Part, a: Action, s: &[u8], p: Parsed) -> Parsed
-    ensures { λ r. ⌜ readingOf (now (s .entry)) r ≡ partStep k a (readingOf (now (s .entry)) p) ⌝ }
-{
-    if p.ok {
-        if parts::may_stand(k, a) {
-            let at = p.at;
-            let x = p.answer;
-            let e = parts::part_at(k, s, at);
-            take_part(k, a, s, x, at, e)
-        } else {
-            p
-        }
-    } else {
-        p
+        Place { ok: false, at: 0 }
     }
 }
 
 // The XML line and the opening tag of the response.
-fn open_step(s: &[u8]) -> Parsed
-    ensures { λ r. ⌜ readingOf (now (s .entry)) r ≡ openStep (now (s .entry)) ⌝ }
+fn open_at(s: &[u8]) -> Place
+    ensures { λ r. ⌜ placed (now (s .entry)) emptyAnswer r ≡ openStep (now (s .entry)) ⌝ }
 {
-    let answer = answer::empty_answer();
-    let p = Parsed {
-        ok: true,
-        answer,
-        at: 0,
-    };
-    let q = tag_step(s, b"<?xml version=\"1.0\" encoding=\"windows-1251\"?>", p);
-    tag_step(s, b"<response>", q)
+    let p = tag_at(s, 0, b"<?xml version=\"1.0\" encoding=\"windows-1251\"?>");
+    if !p.ok {
+        return p;
+    }
+    tag_at(s, p.at, b"<response>")
+}
+
+// What an element gives that was sought at a place.
+fn take_part(k: Part, a: Action, code: u64, s: &[u8], at: usize, e: Element) -> Step
+    ensures { λ r. ⌜ Takes k a code (now (s .entry)) at e r × Unheld r ⌝ }
+{
+    match e {
+        Element::Absent => parts::absent(parts::may_lack(k, a, code), at),
+        Element::Broken => parts::no_step(),
+        Element::Held(from, size, next) => parts::fill(
+            k,
+            scan::first_bytes(tags::rest(s, from), size),
+            from,
+            next,
+        ),
+    }
+}
+
+// One element, where the action's answers may have it.
+fn part_step(k: Part, a: Action, code: u64, s: &[u8], at: usize) -> Step
+    ensures { λ r. ⌜ Gives k a code (now (s .entry)) at r × Unheld r ⌝ }
+{
+    if parts::may_stand(k, a) {
+        let e = parts::part_at(k, s, at);
+        take_part(k, a, code, s, at, e)
+    } else {
+        parts::absent(true, at)
+    }
 }
 
 // The elements of the response, one after another.
-fn parts_step(a: Action, s: &[u8], p: Parsed) -> Parsed
-    ensures { λ r. ⌜ readingOf (now (s .entry)) r ≡ partsStep a (readingOf (now (s .entry)) p) ⌝ }
+fn read_parts(a: Action, s: &[u8], at: usize) -> Parts
+    ensures { λ r. ⌜ partsOf (now (s .entry)) r ≡ partsStep a (SoFar emptyAnswer (drop at (now (s .entry)))) ⌝ }
 {
-    let coded = part_step(Part::Code, a, s, p);
-    let authorized = part_step(Part::Authcode, a, s, coded);
-    let dated = part_step(Part::Date, a, s, authorized);
-    part_step(Part::Message, a, s, dated)
+    let c = part_step(Part::Code, a, 0, s, at);
+    if !c.ok {
+        return no_parts();
+    }
+    let n = part_step(Part::Authcode, a, c.value, s, c.at);
+    if !n.ok {
+        return no_parts();
+    }
+    let d = part_step(Part::Date, a, c.value, s, n.at);
+    if !d.ok {
+        return no_parts();
+    }
+    let m = part_step(Part::Message, a, c.value, s, d.at);
+    Parts {
+        ok: m.ok,
+        code: c.value,
+        authorized: n.there,
+        authcode: n.value,
+        dated: d.there,
+        from: d.from,
+        at: m.at,
+    }
 }
 
-// The answer, where the text has ended.
-fn end_step(s: &[u8], p: Parsed) -> AnswerRead
-    ensures { λ r. ⌜ r ≡ endStep (readingOf (now (s .entry)) p) ⌝ }
+// The date that begins at a place of the text, none where the answer has none.
+fn date_in(s: &[u8], dated: bool, from: usize) -> [u8; 19]
+    ensures { λ r. ⌜ r ≡ dateIn (now (s .entry)) dated from ⌝ }
 {
-    if p.ok {
-        if s.len() <= p.at {
-            let answer = p.answer;
-            AnswerRead { ok: true, answer }
-        } else {
-            answer::unreadable()
-        }
+    if dated {
+        let d = date::read_date(scan::first_bytes(tags::rest(s, from), 19));
+        d.date
     } else {
-        answer::unreadable()
+        [0u8; 19]
+    }
+}
+
+// The answer of the elements.
+fn answer_of(s: &[u8], p: Parts) -> Answer
+    ensures { λ r. ⌜ r ≡ answerOf (now (s .entry)) p ⌝ }
+{
+    let date = date_in(s, p.dated, p.from);
+    Answer {
+        code: p.code,
+        authorized: p.authorized,
+        authcode: p.authcode,
+        dated: p.dated,
+        date,
     }
 }
 
@@ -138,8 +158,21 @@ fn end_step(s: &[u8], p: Parsed) -> AnswerRead
 pub fn read_answer(a: Action, s: &[u8]) -> AnswerRead
     ensures { λ r. ⌜ r ≡ answerRead a (now (s .entry)) ⌝ }
 {
-    let opened = open_step(s);
-    let filled = parts_step(a, s, opened);
-    let closed = tag_step(s, b"</response>", filled);
-    end_step(s, closed)
+    let opened = open_at(s);
+    if !opened.ok {
+        return answer::unreadable();
+    }
+    let p = read_parts(a, s, opened.at);
+    if !p.ok {
+        return answer::unreadable();
+    }
+    let closed = tag_at(s, p.at, b"</response>");
+    if !closed.ok {
+        return answer::unreadable();
+    }
+    if closed.at < s.len() {
+        return answer::unreadable();
+    }
+    let answer = answer_of(s, p);
+    AnswerRead { ok: true, answer }
 }

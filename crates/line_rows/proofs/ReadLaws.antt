@@ -1,11 +1,13 @@
 -- Laws of the lines of a text that are read into rows.
 use Prim.Native.Nat.{ℕ, zero, suc, _+_, _-_, _≤_, _<_}
 use native.Mathlib.Numerals.{add-one}
+use native.Mathlib.Nat.{zero-add}
 use native.Mathlib.Omega.{arith}
 use mathlib.Core.Path.{_≡_, refl, sym, ap, _∙_}
 use mathlib.Core.Logic.{_≢_}
-use mathlib.Core.Bool.{_&&_}
+use mathlib.Core.Bool.{Bool, true, false, cond, not, _&&_}
 use mathlib.Core.List.{List, [], _∷_, _++_, append-nil}
+use lib.Dec.{ltb, leb}
 use lib.ListN.{length, getD, take, drop, length-set, length-drop, drop-of-length-le}
 use lib.Seq.{drop-cons, drop-drop, append-snoc, getD-set-same, getD-set-other}
 use Rattle.texts.specs.declared.digits.Digits.{Digits}
@@ -15,7 +17,6 @@ use Rattle.dates.specs.declared.date.DateRead.{DateRead}
 use Rattle.fields.specs.Amount.{amountRead}
 use Rattle.fields.specs.Codes.{receiptRead, kindRead}
 use Rattle.fields.specs.Number.{numberRead}
-use Rattle.dates.specs.Date.{dateRead}
 use Rattle.texts.proofs.Tests.{cond-elim}
 use Rattle.fields.proofs.AmountLaws.{amount-within}
 use Rattle.texts.proofs.DigitLaws.{within-high}
@@ -25,8 +26,12 @@ use Rattle.lists.proofs.ColumnLaws.{tab-add}
 use Rattle.lines.specs.declared.line.Line.{Line}
 use Rattle.lines.specs.declared.line.LineRead.{LineRead}
 use Rattle.lines.specs.Line.{field, afterField, noLine, lineOf, lineRead}
-use Rattle.registry.specs.Registry.{lineEnd, splitLines, lineCount, heldLines, registryLines}
-use Rattle.registry.proofs.SplitLaws.{end-room, held-line, held-rest, count-line}
+use Rattle.days.specs.declared.calendar.Day.{Day}
+use Rattle.days.specs.Calendar.{onDay}
+use Rattle.dates.specs.Date.{dateRead, dateDay}
+use Rattle.registry.specs.Registry.{lineEnd, splitLines, lineCount, heldLines, registryLines, goodLines, rising, registryFault}
+use Rattle.registry.proofs.SplitLaws.{held-line}
+use Rattle.registry.proofs.CheckLaws.{line-left, behind, count-pass, good-pass, rise-pass, too-many, fault-rest, fault-line, fault-end}
 use Rattle.line_rows.specs.Lines.{LineRows, lineAt, lineNums, linesWith, linesOf, Read}
 
 -- ---- the amount of a line that was read
@@ -48,32 +53,11 @@ line-small l x e =
     (λ v q. omega (arith, within-high 1 999999999 v (amount-within (field s₃) v q))))
 
 -- ---- the line that begins at `at` and ends at e
-module _ (s : List ℕ) (at e : ℕ) (here : at < length s) (ends : e ≡ at + lineEnd (drop at s)) where
-  line-left : e < length s → lineEnd (drop at s) < length (drop at s)
-  line-left h = rw length-drop (omega arith)
-
-  behind : drop (lineEnd (drop at s) + 2) (drop at s) ≡ drop (e + 2) s
-  behind =
-      let n : at + (lineEnd (drop at s) + 2) ≡ e + 2 = omega arith in
-      drop-drop (lineEnd (drop at s) + 2) at s ∙ rw n
-
-  pub next-in : e < length s → e + 2 ≤ length s
-  next-in h =
-      let r = end-room (drop at s) (line-left h) in
-      let q : lineEnd (drop at s) + 2 ≤ length s - at = rw length-drop at r in
-      omega arith
-
-  count-behind : e < length s → lineCount (drop at s) ≡ suc (lineCount (drop (e + 2) s))
-  count-behind h = rw (← behind) (count-line (drop at s) (line-left h))
-
-  first-line : (x : LineRead) → x ≡ lineRead (take (lineEnd (drop at s)) (drop at s)) → e < length s
-      → registryLines (drop at s) ≡ x .line ∷ registryLines (drop (e + 2) s)
-  unfolding registryLines
-  first-line x read h = held-line (drop at s) (line-left h) ∙ rw (behind, ← read)
-
-  no-line-left : length s ≤ e → registryLines (drop at s) ≡ []
-  unfolding registryLines
-  no-line-left h = held-rest (drop at s) (rw length-drop (omega arith))
+first-line : (s : List ℕ) (at e : ℕ) → at < length s → e ≡ at + lineEnd (drop at s)
+    → (x : LineRead) → x ≡ lineRead (take (lineEnd (drop at s)) (drop at s)) → e < length s
+    → registryLines (drop at s) ≡ x .line ∷ registryLines (drop (e + 2) s)
+unfolding registryLines
+first-line s at e here ends x read h = held-line (drop at s) (line-left s at e here ends h) ∙ rw (behind s at e here ends, ← read)
 
 none-left : (s : List ℕ) (at : ℕ) → length s ≤ at → registryLines (drop at s) ≡ []
 unfolding registryLines heldLines splitLines
@@ -140,72 +124,89 @@ module _ (u : LineRows) (i : ℕ) (x : Line) (nums : i < length (u .nums)) (numb
             getD-set-same (u .dates) i (x .date) [] dates,
           )
 
--- ---- a loop that has read n lines, up to `at`
-pub record Reading (s : List ℕ) (u : LineRows) (n at : ℕ) : Type 0 where
+-- a refusal has no lines
+module _ (b : Bool) (r : ℕ) (e : r ≡ cond b 52 53) (z : r ≡ 0) where
+  fault-some : ⊥
+  fault-some = go b (sym e ∙ z)
+    where
+      go : (b : Bool) → _≡_ {A = ℕ} (cond b 52 53) 0 → ⊥
+      go true q = absurd (omega arith)
+      go false q = absurd (omega arith)
+
+  pub refused-lines : (u : LineRows) (n : ℕ) (s : List ℕ) → linesOf u n ≡ registryLines s
+  refused-lines u n s = absurd fault-some
+
+  pub refused-read : (u : LineRows) (n : ℕ) → Read u n
+  refused-read u n = absurd fault-some
+
+-- without a fault they are held
+pub lines-held : (f : ℕ) → f ≡ 0 → (u : LineRows) (n : ℕ) → (f ≡ 0 → Read u n) → Read u n
+lines-held f z u n read = read z
+
+-- ---- a loop that has read n lines, up to `at`; the last had the receipt `last`
+pub record Reading (day : Day) (s : List ℕ) (u : LineRows) (n at : ℕ) (rose : Bool) (last : ℕ) : Type 0 where
   pub lines : linesOf u n ++ registryLines (drop at s) ≡ registryLines s
-  pub few : n + lineCount (drop at s) ≤ 512
+  pub count : lineCount s ≡ n + lineCount (drop at s)
+  pub good : goodLines day (splitLines s) ≡ goodLines day (splitLines (drop at s))
+  pub rises : rising 0 (registryLines s) ≡ rose && rising last (registryLines (drop at s))
+  pub few : n ≤ 512
   pub nums : length (u .nums) ≡ 512
   pub numbers : length (u .numbers) ≡ 512
   pub dates : length (u .dates) ≡ 512
 
-pub reading-start : (s : List ℕ) (u : LineRows) → lineCount s ≤ 512 → 512 ≡ length (u .nums) → 512 ≡ length (u .numbers) → 512 ≡ length (u .dates) → Reading s u 0 0
+pub reading-start : (day : Day) (s : List ℕ) (u : LineRows) → 512 ≡ length (u .nums) → 512 ≡ length (u .numbers) → 512 ≡ length (u .dates) → Reading day s u 0 0 true 0
 unfolding linesOf tab
-reading-start s u few a b c = record { lines = refl; few = omega arith; nums = sym a; numbers = sym b; dates = sym c }
+reading-start day s u a b c =
+    record { lines = refl; count = sym (zero-add (lineCount s)); good = refl; rises = refl; few = omega arith; nums = sym a; numbers = sym b; dates = sym c }
 
-module _ (s : List ℕ) (u : LineRows) (n at : ℕ) (reading : Reading s u n at) where
-  all-read : registryLines (drop at s) ≡ [] → linesOf u n ≡ registryLines s
-  all-read e = sym (append-nil (linesOf u n)) ∙ rw (← e) (reading .lines)
+module _ (day : Day) (s : List ℕ) (u : LineRows) (n at : ℕ) (rose : Bool) (last : ℕ) (reading : Reading day s u n at rose last) where
+  -- ---- the end of the text
+  module _ (h : length s ≤ at) where
+    pub read-end : linesOf u n ≡ registryLines s
+    read-end = sym (append-nil (linesOf u n)) ∙ rw (← none-left s at h) (reading .lines)
 
-  whole-read : registryLines (drop at s) ≡ [] → Read u n
-  unfolding registryLines
-  whole-read e =
-      let few = reading .few in
-      let a = reading .nums in
-      let b = reading .numbers in
-      let c = reading .dates in
-      record { nums = omega arith; numbers = omega arith; dates = omega arith; few = omega arith; small = one }
-    where
-      one : (i : ℕ) → i < n → (lineAt u i) .amount < 1000000000
-      one i h =
-          let q : getD (registryLines s) i (lineAt u i) ≡ lineAt u i = ap (λ (xs : List Line). getD xs i (lineAt u i)) (sym (all-read e)) ∙ getD-lines u n i (lineAt u i) h in
-          let l : length (registryLines s) ≡ n = ap length (sym (all-read e)) ∙ length-lines u n in
-          rw q at (held-small (splitLines s) i (lineAt u i) (omega arith))
+    pub read-whole : Read u n
+    unfolding registryLines
+    read-whole =
+        let few = reading .few in
+        let a = reading .nums in
+        let b = reading .numbers in
+        let c = reading .dates in
+        record { nums = omega arith; numbers = omega arith; dates = omega arith; few = omega arith; small = one }
+      where
+        one : (i : ℕ) → i < n → (lineAt u i) .amount < 1000000000
+        one i h =
+            let q : getD (registryLines s) i (lineAt u i) ≡ lineAt u i = ap (λ (xs : List Line). getD xs i (lineAt u i)) (sym read-end) ∙ getD-lines u n i (lineAt u i) h in
+            let l : length (registryLines s) ≡ n = ap length (sym read-end) ∙ length-lines u n in
+            rw q at (held-small (splitLines s) i (lineAt u i) (omega arith))
 
-  pub read-end : length s ≤ at → linesOf u n ≡ registryLines s
-  read-end h = all-read (none-left s at h)
+    pub read-fault : (r : ℕ) → r ≡ cond rose 0 54 → r ≡ registryFault day s
+    read-fault = fault-end day s n at (reading .count) (reading .good) (reading .few) rose last (reading .rises) h
 
-  pub read-whole : length s ≤ at → Read u n
-  read-whole h = whole-read (none-left s at h)
+  pub full : 512 ≤ n → at < length s → (r : ℕ) → r ≡ cond (leb (n + lineCount (drop at s)) 512) 52 53 → r ≡ registryFault day s
+  full = too-many day s n at (reading .count)
 
   module _ (e : ℕ) (here : at < length s) (ends : e ≡ at + lineEnd (drop at s)) where
-    pub rest-end : length s ≤ e → linesOf u n ≡ registryLines s
-    rest-end h = all-read (no-line-left s at e here ends h)
+    pub rest-fault : length s ≤ e → (r : ℕ) → r ≡ cond (leb (n + lineCount (drop at s)) 512) 52 53 → r ≡ registryFault day s
+    rest-fault = fault-rest day s n at (reading .count) (reading .good) e here ends
 
-    pub rest-whole : length s ≤ e → Read u n
-    rest-whole h = whole-read (no-line-left s at e here ends h)
+    module _ (h : e < length s) (x : LineRead) (read : x ≡ lineRead (take (lineEnd (drop at s)) (drop at s))) (t : Bool) (test : t ≡ (x .ok) && onDay day (dateDay (x .line .date))) where
+      pub line-fault : not t ≡ true → (r : ℕ) → r ≡ cond (leb (n + lineCount (drop at s)) 512) 52 53 → r ≡ registryFault day s
+      line-fault = fault-line day s n at (reading .count) (reading .good) e here ends x read t test h
 
-    module _ (h : e < length s) where
-      pub place-nums : n < length (u .nums)
-      place-nums = omega (arith, count-behind s at e here ends h, reading .few, reading .nums)
-
-      pub place-numbers : n < length (u .numbers)
-      place-numbers = omega (arith, count-behind s at e here ends h, reading .few, reading .numbers)
-
-      pub place-dates : n < length (u .dates)
-      place-dates = omega (arith, count-behind s at e here ends h, reading .few, reading .dates)
-
-      pub place-few : n + 1 ≤ 512
-      place-few = omega (arith, count-behind s at e here ends h, reading .few)
-
-      pub reading-on : (x : LineRead) → x ≡ lineRead (take (lineEnd (drop at s)) (drop at s)) → (v : LineRows) → v ≡ linesWith u n (x .line) → Reading s v (n + 1) (e + 2)
-      reading-on x read v ev =
+      pub reading-on : not t ≡ false → n < 512 → (v : LineRows) → v ≡ linesWith u n (x .line) → (q : Bool) → q ≡ rose && ltb last (x .line .receipt)
+          → Reading day s v (n + 1) (e + 2) q (x .line .receipt)
+      reading-on good room v ev q eq =
           let y : Line = x .line in
           rw ev
           (record {
-            lines = ap (λ (xs : List Line). xs ++ registryLines (drop (e + 2) s)) (lines-more u n y place-nums place-numbers place-dates)
+            lines = ap (λ (xs : List Line). xs ++ registryLines (drop (e + 2) s)) (lines-more u n y (omega (arith, reading .nums)) (omega (arith, reading .numbers)) (omega (arith, reading .dates)))
                 ∙ append-snoc (linesOf u n) y (registryLines (drop (e + 2) s))
                 ∙ ap (λ (xs : List Line). linesOf u n ++ xs) (sym (first-line s at e here ends x read h)) ∙ reading .lines;
-            few = omega (arith, count-behind s at e here ends h, reading .few);
+            count = count-pass s at e here ends n (reading .count) h;
+            good = good-pass s at e here ends day (reading .good) x read t test h good;
+            rises = rise-pass s at e here ends rose last (reading .rises) x read h q eq;
+            few = omega arith;
             nums = length-set (u .nums) n (lineNums y) ∙ reading .nums;
             numbers = length-set (u .numbers) n (y .number .bytes) ∙ reading .numbers;
             dates = length-set (u .dates) n (y .date) ∙ reading .dates;

@@ -1,12 +1,21 @@
 // The lines of a registry, read from its text once and held in rows.
+use days::calendar::Day;
 use fields::number::Number;
 use lines::line::Line;
 use registry::text;
 ghost use mathlib.Core.Path.{_≡_};
-ghost use Prim.Native.Nat.{_<_, _≤_};
-ghost use lib.ListN.{length};
-ghost use Rattle.registry.specs.Registry.{lineCount, registryLines};
+ghost use Prim.Native.Nat.{_+_, _<_, _≤_};
+ghost use mathlib.Core.Bool.{cond};
+ghost use lib.Dec.{leb};
+ghost use lib.ListN.{length, drop};
+ghost use Rattle.registry.specs.Registry.{lineCount, registryFault, registryLines};
 ghost use Rattle.line_rows.specs.Lines.{lineFrom, lineAt, linesWith, linesOf, Read, linesBefore, linesAfter};
+
+// How many lines were read, with fault 0; or the fault of the text, 53, 52 or 54.
+pub struct LinesRead {
+    pub fault: u64,
+    pub count: usize,
+}
 
 // The numbers of the 512 lines that a registry may have, none read yet.
 pub fn empty_nums() -> [[u64; 4]; 512]
@@ -78,29 +87,53 @@ fn put_line(
     dates[i] = date;
 }
 
-// Reads the lines of a text, and tells how many.
-pub fn read_lines(
+// The fault of a text that has too many lines or a bad one, n of them before the cursor.
+fn refuse(s: &[u8], at: usize, n: usize) -> LinesRead
+    requires { ⌜ n ≤ 512 ⌝ }
+    ensures { λ r. ⌜ r .fault ≡ cond (leb (n + lineCount (drop at (now (s .entry)))) 512) 52 53 ⌝ }
+{
+    let fault = text::fault_behind(s, at, n);
+    LinesRead { fault, count: 0 }
+}
+
+// Reads the registry of a day in one pass; its lines are held where it has no fault.
+pub fn read_registry(
+    day: Day,
     s: &[u8],
     nums: &mut [[u64; 4]],
     numbers: &mut [[u8; 30]],
     dates: &mut [[u8; 19]],
-) -> usize
-    requires { ⌜ (lineCount (now s) ≤ 512) × (512 ≡ length (now nums)) × (512 ≡ length (now numbers)) × (512 ≡ length (now dates)) ⌝ }
-    ensures { λ n. ⌜ linesOf (linesAfter nums numbers dates) n ≡ registryLines (now (s .entry)) ⌝ }
-    ensures { λ n. ⌜ Read (linesAfter nums numbers dates) n ⌝ }
+) -> LinesRead
+    requires { ⌜ (512 ≡ length (now nums)) × (512 ≡ length (now numbers)) × (512 ≡ length (now dates)) ⌝ }
+    ensures { λ r. ⌜ r .fault ≡ registryFault day (now (s .entry)) ⌝ }
+    ensures { λ r. ⌜ (r .fault ≡ 0 → linesOf (linesAfter nums numbers dates) (r .count) ≡ registryLines (now (s .entry))) ⌝ }
+    ensures { λ r. ⌜ (r .fault ≡ 0 → Read (linesAfter nums numbers dates) (r .count)) ⌝ }
 {
+    let mut rose = true;
+    let mut last: u64 = 0;
     let mut n: usize = 0;
     let mut at: usize = 0;
     while at < s.len() {
+        if text::LINES_MOST <= n {
+            return refuse(s, at, n);
+        }
         let e = text::end_of_line(s, at);
         if s.len() <= e {
-            return n;
+            return refuse(s, at, n);
         }
-        let read = text::line_at(s, at);
+        let read = text::line_to(s, at, e);
+        if !text::is_good(day, read) {
+            return refuse(s, at, n);
+        }
         let x = read.line;
         put_line(nums, numbers, dates, n, x);
+        rose = text::still_rise(rose, last, x.receipt);
+        last = x.receipt;
         n += 1;
         at = e + 2;
     }
-    n
+    LinesRead {
+        fault: text::fault_of(rose),
+        count: n,
+    }
 }

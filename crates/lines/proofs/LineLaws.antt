@@ -1,5 +1,12 @@
 -- Laws of a line's fields, at each way out of its reader and of the test of a line.
-use Prim.Native.Nat.{ℕ, _-_}
+use Prim.Native.Nat.{ℕ, _+_, _-_, _*_, _^_, _≤_, _<_}
+use native.Mathlib.Numerals.{add-one}
+use native.Mathlib.Omega.{arith}
+use mir.Syntax.{w64}
+use mir.Val.{Fits}
+use lib.ListN.{length, take, drop}
+use Rattle.texts.specs.Lists.{find}
+use Rattle.texts.proofs.ScanLaws.{find-le}
 use mathlib.Core.Path.{_≡_, _∙_}
 use mathlib.Core.List.{List}
 use mathlib.Core.Bool.{Bool, true, false, not, and-false}
@@ -41,6 +48,17 @@ module _ (n : NumberRead) (k : Digits) (d : DateRead) (a r : Digits) where
   pub line-good : (v : ℕ) → k ≡ Value v → (w : ℕ) → a ≡ Value w → (u : ℕ) → r ≡ Value u → n .ok ≡ true → d .ok ≡ true
       → record { ok = true; line = record { number = n .number; kind = v; date = d .date; amount = w; receipt = u } } ≡ lineOf n k d a r
   line-good v ek w ea u er en ed = rw (ek, ea, er, en, ed)
+
+-- the first 09 is at p
+module _ (s t : List ℕ) (p : ℕ) where
+  pub field-at : t ≡ take p s → p ≡ find 9 s → t ≡ field s
+  field-at e f = e ∙ rw f
+
+  pub after-at : t ≡ drop (p + 1) s → p ≡ find 9 s → t ≡ afterField s
+  after-at e f = e ∙ rw (f, add-one)
+
+pub behind-fits : (s : List ℕ) (p : ℕ) → p ≡ find 9 s → length s * 1 < 2 ^ 63 → Fits w64 (p + 1)
+behind-fits s p e h = let l : p ≤ length s = rw e (find-le 9 s) in omega arith
 
 pub line-with : (n : NumberRead) (k : Digits) (s s₁ f f₁ f₂ : List ℕ) (d : DateRead) (a r : Digits) (x : LineRead) → f ≡ field s → d ≡ dateRead f
     → s₁ ≡ afterField s → f₁ ≡ field s₁ → a ≡ amountRead f₁ → f₂ ≡ afterField s₁ → r ≡ receiptRead f₂ → x ≡ lineOf n k d a r → x ≡ lineWith n k s

@@ -88,20 +88,24 @@ pub(crate) fn line_of(n: NumberRead, k: Digits, d: DateRead, a: Digits, r: Digit
 pub(crate) fn line_with(n: NumberRead, k: Digits, s: &[u8]) -> LineRead
     ensures { λ x. ⌜ x ≡ lineWith n k (now (s .entry)) ⌝ }
 {
-    let d = date::read_date(scan::before_byte(s, b'\t'));
-    let s1 = scan::after_byte(s, b'\t');
-    let a = amount::read_amount(scan::before_byte(s1, b'\t'));
-    line_of(n, k, d, a, codes::read_receipt(scan::after_byte(s1, b'\t')))
+    let p = scan::find_byte(s, b'\t');
+    let d = date::read_date(scan::first_bytes(s, p));
+    let s1 = scan::bytes_from(s, p + 1);
+    let q = scan::find_byte(s1, b'\t');
+    let a = amount::read_amount(scan::first_bytes(s1, q));
+    line_of(n, k, d, a, codes::read_receipt(scan::bytes_from(s1, q + 1)))
 }
 
 // A line, without its end.
 pub fn read_line(s: &[u8]) -> LineRead
     ensures { λ r. ⌜ r ≡ lineRead (now (s .entry)) ⌝ }
 {
-    let n = number::read_number(scan::before_byte(s, b'\t'));
-    let s1 = scan::after_byte(s, b'\t');
-    let k = codes::read_kind(scan::before_byte(s1, b'\t'));
-    line_with(n, k, scan::after_byte(s1, b'\t'))
+    let p = scan::find_byte(s, b'\t');
+    let n = number::read_number(scan::first_bytes(s, p));
+    let s1 = scan::bytes_from(s, p + 1);
+    let q = scan::find_byte(s1, b'\t');
+    let k = codes::read_kind(scan::first_bytes(s1, q));
+    line_with(n, k, scan::bytes_from(s1, q + 1))
 }
 
 impl Line {

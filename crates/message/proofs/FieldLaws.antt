@@ -44,20 +44,20 @@ decoded-least (b ∷ (h ∷ (l ∷ s))) =
     (λ _. omega (arith, decoded-least (h ∷ (l ∷ s))))
 
 -- ---- a field by a reader that takes no long text and no empty one
-present-is : (x : Text) → not (x .present) ≡ false → textSlot x ≡ Holds (take (x .len) (x .bytes))
+present-is : (x : Text) (d : List ℕ) → not (x .present) ≡ false → textSlot x d ≡ Holds (take (x .len) d)
 unfolding textSlot
-present-is x h = rw (not-false (x .present) h)
+present-is x d h = rw (not-false (x .present) h)
 
-absent-is : (x : Text) → not (x .present) ≡ true → textSlot x ≡ Absent
+absent-is : (x : Text) (d : List ℕ) → not (x .present) ≡ true → textSlot x d ≡ Absent
 unfolding textSlot
-absent-is x h = rw (not-true (x .present) h)
+absent-is x d h = rw (not-true (x .present) h)
 
 module _ {A : Type 0} (absent : A) (read : List ℕ → A) where
-  pub held-absent : (k : Slot) (x : Text) → textSlot x ≡ clippedSlot k → not (x .present) ≡ true → (r : A) → r ≡ absent → r ≡ held absent read k
+  pub held-absent : (k : Slot) (x : Text) (d : List ℕ) → textSlot x d ≡ clippedSlot k → not (x .present) ≡ true → (r : A) → r ≡ absent → r ≡ held absent read k
   unfolding held
-  held-absent Absent x e h r q = q
-  held-absent (Holds v) x e h r q =
-      let i : textSlot x ≡ Absent = absent-is x h in
+  held-absent Absent x d e h r q = q
+  held-absent (Holds v) x d e h r q =
+      let i : textSlot x d ≡ Absent = absent-is x d h in
       let z : _≡_ {A = ℕ} 0 1 = cc in absurd (omega arith)
 
   module _ (none : (w : List ℕ) → 32 < length w → read w ≡ read []) where
@@ -70,14 +70,14 @@ module _ {A : Type 0} (absent : A) (read : List ℕ → A) where
             let l : 96 < length v = leb-false (length v) 96 t in
             sym (none (decoded v) (omega (arith, decoded-least v)))
 
-    pub held-read : (k : Slot) (x : Text) → textSlot x ≡ clippedSlot k → not (x .present) ≡ false → (b : List ℕ) → b ≡ take (x .len) (x .bytes) → (r : A) → r ≡ read b → r ≡ held absent read k
+    pub held-read : (k : Slot) (x : Text) (d : List ℕ) → textSlot x d ≡ clippedSlot k → not (x .present) ≡ false → (b : List ℕ) → b ≡ take (x .len) d → (r : A) → r ≡ read b → r ≡ held absent read k
     unfolding held
-    held-read Absent x e h b eb r q =
-        let i : textSlot x ≡ Holds (take (x .len) (x .bytes)) = present-is x h in
+    held-read Absent x d e h b eb r q =
+        let i : textSlot x d ≡ Holds (take (x .len) d) = present-is x d h in
         let z : _≡_ {A = ℕ} 0 1 = cc in absurd (omega arith)
-    held-read (Holds v) x e h b eb r q =
-        let i : textSlot x ≡ Holds (take (x .len) (x .bytes)) = present-is x h in
-        let z : take (x .len) (x .bytes) ≡ clipped v = cc in
+    held-read (Holds v) x d e h b eb r q =
+        let i : textSlot x d ≡ Holds (take (x .len) d) = present-is x d h in
+        let z : take (x .len) d ≡ clipped v = cc in
         q ∙ rw (eb, z) (clipped-same v)
 
 -- ---- the same for a field that the action may lack
@@ -90,12 +90,12 @@ module _ {A : Type 0} (used : Bool) (fixed absent : A) (read : List ℕ → A) (
   unfolding fieldOf
   has-it h k r q = rw (← is, not-false u h) q
 
-  pub field-absent : not u ≡ false → (k : Slot) (x : Text) → textSlot x ≡ clippedSlot k → not (x .present) ≡ true → (r : A) → r ≡ absent → r ≡ fieldOf used fixed absent read k
-  field-absent h k x e p r q = has-it h k r (held-absent absent read k x e p r q)
+  pub field-absent : not u ≡ false → (k : Slot) (x : Text) (d : List ℕ) → textSlot x d ≡ clippedSlot k → not (x .present) ≡ true → (r : A) → r ≡ absent → r ≡ fieldOf used fixed absent read k
+  field-absent h k x d e p r q = has-it h k r (held-absent absent read k x d e p r q)
 
-  pub field-read : ((w : List ℕ) → 32 < length w → read w ≡ read []) → not u ≡ false → (k : Slot) (x : Text) → textSlot x ≡ clippedSlot k → not (x .present) ≡ false
-      → (b : List ℕ) → b ≡ take (x .len) (x .bytes) → (r : A) → r ≡ read b → r ≡ fieldOf used fixed absent read k
-  field-read none h k x e p b eb r q = has-it h k r (held-read absent read none k x e p b eb r q)
+  pub field-read : ((w : List ℕ) → 32 < length w → read w ≡ read []) → not u ≡ false → (k : Slot) (x : Text) (d : List ℕ) → textSlot x d ≡ clippedSlot k → not (x .present) ≡ false
+      → (b : List ℕ) → b ≡ take (x .len) d → (r : A) → r ≡ read b → r ≡ fieldOf used fixed absent read k
+  field-read none h k x d e p b eb r q = has-it h k r (held-read absent read none k x d e p b eb r q)
 
 -- ---- no reader takes more than 32 bytes
 digits-long : (most : ℕ) → most ≤ 32 → (w : List ℕ) → 32 < length w → digitsRead most w ≡ Malformed

@@ -77,13 +77,12 @@ pub(crate) fn refuse(fault: u64, a: Action) -> RequestRead
 pub(crate) fn action_field(s: &[u8], t: Slots) -> ActionRead
     ensures { λ r. ⌜ r ≡ held Unknown actionOf (getD (slotsIn (now (s .entry)) t) 0 Absent) ⌝ }
 {
-    let x = slots::text_of(s, t, action::ACTION);
+    let mut bytes = [0u8; 96];
+    let x = slots::text_of(s, t, action::ACTION, &mut bytes);
     if !x.present {
         return ActionRead::Unknown;
     }
-    let n = x.len;
-    let b = x.bytes;
-    action::read_action(scan::first_bytes(&b, n))
+    action::read_action(scan::first_bytes(&bytes, x.len))
 }
 
 // The value that one of the four digit readers makes of bytes.
@@ -106,13 +105,12 @@ fn digits_field(reader: Reader, used: bool, absent: Digits, s: &[u8], t: Slots, 
     if !used {
         return Digits::Value(0);
     }
-    let x = slots::text_of(s, t, k);
+    let mut bytes = [0u8; 96];
+    let x = slots::text_of(s, t, k, &mut bytes);
     if !x.present {
         return absent;
     }
-    let n = x.len;
-    let b = x.bytes;
-    read_by(reader, scan::first_bytes(&b, n))
+    read_by(reader, scan::first_bytes(&bytes, x.len))
 }
 
 fn receipt_field(a: Action, s: &[u8], t: Slots) -> Digits
@@ -180,13 +178,12 @@ pub(crate) fn number_field(a: Action, s: &[u8], t: Slots) -> NumberRead
             },
         };
     }
-    let x = slots::text_of(s, t, action::NUMBER);
+    let mut bytes = [0u8; 96];
+    let x = slots::text_of(s, t, action::NUMBER, &mut bytes);
     if !x.present {
         return number::no_number();
     }
-    let n = x.len;
-    let b = x.bytes;
-    number::read_number(scan::first_bytes(&b, n))
+    number::read_number(scan::first_bytes(&bytes, x.len))
 }
 
 // The date, zeros where the action lacks it.
@@ -199,13 +196,12 @@ pub(crate) fn date_field(a: Action, s: &[u8], t: Slots) -> DateRead
             date: [0u8; 19],
         };
     }
-    let x = slots::text_of(s, t, action::DATE);
+    let mut bytes = [0u8; 96];
+    let x = slots::text_of(s, t, action::DATE, &mut bytes);
     if !x.present {
         return date::no_date();
     }
-    let n = x.len;
-    let b = x.bytes;
-    date::read_date(scan::first_bytes(&b, n))
+    date::read_date(scan::first_bytes(&bytes, x.len))
 }
 
 // What an action asks once receipt, number and type are read, or the first fault of amount, date and reason.

@@ -20,9 +20,10 @@ use Rattle.coding.proofs.ParamLaws.{split-first, split-last}
 use Rattle.parameters.specs.declared.slots.Slots.{Slots}
 use Rattle.parameters.specs.declared.slots.Scan.{Scan}
 use Rattle.parameters.specs.declared.slots.Text.{Text}
+use Rattle.parameters.specs.declared.slots.Piece.{Piece}
 use Rattle.parameters.specs.Names.{nameIndex}
 use Rattle.parameters.specs.Slots.{Slot, Absent, Holds, Gathered, Broken, Values, place, addPiece, follow, gatherFrom, noSlots, gathered}
-use Rattle.parameters.specs.SlotWalk.{slotAt, slotsOf, slotsIn, scanned, emptySlots, brokenScan, placed, clippedSlot, textSlot}
+use Rattle.parameters.specs.SlotWalk.{slotAt, slotsOf, slotsIn, scanned, emptySlots, brokenScan, placed, nameless, stored, Adds, clippedSlot, textSlot}
 
 -- ---- a part of a text
 module _ (s : List ℕ) (from to : ℕ) where
@@ -42,20 +43,6 @@ drop-take zero m l = let z : m - 0 ≡ m = omega arith in rw z
 drop-take (suc n) zero l = let z : zero - suc n ≡ 0 = omega arith in rw z
 drop-take (suc n) (suc m) [] = sym (take-nil (suc m - suc n))
 drop-take (suc n) (suc m) (x ∷ l) = let z : suc m - suc n ≡ m - n = omega arith in drop-take n m l ∙ rw z
-
--- ---- one slot stored
-module _ (t : Slots) (k from to : ℕ) where
-  pub place-unknown : (r : Scan) → r ≡ record { ok = true; slots = t } → 7 ≤ k → r ≡ placed t k from to
-  unfolding placed
-  place-unknown r q h = q ∙ simp (le-ltb _ _ h)
-
-  pub place-twice : (r : Scan) → r ≡ brokenScan → k < 7 → (getD (t .to) k 0 ≡ 0 → ⊥) → r ≡ placed t k from to
-  unfolding placed
-  place-twice r q h n = q ∙ simp (lt-ltb _ _ h, ne-eqb _ _ n)
-
-  pub place-new : (r : Scan) → r ≡ record { ok = true; slots = record { from = set (t .from) k from; to = set (t .to) k to } } → k < 7 → getD (t .to) k 0 ≡ 0 → r ≡ placed t k from to
-  unfolding placed
-  place-new r q h e = q ∙ simp (lt-ltb _ _ h, eq-eqb _ _ e)
 
 -- ---- the code's slots and the definition's
 module _ (s : List ℕ) where
@@ -123,9 +110,10 @@ good-is : (s : List ℕ) (t : Slots) (r : Scan) → r ≡ record { ok = true; sl
 unfolding scanned
 good-is s t r e = rw e
 
-module _ (s : List ℕ) (t : Slots) (at end : ℕ) (p : List ℕ) (is : p ≡ take (end - at) (drop at s)) where
-  pub piece-empty : (r : Scan) → r ≡ record { ok = true; slots = t } → length p ≡ 0 → scanned s r ≡ addPiece (slotsIn s t) (take (end - at) (drop at s))
-  piece-empty r e l = good-is s t r e ∙ rw (← is) (go p l)
+module _ (s : List ℕ) (at end : ℕ) (p : List ℕ) (is : p ≡ take (end - at) (drop at s)) where
+  pub piece-empty : (r : Piece) → r ≡ nameless true → length p ≡ 0 → Adds s at end r
+  unfolding stored placed
+  piece-empty r e l t a b = rw e (good-is s t _ refl ∙ rw (← is) (go p l))
     where
       go : (p : List ℕ) → length p ≡ 0 → Values (slotsIn s t) ≡ addPiece (slotsIn s t) p
       go [] l = unfold addPiece in refl
@@ -135,8 +123,9 @@ module _ (s : List ℕ) (t : Slots) (at end : ℕ) (p : List ℕ) (is : p ≡ ta
     pub name-size : q < length p → q ≡ length (take q p)
     name-size h = sym (length-take-le q p (omega arith))
 
-    pub piece-alone : (r : Scan) → r ≡ brokenScan → length p ≤ q → scanned s r ≡ addPiece (slotsIn s t) (take (end - at) (drop at s))
-    piece-alone r e h = broken-is s r e ∙ rw (← is, add-some (slotsIn s t) p some) (rw (← found, le-ltb _ _ h))
+    pub piece-alone : (r : Piece) → r ≡ nameless false → length p ≤ q → Adds s at end r
+    unfolding stored
+    piece-alone r e h t a b = rw e (broken-is s _ refl ∙ rw (← is, add-some (slotsIn s t) p some) (rw (← found, le-ltb _ _ h)))
 
     module _ (inside : q < length p) (w : Bool) (coded : w ≡ wellCoded (take (length p - (q + 1)) (drop (q + 1) p))) where
       value-is : take (length p - (q + 1)) (drop (q + 1) p) ≡ valueOf p
@@ -149,15 +138,16 @@ module _ (s : List ℕ) (t : Slots) (at end : ℕ) (p : List ℕ) (is : p ≡ ta
           let h : hasValue p ≡ true = rw (← found) (lt-ltb _ _ inside) in
           rw h (sym (ap wellCoded value-is) ∙ sym coded)
 
-      pub piece-bad : (r : Scan) → r ≡ brokenScan → w ≡ false → scanned s r ≡ addPiece (slotsIn s t) (take (end - at) (drop at s))
-      piece-bad r e b = broken-is s r e ∙ rw (← is, add-some (slotsIn s t) p some, whether, b)
+      pub piece-bad : (r : Piece) → r ≡ nameless false → w ≡ false → Adds s at end r
+      unfolding stored
+      piece-bad r e g t a b = rw e (broken-is s _ refl ∙ rw (← is, add-some (slotsIn s t) p some, whether, g))
 
       pub place-fits : end ≤ length s → length s < 2 ^ 64 → Fits w64 (at + q + 1)
       place-fits h l = let a : length p ≤ end - at = rw is (simp length-take (omega arith)) in omega arith
 
-      pub piece-placed : length (t .from) ≡ 7 → length (t .to) ≡ 7 → (k : ℕ) → k ≡ nameIndex (take q p) → (r : Scan) → r ≡ placed t k (at + q + 1) end → w ≡ true
-          → scanned s r ≡ addPiece (slotsIn s t) (take (end - at) (drop at s))
-      piece-placed a b k ek r e g =
+      pub piece-placed : (k : ℕ) → k ≡ nameIndex (take q p) → (r : Piece) → r ≡ record { ok = true; place = k; from = at + q + 1 } → w ≡ true → Adds s at end r
+      unfolding stored
+      piece-placed k ek r e g t a b =
           let n : length p ≤ end - at = rw is (simp length-take (omega arith)) in
           let some-end : 0 < end = omega arith in
           let v : valueOf p ≡ take (end - (at + q + 1)) (drop (at + q + 1) s) = rw (← found, ← add-one) there in
@@ -179,14 +169,6 @@ module _ (s : List ℕ) where
   pub gather-start : (t : Slots) → t ≡ emptySlots → gathered s ≡ gatherFrom (slotsIn s t) (pieces (drop 0 s))
   unfolding gathered slotsOf slotAt
   gather-start t e = rw e
-
-  ok-is : (r : Scan) → r .ok ≡ true → scanned s r ≡ Values (slotsIn s (r .slots))
-  unfolding scanned
-  ok-is r e = rw e
-
-  not-ok : (r : Scan) → r .ok ≡ false → scanned s r ≡ Broken
-  unfolding scanned
-  not-ok r e = rw e
 
   -- the piece that begins at a place, and what it makes of the rest
   module _ (t : List Slot) (at e : ℕ) (inside : at < length s) (is : e ≡ find 38 (take (length s - at) (drop at s))) where
@@ -223,16 +205,35 @@ module _ (s : List ℕ) where
             ends Broken = refl
             ends (Values u) = sym (no-pieces u)
 
-  module _ (r : Scan) (o : Slots) (at e : ℕ) (added : scanned s r ≡ addPiece (slotsIn s o) (take (at + e - at) (drop at s)))
-      (so-far : gathered s ≡ gatherFrom (slotsIn s o) (pieces (drop at s))) (inside : at < length s) (is : e ≡ find 38 (take (length s - at) (drop at s))) where
-    step-is : gathered s ≡ follow (scanned s r) (λ u. gatherFrom u (pieces (drop (at + e + 1) s)))
-    step-is = so-far ∙ gather-piece (slotsIn s o) at e inside is ∙ rw (← added)
+  -- a piece that ends at `end` is stored into t
+  module _ (p : Piece) (at e end : ℕ) (ends : end ≡ at + e) (adds : Adds s at end p) (t : Slots) (sizes : length (t .from) ≡ 7) (sizes′ : length (t .to) ≡ 7)
+      (so-far : gathered s ≡ gatherFrom (slotsIn s t) (pieces (drop at s))) (inside : at < length s) (is : e ≡ find 38 (take (length s - at) (drop at s))) where
+    after : gathered s ≡ follow (scanned s (stored t p end)) (λ u. gatherFrom u (pieces (drop (end + 1) s)))
+    after = so-far ∙ gather-piece (slotsIn s t) at e inside is ∙ rw (← ends, adds t sizes sizes′)
 
-    pub gather-step : not (r .ok) ≡ false → gathered s ≡ gatherFrom (slotsIn s (r .slots)) (pieces (drop (at + e + 1) s))
-    gather-step h = step-is ∙ rw (ok-is r (not-false (r .ok) h))
+    breaks : stored t p end ≡ brokenScan → (b : Scan) → b ≡ brokenScan → scanned s b ≡ gathered s
+    breaks e b q = broken-is s b q ∙ sym (after ∙ rw (e, broken-is s brokenScan refl))
 
-    pub gather-broken : not (r .ok) ≡ true → (b : Scan) → b ≡ brokenScan → scanned s b ≡ gathered s
-    gather-broken h b q = broken-is s b q ∙ sym (step-is ∙ rw (not-ok r (not-true (r .ok) h)))
+    goes-on : (u : Slots) → stored t p end ≡ record { ok = true; slots = u } → gathered s ≡ gatherFrom (slotsIn s u) (pieces (drop (end + 1) s))
+    goes-on u e = after ∙ rw (e, good-is s u (record { ok = true; slots = u }) refl)
+
+    pub gather-bad : not (p .ok) ≡ true → (b : Scan) → b ≡ brokenScan → scanned s b ≡ gathered s
+    unfolding stored
+    gather-bad h = breaks (rw (not-true (p .ok) h))
+
+    module _ (good : not (p .ok) ≡ false) where
+      pub gather-skip : 7 ≤ p .place → gathered s ≡ gatherFrom (slotsIn s t) (pieces (drop (end + 1) s))
+      unfolding stored placed
+      gather-skip h = goes-on t (rw (not-false (p .ok) good, le-ltb _ _ h))
+
+      pub gather-twice : p .place < 7 → (getD (t .to) (p .place) 0 ≡ 0 → ⊥) → (b : Scan) → b ≡ brokenScan → scanned s b ≡ gathered s
+      unfolding stored placed
+      gather-twice h n = breaks (rw (not-false (p .ok) good, lt-ltb _ _ h, ne-eqb _ _ n))
+
+      pub gather-new : p .place < 7 → getD (t .to) (p .place) 0 ≡ 0
+          → gathered s ≡ gatherFrom (slotsIn s (record { from = set (t .from) (p .place) (p .from); to = set (t .to) (p .place) end })) (pieces (drop (end + 1) s))
+      unfolding stored placed
+      gather-new h z = goes-on _ (rw (not-false (p .ok) good, lt-ltb _ _ h, eq-eqb _ _ z))
 
   pub gather-end : (t : Slots) (at : ℕ) → gathered s ≡ gatherFrom (slotsIn s t) (pieces (drop at s)) → length s ≤ at → (r : Scan) → r ≡ record { ok = true; slots = t } → scanned s r ≡ gathered s
   gather-end t at e h r q = good-is s t r q ∙ sym (e ∙ rw (drop-of-length-le s h) (no-pieces (slotsIn s t)))
@@ -259,15 +260,15 @@ module _ (s : List ℕ) (t : Slots) (k : ℕ) (small : k < 7) (sizes : length (t
   here : getD (slotsIn s t) k Absent ≡ slotAt s (getD (t .from) k 0) (getD (t .to) k 0)
   here = slot-get s (t .from) (t .to) k (omega arith) (omega arith)
 
-  pub text-absent : getD (t .to) k 0 ≡ 0 → (x : Text) → x .present ≡ false → textSlot x ≡ clippedSlot (getD (slotsIn s t) k Absent)
+  pub text-absent : getD (t .to) k 0 ≡ 0 → (x : Text) → x .present ≡ false → (b : List ℕ) → textSlot x b ≡ clippedSlot (getD (slotsIn s t) k Absent)
   unfolding textSlot slotAt
-  text-absent e x q = rw (q, here, eq-eqb _ _ e)
+  text-absent e x q b = rw (q, here, eq-eqb _ _ e)
 
   pub text-held : (getD (t .to) k 0 ≡ 0 → ⊥) → (v : List ℕ) → v ≡ take (getD (t .to) k 0 - getD (t .from) k 0) (drop (getD (t .from) k 0) s)
-      → (d : List ℕ) → length d ≡ 96 → (x : Text) → x .present ≡ true → x .len ≡ decodedCount d v → x .bytes ≡ decodedInto d v
-      → textSlot x ≡ clippedSlot (getD (slotsIn s t) k Absent)
+      → (d : List ℕ) → 96 ≡ length d → (x : Text) → x .present ≡ true → x .len ≡ decodedCount d v → (b : List ℕ) → b ≡ decodedInto d v
+      → textSlot x b ≡ clippedSlot (getD (slotsIn s t) k Absent)
   unfolding textSlot slotAt decodedCount decodedInto
-  text-held n v ev d l x p c b = rw (p, c, b, here, ne-eqb _ _ n, ← ev) (rw l (ap Holds (go (leb (length v) 96))))
+  text-held n v ev d l x p c b eb = rw (p, c, eb, here, ne-eqb _ _ n, ← ev) (rw (← l) (ap Holds (go (leb (length v) 96))))
     where
       go : (z : Bool) → take (cond z (length (decoded v)) 0) (cond z (over d 0 (decoded v)) d) ≡ cond z (decoded v) []
       go true = take-append-seam (decoded v) (drop (0 + length (decoded v)) d)

@@ -1,15 +1,17 @@
 -- How the code finds a name's place, and how it holds what is gathered: as the ends of each value in the text. Cited by inner contracts only: it needs no belief.
 use Prim.Native.Nat.{ℕ, _-_}
 use mathlib.Core.List.{List, [], _∷_}
-use mathlib.Core.Bool.{true, false, cond}
+use mathlib.Core.Path.{_≡_}
+use mathlib.Core.Bool.{Bool, true, false, cond}
 use lib.ListN.{length, getD, set, take, drop, replicate}
 use lib.Dec.{eqb, ltb, leb}
 use Rattle.parameters.specs.declared.slots.Slots.{Slots}
 use Rattle.parameters.specs.declared.slots.Scan.{Scan}
 use Rattle.parameters.specs.declared.slots.Text.{Text}
+use Rattle.parameters.specs.declared.slots.Piece.{Piece}
 use Rattle.coding.specs.Url.{decoded}
 use Rattle.parameters.specs.Names.{receiptName, dateName, reasonName, receiptPlace, datePlace, reasonPlace, noPlace}
-use Rattle.parameters.specs.Slots.{Slot, Absent, Holds, Gathered, Broken, Values}
+use Rattle.parameters.specs.Slots.{Slot, Absent, Holds, Gathered, Broken, Values, addPiece}
 use Rattle.texts.specs.Lists.{eqList}
 
 -- the place of a name behind the first four
@@ -44,6 +46,18 @@ placed t k from to =
     (cond (eqb (getD (t .to) k 0) 0) (record { ok = true; slots = record { from = set (t .from) k from; to = set (t .to) k to } }) brokenScan)
     (record { ok = true; slots = t })
 
+-- a piece that gives no value
+abbrev pub nameless : Bool → Piece
+nameless ok = record { ok = ok; place = noPlace; from = 0 }
+
+-- a piece that ends at `end`, stored
+unfoldable pub stored : Slots → Piece → ℕ → Scan
+stored t p end = cond (p .ok) (placed t (p .place) (p .from) end) brokenScan
+
+-- stored into any slots, it is what the definition makes of the bytes from `at` to `end`
+abbrev pub Adds : List ℕ → ℕ → ℕ → Piece → Type 0
+Adds s at end p = (t : Slots) → length (t .from) ≡ 7 → length (t .to) ≡ 7 → scanned s (stored t p end) ≡ addPiece (slotsIn s t) (take (end - at) (drop at s))
+
 -- a value decoded into 96 bytes; a longer one decodes to more than 32 bytes, which no field has, and is held as empty, which no field is
 abbrev pub clipped : List ℕ → List ℕ
 clipped v = cond (leb (length v) 96) (decoded v) []
@@ -52,5 +66,6 @@ abbrev pub clippedSlot : Slot → Slot
 clippedSlot Absent = Absent
 clippedSlot (Holds v) = Holds (clipped v)
 
-unfoldable pub textSlot : Text → Slot
-textSlot x = cond (x .present) (Holds (take (x .len) (x .bytes))) Absent
+-- what stands in the buffer
+unfoldable pub textSlot : Text → List ℕ → Slot
+textSlot x d = cond (x .present) (Holds (take (x .len) d)) Absent

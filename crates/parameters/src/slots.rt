@@ -5,8 +5,8 @@ use texts::scan;
 ghost use mathlib.Core.Path.{_≡_};
 ghost use Prim.Native.Nat.{_-_, _<_, _≤_};
 ghost use lib.ListN.{length, take, drop, getD};
-ghost use Rattle.parameters.specs.Slots.{Absent, addPiece, gathered};
-ghost use Rattle.parameters.specs.SlotWalk.{slotsIn, scanned, brokenScan, placed, textSlot, clippedSlot};
+ghost use Rattle.parameters.specs.Slots.{Absent, gathered};
+ghost use Rattle.parameters.specs.SlotWalk.{slotsIn, scanned, brokenScan, nameless, Adds, textSlot, clippedSlot};
 
 // Where the value of each known name begins and ends in the text; an end of 0 is an absent name.
 pub struct Slots {
@@ -20,10 +20,16 @@ pub struct Scan {
     pub slots: Slots,
 }
 
-// A value once it is decoded; its first `len` bytes count.
+// A piece between ampersands: the place of its name, 7 where that has none, and where its value begins; or `ok` false.
+struct Piece {
+    ok: bool,
+    place: usize,
+    from: usize,
+}
+
+// Whether a name has a value, and how many bytes it has once it is decoded.
 pub struct Text {
     pub present: bool,
-    pub bytes: [u8; 96],
     pub len: usize,
 }
 
@@ -40,6 +46,17 @@ fn broken() -> Scan
     }
 }
 
+// A piece that gives no value.
+fn nameless(ok: bool) -> Piece
+    ensures { λ r. ⌜ r ≡ nameless ok ⌝ }
+{
+    Piece {
+        ok,
+        place: action::NO_NAME,
+        from: 0,
+    }
+}
+
 // The part of a text from one place up to another.
 fn part(s: &[u8], from: usize, to: usize) -> &[u8]
     ensures { λ r. ⌜ now r ≡ take (to - from) (drop from (now (s .entry))) ⌝ }
@@ -53,46 +70,31 @@ fn part(s: &[u8], from: usize, to: usize) -> &[u8]
     scan::first_bytes(&s[from..], to - from)
 }
 
-// Stores where the value of the name with place k stands; a name that has one already breaks the text, an unknown one is ignored.
-fn place(t: Slots, k: usize, from: usize, to: usize) -> Scan
-    ensures { λ r. ⌜ r ≡ placed t k from to ⌝ }
-{
-    if 7 <= k {
-        return Scan { ok: true, slots: t };
-    }
-    let mut next = t;
-    if next.to[k] != 0 {
-        return broken();
-    }
-    next.from[k] = from;
-    next.to[k] = to;
-    Scan {
-        ok: true,
-        slots: next,
-    }
-}
-
-// Gathers the piece from `at` to `end`.
-fn add_piece(s: &[u8], at: usize, end: usize, t: Slots) -> Scan
+// What the piece from `at` to `end` is.
+fn read_piece(s: &[u8], at: usize, end: usize) -> Piece
     requires { ⌜ (at ≤ end) × (end ≤ length (now s)) ⌝ }
-    ensures { λ r. ⌜ scanned (now (s .entry)) r ≡ addPiece (slotsIn (now (s .entry)) t) (take (end - at) (drop at (now (s .entry)))) ⌝ }
+    ensures { λ r. ⌜ Adds (now (s .entry)) at end r ⌝ }
 {
     let p = part(s, at, end);
     if p.len() == 0 {
-        return Scan { ok: true, slots: t };
+        return nameless(true);
     }
     let q = scan::find_byte(p, b'=');
     if p.len() <= q {
-        return broken();
+        return nameless(false);
     }
     if url::well_coded(&p[q + 1..]) {
-        place(t, action::name_index(&p[..q]), at + q + 1, end)
+        Piece {
+            ok: true,
+            place: action::name_index(&p[..q]),
+            from: at + q + 1,
+        }
     } else {
-        broken()
+        nameless(false)
     }
 }
 
-// Gathers every piece between ampersands.
+// Gathers every piece between ampersands; a name that has a value already breaks the text.
 pub fn gather(s: &[u8]) -> Scan
     ensures { λ r. ⌜ scanned (now (s .entry)) r ≡ gathered (now (s .entry)) ⌝ }
 {
@@ -103,35 +105,39 @@ pub fn gather(s: &[u8]) -> Scan
     let mut at: usize = 0;
     while at < s.len() {
         let end = at + scan::find_byte(&s[at..], b'&');
-        let r = add_piece(s, at, end, t);
-        if !r.ok {
+        let next = end + 1;
+        let p = read_piece(s, at, end);
+        if !p.ok {
             return broken();
         }
-        t = r.slots;
-        at = end + 1;
+        let k = p.place;
+        if 7 <= k {
+            at = next;
+            continue;
+        }
+        if t.to[k] != 0 {
+            return broken();
+        }
+        t.from[k] = p.from;
+        t.to[k] = end;
+        at = next;
     }
     Scan { ok: true, slots: t }
 }
 
-// The decoded value of the name with place k.
-pub fn text_of(s: &[u8], t: Slots, k: usize) -> Text
-    requires { ⌜ k < 7 ⌝ }
-    ensures { λ r. ⌜ textSlot r ≡ clippedSlot (getD (slotsIn (now (s .entry)) t) k Absent) ⌝ }
+// Decodes the value of the name with place k into a buffer of 96 bytes.
+pub fn text_of(s: &[u8], t: Slots, k: usize, dst: &mut [u8]) -> Text
+    requires { ⌜ (k < 7) × (96 ≡ length (now dst)) ⌝ }
+    ensures { λ r. ⌜ textSlot r (now (dst .exit)) ≡ clippedSlot (getD (slotsIn (now (s .entry)) t) k Absent) ⌝ }
 {
-    let mut bytes = [0u8; 96];
     let from = t.from[k];
     let to = t.to[k];
     if to == 0 {
         return Text {
             present: false,
-            bytes,
             len: 0,
         };
     }
-    let len = url::decode(part(s, from, to), &mut bytes);
-    Text {
-        present: true,
-        bytes,
-        len,
-    }
+    let len = url::decode(part(s, from, to), dst);
+    Text { present: true, len }
 }

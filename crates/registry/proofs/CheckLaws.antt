@@ -1,13 +1,13 @@
 -- Laws of the count of lines and of the check of a registry, at each way out.
 use Prim.Native.Nat.{ℕ, suc, _+_, _-_, _≤_, _<_}
 use native.Mathlib.Omega.{arith}
-use mathlib.Core.Path.{_≡_, sym, _∙_}
+use mathlib.Core.Path.{_≡_, refl, sym, _∙_}
 use mathlib.Core.List.{List}
 use mathlib.Core.Bool.{Bool, true, false, cond, not, _&&_, and-assoc, and-true}
-use lib.Dec.{ltb}
+use lib.Dec.{ltb, leb}
 use lib.ListN.{length, take, drop, length-drop, drop-of-length-le}
 use lib.Seq.{drop-drop}
-use borrow.Author.Tests.{le-leb, lt-leb, not-true, not-false}
+use borrow.Author.Tests.{le-leb, lt-leb, ltb-true, ltb-false, not-true, not-false}
 use Rattle.days.specs.declared.calendar.Day.{Day}
 use Rattle.days.specs.Calendar.{onDay}
 use Rattle.dates.specs.Date.{dateDay}
@@ -44,11 +44,11 @@ module _ (s : List ℕ) (at e : ℕ) (here : at < length s) (ends : e ≡ at + l
   rest-left : length s ≤ e → length (drop at s) ≤ lineEnd (drop at s)
   rest-left h = rw length-drop (omega arith)
 
-  line-left : e < length s → lineEnd (drop at s) < length (drop at s)
+  pub line-left : e < length s → lineEnd (drop at s) < length (drop at s)
   line-left h = rw length-drop (omega arith)
 
   -- the next line begins behind the end
-  behind : drop (lineEnd (drop at s) + 2) (drop at s) ≡ drop (e + 2) s
+  pub behind : drop (lineEnd (drop at s) + 2) (drop at s) ≡ drop (e + 2) s
   behind =
       let n : at + (lineEnd (drop at s) + 2) ≡ e + 2 = omega arith in
       drop-drop (lineEnd (drop at s) + 2) at s ∙ rw n
@@ -92,6 +92,13 @@ module _ (s : List ℕ) (at e : ℕ) (here : at < length s) (ends : e ≡ at + l
   unfolding registryLines rising
   rise-pass rose last passed x read h q eq = passed ∙ rw (held-line (drop at s) (line-left h), behind, ← read, eq) (sym (and-assoc rose _ _))
 
+some-line : (t : List ℕ) → 0 < length t → 0 < lineCount t
+some-line t h = go (ltb (lineEnd t) (length t)) refl
+  where
+    go : (b : Bool) → ltb (lineEnd t) (length t) ≡ b → 0 < lineCount t
+    go true e = omega (arith, count-line t (ltb-true (lineEnd t) (length t) e))
+    go false e = omega (arith, count-rest t h (ltb-false (lineEnd t) (length t) e))
+
 -- nothing is left
 module _ (s : List ℕ) (at : ℕ) (h : length s ≤ at) where
   pub count-end : (n : ℕ) → lineCount s ≡ n + lineCount (drop at s) → n ≡ lineCount s
@@ -107,26 +114,38 @@ module _ (s : List ℕ) (at : ℕ) (h : length s ≤ at) where
   rise-end rose last passed = passed ∙ rw (drop-of-length-le s h) (and-true rose)
 
 -- ---- the fault
-module _ (day : Day) (s : List ℕ) (n : ℕ) (count : n ≡ lineCount s) where
-  pub too-many : 512 < n → 53 ≡ registryFault day s
+module _ (s : List ℕ) (at n c : ℕ) (few : n ≤ 512) (t : List ℕ) (rest : t ≡ drop at s) (count : c ≡ lineCount t) where
+  pub behind-many : 512 - n < c → _≡_ {A = ℕ} 53 (cond (leb (n + lineCount (drop at s)) 512) 52 53)
+  behind-many h = let l : 512 < n + c = omega arith in rw (← rest, ← count, lt-leb (n + c) 512 l)
+
+  pub behind-few : c ≤ 512 - n → _≡_ {A = ℕ} 52 (cond (leb (n + lineCount (drop at s)) 512) 52 53)
+  behind-few h = let l : n + c ≤ 512 = omega arith in rw (← rest, ← count, le-leb (n + c) 512 l)
+
+module _ (day : Day) (s : List ℕ) (n at : ℕ) (count : lineCount s ≡ n + lineCount (drop at s)) where
+  -- 512 lines and another
+  pub too-many : 512 ≤ n → at < length s → (r : ℕ) → r ≡ cond (leb (n + lineCount (drop at s)) 512) 52 53 → r ≡ registryFault day s
   unfolding registryFault
-  too-many h = rw (← count, lt-leb n 512 h)
+  too-many h g r q =
+      let c = some-line (drop at s) (rw length-drop (omega arith)) in
+      let l : 512 < n + lineCount (drop at s) = omega arith in
+      q ∙ rw (count, lt-leb (n + lineCount (drop at s)) 512 l)
 
-  module _ (few : n ≤ 512) (r : ℕ) where
-    bad : goodLines day (splitLines s) ≡ false → r ≡ 52 → r ≡ registryFault day s
+  bad : goodLines day (splitLines s) ≡ false → (r : ℕ) → r ≡ cond (leb (n + lineCount (drop at s)) 512) 52 53 → r ≡ registryFault day s
+  unfolding registryFault
+  bad g r q = q ∙ rw (← count, g)
+
+  module _ (passed : goodLines day (splitLines s) ≡ goodLines day (splitLines (drop at s))) where
+    module _ (e : ℕ) (here : at < length s) (ends : e ≡ at + lineEnd (drop at s)) where
+      pub fault-rest : length s ≤ e → (r : ℕ) → r ≡ cond (leb (n + lineCount (drop at s)) 512) 52 53 → r ≡ registryFault day s
+      fault-rest h = bad (rest-bad s at e here ends day passed h)
+
+      pub fault-line : (x : LineRead) → x ≡ lineRead (take (lineEnd (drop at s)) (drop at s)) → (t : Bool) → t ≡ (x .ok) && onDay day (dateDay (x .line .date))
+          → e < length s → not t ≡ true → (r : ℕ) → r ≡ cond (leb (n + lineCount (drop at s)) 512) 52 53 → r ≡ registryFault day s
+      fault-line x read t test h g = bad (line-bad s at e here ends day passed x read t test h g)
+
+    pub fault-end : n ≤ 512 → (rose : Bool) (last : ℕ) → rising 0 (registryLines s) ≡ rose && rising last (registryLines (drop at s))
+        → length s ≤ at → (r : ℕ) → r ≡ cond rose 0 54 → r ≡ registryFault day s
     unfolding registryFault
-    bad g q = q ∙ rw (← count, le-leb n 512 few, g)
-
-    module _ (at : ℕ) (passed : goodLines day (splitLines s) ≡ goodLines day (splitLines (drop at s))) where
-      module _ (e : ℕ) (here : at < length s) (ends : e ≡ at + lineEnd (drop at s)) where
-        pub fault-rest : length s ≤ e → r ≡ 52 → r ≡ registryFault day s
-        fault-rest h = bad (rest-bad s at e here ends day passed h)
-
-        pub fault-line : (x : LineRead) → x ≡ lineRead (take (lineEnd (drop at s)) (drop at s)) → (t : Bool) → t ≡ (x .ok) && onDay day (dateDay (x .line .date))
-            → e < length s → not t ≡ true → r ≡ 52 → r ≡ registryFault day s
-        fault-line x read t test h g = bad (line-bad s at e here ends day passed x read t test h g)
-
-      pub fault-end : (rose : Bool) (last : ℕ) → rising 0 (registryLines s) ≡ rose && rising last (registryLines (drop at s))
-          → length s ≤ at → r ≡ cond rose 0 54 → r ≡ registryFault day s
-      unfolding registryFault
-      fault-end rose last rises h q = q ∙ rw (← count, le-leb n 512 few, good-end s at h day passed, rise-end s at h rose last rises)
+    fault-end few rose last rises h r q =
+        let l : lineCount s ≤ 512 = omega (arith, count-end s at h n count) in
+        q ∙ rw (le-leb (lineCount s) 512 l, good-end s at h day passed, rise-end s at h rose last rises)

@@ -4,18 +4,18 @@ use days::calendar::Day;
 use lines::line;
 use lines::line::LineRead;
 use texts::scan;
-ghost use Prim.Native.Nat.{_+_};
+ghost use Prim.Native.Nat.{_+_, _≤_};
 ghost use mathlib.Core.Path.{_≡_};
 ghost use mathlib.Core.Bool.{_&&_, cond};
-ghost use lib.Dec.{ltb, eqb};
+ghost use lib.Dec.{ltb, leb, eqb};
 ghost use lib.ListN.{take, drop};
 ghost use Rattle.days.specs.Calendar.{onDay};
 ghost use Rattle.dates.specs.Date.{dateDay};
 ghost use Rattle.lines.specs.Line.{lineRead};
-ghost use Rattle.registry.specs.Registry.{lineEnd, lineCount, registryFault};
+ghost use Rattle.registry.specs.Registry.{lineEnd, lineCount};
 
 // How many lines a registry has at most.
-const LINES_MOST: usize = 512;
+pub const LINES_MOST: usize = 512;
 
 // Whether two bytes are 0D 0A.
 pub(crate) fn is_end(b: u8, c: u8) -> bool
@@ -42,12 +42,12 @@ pub fn end_of_line(s: &[u8], at: usize) -> usize
     s.len()
 }
 
-// The line that begins at the cursor.
-pub fn line_at(s: &[u8], at: usize) -> LineRead
+// The line from the cursor to its end.
+pub fn line_to(s: &[u8], at: usize, end: usize) -> LineRead
+    requires { ⌜ end ≡ at + lineEnd (drop at (now s)) ⌝ }
     ensures { λ r. ⌜ r ≡ lineRead (take (lineEnd (drop at (now (s .entry)))) (drop at (now (s .entry)))) ⌝ }
 {
-    let n = end_of_line(s, at) - at;
-    line::read_line(scan::first_bytes(scan::bytes_from(s, at), n))
+    line::read_line(scan::first_bytes(scan::bytes_from(s, at), end - at))
 }
 
 // How many lines a text has; an unended rest counts as one.
@@ -68,7 +68,7 @@ fn count_lines(s: &[u8]) -> usize
 }
 
 // Whether a line was read, and its date is on the day.
-pub(crate) fn is_good(day: Day, read: LineRead) -> bool
+pub fn is_good(day: Day, read: LineRead) -> bool
     ensures { λ r. ⌜ r ≡ (read .ok) && onDay day (dateDay (read .line .date)) ⌝ }
 {
     if !read.ok {
@@ -80,42 +80,27 @@ pub(crate) fn is_good(day: Day, read: LineRead) -> bool
 }
 
 // Whether receipts that rose so far still do.
-pub(crate) fn still_rise(rose: bool, last: u64, next: u64) -> bool
+pub fn still_rise(rose: bool, last: u64, next: u64) -> bool
     ensures { λ r. ⌜ r ≡ rose && ltb last next ⌝ }
 {
     if rose { last < next } else { false }
 }
 
-// What is returned for lines that are all good or not, and whose receipts rose or not.
-pub(crate) fn fault_of(good: bool, rose: bool) -> u64
-    ensures { λ r. ⌜ r ≡ cond good (cond rose 0 54) 52 ⌝ }
+// The fault of good lines, whose receipts rose or not.
+pub fn fault_of(rose: bool) -> u64
+    ensures { λ r. ⌜ r ≡ cond rose 0 54 ⌝ }
 {
-    if good { if rose { 0 } else { 54 } } else { 52 }
+    if rose { 0 } else { 54 }
 }
 
-// 0, or the number of the text's fault: 53, 52 or 54.
-pub fn check_registry(day: Day, s: &[u8]) -> u64
-    ensures { λ r. ⌜ r ≡ registryFault day (now (s .entry)) ⌝ }
+// The fault of lines that are not all good, n of them before the cursor.
+pub fn fault_behind(s: &[u8], at: usize, n: usize) -> u64
+    requires { ⌜ n ≤ 512 ⌝ }
+    ensures { λ r. ⌜ r ≡ cond (leb (n + lineCount (drop at (now (s .entry)))) 512) 52 53 ⌝ }
 {
-    if LINES_MOST < count_lines(s) {
-        return 53;
+    if LINES_MOST - n < count_lines(scan::bytes_from(s, at)) {
+        53
+    } else {
+        52
     }
-    let mut rose = true;
-    let mut last: u64 = 0;
-    let mut at: usize = 0;
-    while at < s.len() {
-        let e = end_of_line(s, at);
-        if s.len() <= e {
-            return fault_of(false, rose);
-        }
-        let read = line_at(s, at);
-        if !is_good(day, read) {
-            return fault_of(false, rose);
-        }
-        let line = read.line;
-        rose = still_rise(rose, last, line.receipt);
-        last = line.receipt;
-        at = e + 2;
-    }
-    fault_of(true, rose)
 }

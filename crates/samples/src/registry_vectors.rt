@@ -1,35 +1,43 @@
 // Registries and reports.
 use crate::print;
+use days::calendar::Day;
+use line_rows::reading;
 use lines::line::Line;
 use registry::report;
-use registry::text;
 use texts::digits;
 use texts::digits::Digits;
 use texts::out;
 use texts::scan;
 use vectors::given;
+ghost use Rattle.line_rows.specs.Lines.{Read, linesLent};
 
 // The fault of a registry of a day, and the lines of one without.
 pub fn check(s: &[u8]) {
-    let rest = scan::after_byte(s, b' ');
-    let fault = text::check_registry(given::day(s), rest);
-    print::fault(fault);
-    if fault == 0 {
-        show_lines(rest);
+    read(given::day(s), scan::after_byte(s, b' '), true);
+}
+
+// Prints the fault of a registry, and its lines where it has none and they are `asked`.
+fn read(day: Day, s: &[u8], asked: bool) {
+    let mut nums = reading::empty_nums();
+    let mut numbers = reading::empty_numbers();
+    let mut dates = reading::empty_dates();
+    let r = reading::read_registry(day, s, &mut nums, &mut numbers, &mut dates);
+    print::fault(r.fault);
+    if r.fault != 0 {
+        return;
+    }
+    if asked {
+        show_lines(&nums, &numbers, &dates, r.count);
     }
 }
 
-fn show_lines(s: &[u8]) {
-    let mut at: usize = 0;
-    while at < s.len() {
-        let e = text::end_of_line(s, at);
-        if s.len() <= e {
-            return;
-        }
-        let r = text::line_at(s, at);
-        let line = r.line;
-        show_line(line);
-        at = e + 2;
+fn show_lines(nums: &[[u64; 4]], numbers: &[[u8; 30]], dates: &[[u8; 19]], n: usize)
+    requires { ⌜ Read (linesLent nums numbers dates) n ⌝ }
+{
+    let mut i: usize = 0;
+    while i < n {
+        show_line(reading::line_at(nums, numbers, dates, i));
+        i += 1;
     }
 }
 
@@ -78,7 +86,7 @@ pub fn many_lines(s: &[u8]) {
     let at = write_lines(n, &mut space);
     let e = add_rest(scan::after_byte(s, b' '), &mut space, at);
     let day = given::day(b"2005-09-20");
-    print::fault(text::check_registry(day, scan::first_bytes(&space, e)));
+    read(day, scan::first_bytes(&space, e), false);
 }
 
 fn add_rest(word: &[u8], dst: &mut [u8], at: usize) -> usize {

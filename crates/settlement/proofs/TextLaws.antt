@@ -13,14 +13,14 @@ use Rattle.fields.specs.Codes.{isReceipt}
 use Rattle.texts.proofs.Tests.{and-left, and-right}
 use Rattle.texts.proofs.DigitLaws.{within-high}
 use Rattle.lines.specs.declared.line.Line.{Line}
-use Rattle.registry.specs.Registry.{registryLines, registryFault, lineCount}
-use Rattle.registry.proofs.LinesGood.{lines-good}
+use Rattle.registry.specs.Registry.{registryLines, registryFault}
 use Rattle.table.specs.declared.Gate.{Gate}
 use Rattle.table.specs.declared.Record.{Record}
 use Rattle.table.specs.Table.{Rows, recordAt}
 use Rattle.validity.specs.Valid.{rangesGood, recordGood, authcodeGood, tableGood, Ready}
 use Rattle.validity.proofs.GoodLaws.{good-table}
 use Rattle.settlement.specs.Settle.{settleRead, settle}
+use Rattle.settlement.specs.SettleText.{settleText}
 use Rattle.closing.specs.Closing.{reported, settleDay}
 use Rattle.admission.specs.Delivery.{Delivery, admission}
 use Rattle.admission.proofs.AdmissionLaws.{refused-by, admitted-by}
@@ -38,11 +38,6 @@ good-amount g i r h =
 pub held-ready : (g : Gate) (t : Rows) → Ready g t → tableGood g t ≡ true → Held g t 10000000000000
 held-ready g t ready good =
     record { backed = ready; small = λ i h. good-amount g i (recordAt t i) (good-table g t (ready .funds .places) good .records i h) }
-
-pub count-few : (day : Day) (s : List ℕ) (f : ℕ) → f ≡ registryFault day s → f ≡ 0 → lineCount s ≤ 512
-count-few day s f e z =
-    let l = lines-good day s (sym e ∙ z) in
-    omega (arith, l .few, l .count)
 
 -- ---- a day up to the closed one
 module _ (closed day : Day) (v : Bool) (ev : v ≡ isDay day) where
@@ -68,10 +63,17 @@ module _ (g : Gate) (t : Rows) (clock : List ℕ) (day : Day) (xs : List Line) (
     unfolding settleRead
     read-later y rows er left el = rw (← en, h, ← ep, y, er, el)
 
--- ---- a text whose lines were read
-pub text-read : (g : Gate) (t : Rows) (clock : List ℕ) (day : Day) (u : LineRows) (n : ℕ) (s out : List ℕ) → linesOf u n ≡ registryLines s
-    → (d : Delivery) → d ≡ settleRead g t clock day (linesOf u n) out → d ≡ settleRead g t clock day (registryLines s) out
-text-read g t clock day u n s out e d ed = ed ∙ ap (λ (xs : List Line). settleRead g t clock day xs out) e
+-- ---- a text that was read
+module _ (g : Gate) (t : Rows) (clock : List ℕ) (day : Day) (s out : List ℕ) (f : ℕ) (ef : f ≡ registryFault day s) where
+  pub text-fault : (f ≡ 0 → ⊥) → (rows : Rows) → rows ≡ t → (left : List ℕ) → left ≡ out
+      → _≡_ {A = Delivery} (record { code = f; gate = g; rows = rows; out = left; size = 0 }) (settleText g t clock day s out)
+  unfolding settleText
+  text-fault n rows er left el = rw (er, el, ← ef, ne-eqb _ _ n)
+
+  pub text-read : f ≡ 0 → (u : LineRows) (n : ℕ) → (f ≡ 0 → linesOf u n ≡ registryLines s)
+      → (d : Delivery) → d ≡ settleRead g t clock day (linesOf u n) out → d ≡ settleText g t clock day s out
+  unfolding settleText
+  text-read y u n lines d e = e ∙ ap (λ (xs : List Line). settleRead g t clock day xs out) (lines y) ∙ rw (← ef, eq-eqb _ _ y)
 
 -- ---- the call
 module _ (g : Gate) (t : Rows) (clock : List ℕ) (day : Day) (s out : List ℕ) (a : ℕ) (ea : a ≡ admission g t clock (length out)) where
@@ -80,12 +82,6 @@ module _ (g : Gate) (t : Rows) (clock : List ℕ) (day : Day) (s out : List ℕ)
   unfolding settle
   not-admitted n rows er left el = rw (er, el) (refused-by g t clock out a ea n _)
 
-  module _ (z : a ≡ 0) (f : ℕ) (ef : f ≡ registryFault day s) where
-    pub settle-fault : (f ≡ 0 → ⊥) → (rows : Rows) → rows ≡ t → (left : List ℕ) → left ≡ out
-        → _≡_ {A = Delivery} (record { code = f; gate = g; rows = rows; out = left; size = 0 }) (settle g t clock day s out)
-    unfolding settle
-    settle-fault n rows er left el = rw (er, el, ← ef, ne-eqb _ _ n) (admitted-by g t clock out a ea z _)
-
-    pub settle-read : f ≡ 0 → (d : Delivery) → d ≡ settleRead g t clock day (registryLines s) out → d ≡ settle g t clock day s out
-    unfolding settle
-    settle-read y d e = e ∙ rw (← ef, eq-eqb _ _ y) (admitted-by g t clock out a ea z _)
+  pub settle-read : a ≡ 0 → (d : Delivery) → d ≡ settleText g t clock day s out → d ≡ settle g t clock day s out
+  unfolding settle settleText
+  settle-read z d e = e ∙ admitted-by g t clock out a ea z _

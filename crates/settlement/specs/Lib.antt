@@ -1,1 +1,2 @@
 pub mod Settle
+pub mod SettleText

@@ -2,16 +2,15 @@
 use days::calendar::Day;
 use ledger::Reply;
 use line_rows::reading;
-use registry::text;
 use table::Gate;
 ghost use mathlib.Core.Bool.{not, _&&_};
 ghost use mathlib.Core.Path.{_≡_};
 ghost use Prim.Native.Nat.{_≤_};
 ghost use lib.ListN.{length};
 ghost use Rattle.days.specs.Calendar.{isDay, dayBefore};
-ghost use Rattle.registry.specs.Registry.{lineCount, registryLines};
 ghost use Rattle.table.specs.Lent.{lent, before, after};
 ghost use Rattle.settlement.specs.Settle.{settleRead, settle};
+ghost use Rattle.settlement.specs.SettleText.{settleText};
 ghost use Rattle.admission.specs.Delivery.{deliveryOf};
 ghost use Rattle.posting.specs.Steps.{Held};
 ghost use Rattle.line_rows.specs.Lines.{linesOf, Read, linesLent, linesBefore};
@@ -71,7 +70,7 @@ pub(crate) fn settle_read(
     }
 }
 
-// Reads the lines of a text without a fault, once, and settles by them.
+// Settles by the lines of a text, read once; a fault keeps all.
 pub(crate) fn settle_text(
     nums: &mut [[u64; 6]],
     numbers: &mut [[u8; 30]],
@@ -82,15 +81,21 @@ pub(crate) fn settle_text(
     s: &[u8],
     out: &mut [u8],
 ) -> Reply
-    requires { ⌜ Held g (lent nums numbers dates) 10000000000000 ⌝ }
-    requires { ⌜ (lineCount (now s) ≤ 512) × (512 ≤ length (now out)) ⌝ }
+    requires { ⌜ Held g (lent nums numbers dates) 10000000000000 × (512 ≤ length (now out)) ⌝ }
     ensures { λ r. ⌜ deliveryOf r (after nums numbers dates) (now (out .exit))
-        ≡ settleRead g (before nums numbers dates) clock day (registryLines (now (s .entry))) (now (out .entry)) ⌝ }
+        ≡ settleText g (before nums numbers dates) clock day (now (s .entry)) (now (out .entry)) ⌝ }
 {
     let mut values = reading::empty_nums();
     let mut holders = reading::empty_numbers();
     let mut days = reading::empty_dates();
-    let count = reading::read_lines(s, &mut values, &mut holders, &mut days);
+    let read = reading::read_registry(day, s, &mut values, &mut holders, &mut days);
+    if read.fault != 0 {
+        return Reply {
+            code: read.fault,
+            gate: g,
+            size: 0,
+        };
+    }
     settle_read(
         nums,
         numbers,
@@ -101,7 +106,7 @@ pub(crate) fn settle_text(
         &values,
         &holders,
         &days,
-        count,
+        read.count,
         out,
     )
 }
@@ -123,14 +128,6 @@ pub fn settle(
     if refusal != 0 {
         return Reply {
             code: refusal,
-            gate,
-            size: 0,
-        };
-    }
-    let fault = text::check_registry(day, bytes);
-    if fault != 0 {
-        return Reply {
-            code: fault,
             gate,
             size: 0,
         };

@@ -6,9 +6,9 @@ use roosteryore::{Action, Book, Day, REGISTRY_ROOM, ROWS_MOST};
 use std::hint::black_box;
 use twin::request;
 
-const PAID: &[u8] = b"<?xml version=\"1.0\" encoding=\"windows-1251\"?><response><code>0</code>\
+pub const PAID: &[u8] = b"<?xml version=\"1.0\" encoding=\"windows-1251\"?><response><code>0</code>\
     <authcode>1</authcode><date>2005-09-20T15:55:00</date></response>";
-const CHECKED: &[u8] = b"<?xml version=\"1.0\" encoding=\"windows-1251\"?><response><code>0</code></response>";
+pub const CHECKED: &[u8] = b"<?xml version=\"1.0\" encoding=\"windows-1251\"?><response><code>0</code></response>";
 
 /// A side of a book with its buffer: put back before each call, and the buffer's first bytes cleared.
 fn book_side<'a, S: PutBack + Clone, R>(

@@ -9,7 +9,7 @@ use std::hint::black_box;
 type Owned = twin::owned::Gate;
 
 /// A side of a gate with its buffer: put back before each call, and the buffer cleared.
-fn gate_side<'a, S: PutBack + Clone, R>(
+pub fn gate_side<'a, S: PutBack + Clone, R>(
     from: &'a S,
     touched: Touched,
     mut call: impl FnMut(&mut S, &mut [u8; 512]) -> R + 'a,

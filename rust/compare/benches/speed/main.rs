@@ -5,6 +5,7 @@
 //! told, in nanoseconds. The cost of reading the clock is taken off.
 mod agent;
 mod gate;
+mod readers;
 mod sides;
 mod stopwatch;
 
@@ -18,4 +19,5 @@ fn main() {
     gate::settlement_growth(&mut stopwatch);
     agent::calls(&mut stopwatch);
     agent::growth(&mut stopwatch);
+    readers::readers(&mut stopwatch);
 }

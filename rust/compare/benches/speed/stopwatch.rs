@@ -66,10 +66,24 @@ impl Stopwatch {
     }
 
     /// Measures a row of the table: the proved call first, then the twin's, then the owner's where there is one.
-    pub fn row(&mut self, name: &str, mut sides: Vec<Side>) {
-        if !self.wants(name) {
-            return;
+    pub fn row(&mut self, name: &str, sides: Vec<Side>) {
+        if self.wants(name) {
+            print_row(name, &self.medians(sides));
         }
+    }
+
+    /// Measures by how much a call takes longer than another, on each side.
+    pub fn difference<'a>(&mut self, name: &str, mut longer: Vec<Side<'a>>, shorter: Vec<Side<'a>>) {
+        if self.wants(name) {
+            let sides = longer.len();
+            longer.extend(shorter);
+            let medians = self.medians(longer);
+            let (longer, shorter) = medians.split_at(sides);
+            print_row(name, &longer.iter().zip(shorter).map(|(long, short)| long - short).collect::<Vec<_>>());
+        }
+    }
+
+    fn medians(&self, mut sides: Vec<Side>) -> Vec<f64> {
         let batches: Vec<u32> = sides.iter_mut().map(batch).collect();
         let mut times = vec![Vec::with_capacity(RUNS); sides.len()];
         for run in 0..RUNS {
@@ -79,11 +93,14 @@ impl Stopwatch {
                 times[place].push(median(calls));
             }
         }
-        let medians: Vec<f64> = times.into_iter().map(median).collect();
-        let others: Vec<String> =
-            medians[1..].iter().map(|other| format!("{other:.0} | {:.1}", medians[0] / other)).collect();
-        println!("| {name} | {:.0} | {} |", medians[0], others.join(" | "));
+        times.into_iter().map(median).collect()
     }
+}
+
+fn print_row(name: &str, medians: &[f64]) {
+    let others: Vec<String> =
+        medians[1..].iter().map(|other| format!("{other:.0} | {:.1}", medians[0] / other)).collect();
+    println!("| {name} | {:.0} | {} |", medians[0], others.join(" | "));
 }
 
 /// How many calls of a side make a batch.

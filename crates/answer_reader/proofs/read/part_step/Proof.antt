@@ -1,9 +1,9 @@
 use borrow.Author.Needs.{needs}
-use Rattle.answer_reader.proofs.AnswerPartLaws.{step-stopped, step-barred, step-part}
+use Rattle.answer_reader.proofs.AnswerPartLaws.{step-barred, step-part, absent-unheld}
 use Rattle.answer_reader.proofs.read.part_step.Statement.{statement}
 use Rattle.answer_reader.proofs.read.part_step.Tie as tie
 
-ruleset laws = (step-stopped, step-barred, step-part, needs)
+ruleset laws = (step-barred, step-part, absent-unheld, needs)
 
 pub part-step-spec : {M : Type 1} → statement M
 part-step-spec =
@@ -12,6 +12,6 @@ part-step-spec =
     (λ c κs. search laws)
     (λ c κs. search laws)
     (λ c κs. search laws)
-    (λ c. search laws)
+    (λ c κs. search laws)
     (λ c. search laws)
     (λ c. search laws))

@@ -9,6 +9,7 @@ pub action-field-spec : {M : Type 1} → statement M
 action-field-spec =
     tie.close
     (tie.spec
+    (λ c. search laws)
     (λ c κs. search laws)
     (λ c. search laws)
     (λ c. search laws)

@@ -11,6 +11,7 @@ date-field-spec =
     (tie.spec
     (λ c κs. search laws)
     (λ c. search laws)
+    (λ c. search laws)
     (λ c κs. search laws)
     (λ c κs. search laws)
     (λ c. search laws)

@@ -10,6 +10,7 @@ digits-field-spec =
     tie.close
     (tie.spec
     (λ c. search laws)
+    (λ c. search laws)
     (λ c κs. search laws)
     (λ c. search laws)
     (λ c. search laws)

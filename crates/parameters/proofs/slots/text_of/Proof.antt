@@ -15,6 +15,6 @@ text-of-spec =
     (λ c. search laws)
     (λ c. search laws)
     (λ c κs. search laws)
-    (λ c. search laws)
     (λ c κs. search laws)
+    (λ c. search laws)
     (λ c. search laws))

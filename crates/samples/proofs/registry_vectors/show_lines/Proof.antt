@@ -1,17 +1,16 @@
 use borrow.Author.Needs.{needs}
-use Rattle.registry.proofs.CheckLaws.{next-in}
+use Rattle.line_rows.proofs.ReadLaws.{read-nums, read-numbers, read-dates}
 use Prim.Native.Nat.{_≤_, _-_}
-use lib.ListN.{length}
 use Rattle.samples.proofs.registry_vectors.show_lines.Statement.{statement}
 use Rattle.samples.proofs.registry_vectors.show_lines.Tie as tie
 
 abbrev Inv-loop : tie.InvT-loop
-Inv-loop s at₀ at = at ≤ length s
+Inv-loop nums numbers dates n i₀ i = i ≤ n
 
 abbrev μ-loop : tie.MeasureT-loop
-μ-loop s at₀ at = length s - at
+μ-loop nums numbers dates n i₀ i = n - i
 
-ruleset laws = (next-in, needs)
+ruleset laws = (read-nums, read-numbers, read-dates, needs)
 
 pub show-lines-spec : {M : Type 1} → statement M
 show-lines-spec =
@@ -19,8 +18,6 @@ show-lines-spec =
     (tie.spec
     Inv-loop
     μ-loop
-    (λ c. search laws)
-    (λ c κs. search laws)
     (λ c. search laws)
     (λ c κs. search laws)
     (λ c κs. search laws)

@@ -1,12 +1,12 @@
 use borrow.Author.Needs.{needs}
 use Rattle.answer_reader.proofs.AnswerPartLaws.{date-good, date-bad}
-use Rattle.answer_reader.proofs.parts.with_date.Statement.{statement}
-use Rattle.answer_reader.proofs.parts.with_date.Tie as tie
+use Rattle.answer_reader.proofs.parts.held_date.Statement.{statement}
+use Rattle.answer_reader.proofs.parts.held_date.Tie as tie
 
 ruleset laws = (date-good, date-bad, needs)
 
-pub with-date-spec : {M : Type 1} → statement M
-with-date-spec =
+pub held-date-spec : {M : Type 1} → statement M
+held-date-spec =
     tie.close
     (tie.spec
     (λ c κs. search laws)
