@@ -27,6 +27,9 @@ use Rattle.directory.specs.Directory.{Listed}
 use Rattle.line_rows.specs.Lines.{LineRows, lineAt, linesOf, Read}
 use Rattle.posting.proofs.PostLaws.{line-applied}
 use Rattle.posting.proofs.DueLaws.{due-place, due-balance, due-near, paid-none, paid-at}
+use Rattle.posting.proofs.LookupLaws.{line-used, line-chained}
+use Rattle.index.specs.Index.{Chained}
+use Rattle.posting.specs.Lookup.{receiptAt}
 use Rattle.posting.proofs.HeldLaws.{held-more, Step, line-step, left-size, left-records, left-held}
 use Rattle.line_rows.proofs.ReadLaws.{next-line, last-line, read-small}
 
@@ -131,3 +134,20 @@ module _ (clock : List ℕ) (u : LineRows) (n : ℕ) (read : Read u n) (t₀ : R
         → (z : ℤ) → z ≡ toZ w64 (ofZ w64 (balanceAt g at)) +ℤ pos (x .amount) → mag z < 2 ^ 63
         → Going clock (linesOf u n) t₀ whole t′ (gateBalance (withUsed g (d .used)) at z) (i + 1)
     going-credited within at ea z ez fits = out _ (paid-at g d (x .amount) at ea (near (d .account) within at ea) z fits ez)
+
+    -- the chains follow it
+    module _ (heads next : List ℕ) (c : Chained (receiptAt (t .nums)) 0 (g .used) heads next) (room : 4096 ≡ length next) where
+      few : x .amount < 1000000000
+      few = read-small u n read i h x ex
+
+      pub going-chained : Chained (receiptAt (t′ .nums)) 0 (g .used) heads next × (g .used ≤ d .used) × (d .used ≤ g .used + 1)
+      going-chained =
+          let left = done .left g listed refl in
+          let more = line-used g t clock x _ (going .held) few v ev (paid g d (x .amount)) t′ left in
+          (line-chained g t clock x _ (going .held) few v ev (paid g d (x .amount)) t′ left heads next c, more .0, more .1)
+
+      pub going-room : (d .used ≤ length (t′ .nums)) × (d .used ≤ length next) × (d .used ≤ 4096)
+      going-room =
+          let on : Going clock (linesOf u n) t₀ whole t′ (paid g d (x .amount)) (i + 1) = out (paid g d (x .amount)) refl in
+          let most : d .used ≤ length (t′ .nums) = on .held .backed .whole .nums in
+          (most, omega (arith, on .held .backed .size), omega (arith, on .held .backed .size))

@@ -1,5 +1,5 @@
 -- Laws of the sweep.
-use Prim.Native.Nat.{ℕ, zero, suc, _+_, _*_, _^_, _≤_, _<_}
+use Prim.Native.Nat.{ℕ, zero, suc, _+_, _-_, _*_, _^_, _≤_, _<_}
 use native.Mathlib.Omega.{arith}
 use mathlib.Core.Path.{_≡_, refl, sym, ap, _∙_}
 use mathlib.Core.Bool.{Bool, true, false, not}
@@ -7,7 +7,7 @@ use mathlib.Core.List.{List, [], _∷_, _++_, map}
 use native.Mathlib.Numerals.{add-one}
 use lib.IntN.{ℤ, pos, _-ℤ_}
 use lib.Signed.{mag}
-use lib.ListN.{length, getD, take, drop, set, length-set, drop-of-length-le}
+use lib.ListN.{length, getD, take, drop, set, length-set, length-map, drop-of-length-le, List·getD-map}
 use mir.Syntax.{w64}
 use mir.Val.{toZ, ofZ}
 use lib.Seq.{drop-cons}
@@ -16,12 +16,16 @@ use Rattle.table.proofs.TableLaws.{length-records, getD-records, rows-kept}
 use Rattle.posting.proofs.HeldLaws.{held-more, Step, left-records, left-held}
 use Rattle.clearing.proofs.LinesLaws.{from-from}
 use Rattle.clearing.proofs.RevokeLaws.{revokedAt, revoke-step, revoked-out, debited-none, debited-at}
-use Rattle.posting.proofs.MatchLaws.{other-receipt}
+use Rattle.posting.proofs.LookupLaws.{match-receipt}
 use Rattle.posting.proofs.PostLaws.{at-nums, at-numbers, at-dates, found-within}
 use Rattle.posting.proofs.DueLaws.{due-place, due-balance, due-near}
 use Rattle.directory.specs.Directory.{holdersOf, Listed}
 use Rattle.directory.proofs.FindLaws.{listed-find}
-use Rattle.line_rows.proofs.ReadLaws.{next-line, last-line}
+use Rattle.line_rows.proofs.ReadLaws.{length-lines, getD-lines}
+use Rattle.index.specs.Index.{slotOf, Chained}
+use Rattle.index.proofs.ChainLaws.{slot-below, chained-same}
+use Rattle.index.proofs.WalkLaws.{Walk, walk-from, walk-hit, walk-next, walk-none, found-any}
+use Rattle.lists.specs.Lists.{firstFrom, isFound}
 use borrow.Author.Tests.{eq-eqb, ne-eqb, not-true, not-false}
 use Rattle.fields.specs.declared.number.Number.{Number}
 use Rattle.lists.specs.declared.Found.{Found}
@@ -35,28 +39,41 @@ use Rattle.table.specs.declared.Record.{Record}
 use Rattle.table.specs.Table.{Rows, recordAt, recordsOf, rowsFrom, rowsWith, noRecord}
 use Rattle.table.specs.Accounts.{findAccount, balanceAt, gateBalance}
 use Rattle.ledger.specs.Change.{revoked, debitedAt}
+use Rattle.texts.proofs.Tests.{cond-elim}
 use Rattle.posting.specs.Posting.{matches, Ledger, ledgerOf}
+use Rattle.posting.specs.Lookup.{receiptAt}
 use Rattle.clearing.specs.Clearing.{anyMatches, isStray, sweptRecord, sweptGate, sweepGates, swept}
 use Rattle.line_rows.specs.Lines.{LineRows, lineAt, linesOf}
 use Rattle.posting.specs.Steps.{Held, Left}
+use Rattle.clearing.specs.Steps.{receiptIn}
 
--- ---- whether any line matches a record
-module _ (u : LineRows) (n : ℕ) (r : Record) (i : ℕ) (passed : anyMatches (linesOf u n) r ≡ anyMatches (drop i (linesOf u n)) r) where
-  pub any-none : n ≤ i → false ≡ anyMatches (linesOf u n) r
-  unfolding anyMatches
-  any-none h = sym (passed ∙ rw (last-line u n i h))
+-- ---- whether any line matches a record: a walk along the chain of its receipt
+any-found : (xs : List Line) (r : Record) → isFound (firstFrom (λ (x : Line). matches x r) 0 xs) ≡ anyMatches xs r
+unfolding anyMatches
+any-found xs r = found-any (λ (x : Line). matches x r) (λ (l : List Line). anyMatches l r) refl (λ x l. refl) 0 xs
 
-  module _ (x : Line) (ex : x ≡ lineAt u i) (b : Bool) (eb : b ≡ matches x r) (h : i < n) where
-    pub any-here : b ≡ true → true ≡ anyMatches (linesOf u n) r
-    unfolding anyMatches
-    any-here y = sym (passed ∙ rw (next-line u n i x ex h, ← eb, y))
+module _ (u : LineRows) (n : ℕ) (r : Record) where
+  pub any-start : (heads next : List ℕ) → Chained (receiptIn (u .nums)) 0 n heads next → (at : ℕ) → at ≡ getD heads (slotOf (r .receipt)) 0
+      → Walk (λ (x : Line). matches x r) (linesOf u n) (receiptIn (u .nums)) (slotOf (r .receipt)) n at
+  any-start heads next c at e =
+      rw e (walk-from (λ (x : Line). matches x r) (linesOf u n) (lineAt u 0) (receiptIn (u .nums)) (slotOf (r .receipt)) n (length-lines u n)
+      (λ j z h y. ap slotOf (sym (match-receipt (lineAt u j) r (ap (λ (x : Line). matches x r) (sym (getD-lines u n j z h)) ∙ y))))
+      _ (c .head (slotOf (r .receipt)) (slot-below (r .receipt))))
 
-    pub any-pass : b ≡ false → anyMatches (linesOf u n) r ≡ anyMatches (drop (i + 1) (linesOf u n)) r
-    unfolding anyMatches
-    any-pass y = passed ∙ rw (next-line u n i x ex h, ← eb, y)
+  module _ (at : ℕ) (k : Walk (λ (x : Line). matches x r) (linesOf u n) (receiptIn (u .nums)) (slotOf (r .receipt)) n at) where
+    pub any-none : at ≤ 0 → false ≡ anyMatches (linesOf u n) r
+    any-none h = sym (sym (any-found (linesOf u n) r) ∙ ap isFound (walk-none k h))
 
-  pub any-other : i < n → (lineAt u i .receipt ≡ r .receipt → ⊥) → anyMatches (linesOf u n) r ≡ anyMatches (drop (i + 1) (linesOf u n)) r
-  any-other h d = any-pass (lineAt u i) refl false (other-receipt (lineAt u i) r (λ e. d (sym e))) h refl
+    module _ (h : 0 < at) (x : Line) (ex : x ≡ lineAt u (at - 1)) (b : Bool) (eb : b ≡ matches x r) where
+      tested : matches (getD (linesOf u n) (at - 1) x) r ≡ b
+      tested = ap (λ (y : Line). matches y r) (getD-lines u n (at - 1) x (omega (arith, k .most)) ∙ sym ex) ∙ sym eb
+
+      pub any-here : b ≡ true → true ≡ anyMatches (linesOf u n) r
+      any-here y = sym (sym (any-found (linesOf u n) r) ∙ ap isFound (walk-hit k h x (tested ∙ y)))
+
+      pub any-next : b ≡ false → (heads next : List ℕ) → Chained (receiptIn (u .nums)) 0 n heads next → (to : ℕ) → to ≡ getD next (at - 1) 0
+          → Walk (λ (x : Line). matches x r) (linesOf u n) (receiptIn (u .nums)) (slotOf (r .receipt)) n to
+      any-next y heads next c to e = walk-next k h heads next c to e x (tested ∙ y)
 
 -- ---- whether a record is a stray
 module _ (day : Day) (xs : List Line) (r : Record) where
@@ -227,3 +244,31 @@ module _ (clock : List ℕ) (day : Day) (xs : List Line) (t₀ : Rows) (g₀ : G
             → Sweeping clock day xs t₀ g₀ t′ (gateBalance g at z) (i + 1)
         sweeping-debited at ea z ez fits =
             out _ (debited-at g f (r .amount) at ea (balance-near h names keys listed (r .number) (r .kind) f ef at ea) z fits ez)
+
+-- ---- a sweep keeps the receipts, and so the chains
+swept-receipt : (clock : List ℕ) (day : Day) (xs : List Line) (r : Record) → (sweptRecord clock day xs r) .receipt ≡ r .receipt
+unfolding sweptRecord revoked
+swept-receipt clock day xs r = cond-elim (λ (q : Record). q .receipt ≡ r .receipt) (isStray day xs r) (revoked clock r) r (λ _. refl) (λ _. refl)
+
+module _ (clock : List ℕ) (day : Day) (xs : List Line) (g : Gate) (t : Rows) (g′ : Gate) (t′ : Rows) (is : swept clock day xs (ledgerOf g t) ≡ ledgerOf g′ t′) where
+  now-records : map (sweptRecord clock day xs) (recordsOf t (g .used)) ≡ recordsOf t′ (g′ .used)
+  unfolding swept
+  now-records = ap (λ (l : Ledger). l .records) is
+
+  as-many : g .used ≡ g′ .used
+  as-many =
+      sym (length-records t (g .used)) ∙ sym (length-map (recordsOf t (g .used)) (sweptRecord clock day xs))
+      ∙ ap length now-records ∙ length-records t′ (g′ .used)
+
+  same-at : (j : ℕ) → j < g .used → receiptAt (t .nums) j ≡ receiptAt (t′ .nums) j
+  same-at j h =
+      let f : Record → Record = sweptRecord clock day xs in
+      let k : j < g′ .used = omega (arith, as-many) in
+      ap (λ (r : Record). r .receipt) (sym (getD-records t (g .used) j noRecord h))
+      ∙ sym (swept-receipt clock day xs (getD (recordsOf t (g .used)) j noRecord))
+      ∙ ap (λ (r : Record). r .receipt) (sym (List·getD-map f (recordsOf t (g .used)) j noRecord))
+      ∙ ap (λ (rs : List Record). (getD rs j (f noRecord)) .receipt) now-records
+      ∙ ap (λ (r : Record). r .receipt) (getD-records t′ (g′ .used) j (f noRecord) k)
+
+  pub swept-chained : (heads next : List ℕ) → Chained (receiptAt (t .nums)) 0 (g .used) heads next → Chained (receiptAt (t′ .nums)) 0 (g′ .used) heads next
+  swept-chained heads next c = rw (← as-many) (chained-same (receiptAt (t .nums)) (receiptAt (t′ .nums)) (g .used) same-at heads next c)

@@ -1,30 +1,19 @@
 // The report: a byte for each line, 1 where it stands done in the table.
 use line_rows::reading;
 use lines::line::Line;
-use posting::matching;
-use table::Record;
-use table::rows;
+use posting::lookup;
+use posting::lookup::Sought;
 ghost use mathlib.Core.Path.{_≡_};
-ghost use mathlib.Core.Bool.{_&&_, cond};
+ghost use mathlib.Core.Bool.{cond};
 ghost use Prim.Native.Nat.{_≤_};
 ghost use lib.ListN.{length};
 ghost use Rattle.texts.specs.Lists.{over};
+ghost use Rattle.index.specs.Index.{Chained};
 ghost use Rattle.table.specs.Table.{recordsOf};
 ghost use Rattle.table.specs.Lent.{before};
-ghost use Rattle.posting.specs.Posting.{matches, isDone};
+ghost use Rattle.posting.specs.Lookup.{receiptAt};
 ghost use Rattle.clearing.specs.Clearing.{anyDone, reportOf};
 ghost use Rattle.line_rows.specs.Lines.{linesOf, Read, linesLent, linesBefore};
-
-// Whether a record is done and the line matches it.
-fn is_done_match(x: Line, r: Record) -> bool
-    ensures { λ b. ⌜ b ≡ isDone r && matches x r ⌝ }
-{
-    if r.state == table::DONE {
-        matching::matches_record(x, r)
-    } else {
-        false
-    }
-}
 
 // Whether the line matches a done record.
 fn any_done(
@@ -32,24 +21,16 @@ fn any_done(
     numbers: &[[u8; 30]],
     dates: &[[[u8; 19]; 3]],
     used: usize,
+    heads: &[u16],
+    next: &[u16],
     x: Line,
 ) -> bool
     requires { ⌜ (used ≤ length (now nums)) × (used ≤ length (now numbers)) × (used ≤ length (now dates)) ⌝ }
+    requires { ⌜ Chained (receiptAt (now nums)) 0 used (now heads) (now next) ⌝ }
     ensures { λ b. ⌜ b ≡ anyDone x (recordsOf (before nums numbers dates) used) ⌝ }
 {
-    let mut i: usize = 0;
-    while i < used {
-        if nums[i][0] != x.receipt {
-            i += 1;
-            continue;
-        }
-        let r = rows::load(nums, numbers, dates, i);
-        if is_done_match(x, r) {
-            return true;
-        }
-        i += 1;
-    }
-    false
+    let sought = Sought::MatchedDone;
+    lists::is_found(lookup::find(nums, numbers, dates, used, heads, next, sought, x))
 }
 
 // The byte of a line.
@@ -65,6 +46,8 @@ pub fn write_report(
     numbers: &[[u8; 30]],
     dates: &[[[u8; 19]; 3]],
     used: usize,
+    heads: &[u16],
+    next: &[u16],
     values: &[[u64; 4]],
     holders: &[[u8; 30]],
     days: &[[u8; 19]],
@@ -72,13 +55,13 @@ pub fn write_report(
     out: &mut [u8],
 )
     requires { ⌜ (used ≤ length (now nums)) × (used ≤ length (now numbers)) × (used ≤ length (now dates)) × (count ≤ length (now out)) ⌝ }
-    requires { ⌜ Read (linesLent values holders days) count ⌝ }
+    requires { ⌜ Chained (receiptAt (now nums)) 0 used (now heads) (now next) × Read (linesLent values holders days) count ⌝ }
     ensures { λ _. ⌜ now (out .exit) ≡ over (now (out .entry)) 0 (reportOf (linesOf (linesBefore values holders days) count) (recordsOf (before nums numbers dates) used)) ⌝ }
 {
     let mut i: usize = 0;
     while i < count {
         let x = reading::line_at(values, holders, days, i);
-        out[i] = mark(any_done(nums, numbers, dates, used, x));
+        out[i] = mark(any_done(nums, numbers, dates, used, heads, next, x));
         i += 1;
     }
 }

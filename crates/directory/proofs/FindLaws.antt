@@ -16,7 +16,8 @@ use Rattle.lists.proofs.ListLaws.{length-tab, getD-tab, map-tab, tab-same, tab-
 use Rattle.table.specs.declared.Account.{Account}
 use Rattle.table.specs.declared.Gate.{Gate}
 use Rattle.table.specs.Accounts.{isAccount, accountsOf, findAccount, noAccount, withBalance, gateBalance, withUsed}
-use Rattle.directory.specs.Directory.{holderAt, holdersOf, bareAt, Listed}
+use Rattle.directory.specs.Directory.{digestOf, holderAt, holdersOf, bareAt, Keyed, Listed}
+use Rattle.directory.proofs.DigestLaws.{digest-agrees}
 
 -- ---- a loop that has passed i accounts
 module _ (names keys : List (List ℕ)) (n : Number) (k i : ℕ)
@@ -36,8 +37,19 @@ module _ (names keys : List (List ℕ)) (n : Number) (k i : ℕ)
     pub holder-other : t ≡ false → findAccount n k (holdersOf names keys) ≡ firstFrom (isAccount n k) (i + 1) (drop (i + 1) (holdersOf names keys))
     holder-other e = passed ∙ search-miss (isAccount n k) i (holdersOf names keys) noAccount (omega (arith, size)) (tested ∙ e)
 
+  pub holder-digest : Keyed names keys → i < length names → (d : ℕ) → d ≡ digestOf n k → (getD (getD keys i []) 2 0 ≡ d → ⊥)
+      → findAccount n k (holdersOf names keys) ≡ firstFrom (isAccount n k) (i + 1) (drop (i + 1) (holdersOf names keys))
+  holder-digest keyed h d ed other = holder-other (holderAt names keys i) refl (isAccount n k (holderAt names keys i)) refl h (no-fit (isAccount n k (holderAt names keys i)) refl)
+    where
+      no-fit : (t : Bool) → isAccount n k (holderAt names keys i) ≡ t → isAccount n k (holderAt names keys i) ≡ false
+      no-fit false e = e
+      no-fit true e = absurd (other (keyed .digests .each i h ∙ digest-agrees n k (holderAt names keys i) e ∙ sym ed))
+
   pub holder-none : length names ≤ i → Nothing ≡ findAccount n k (holdersOf names keys)
   holder-none h = sym (passed ∙ search-end (isAccount n k) i (holdersOf names keys) noAccount (omega (arith, size)))
+
+pub key-place : (names keys : List (List ℕ)) → Keyed names keys → (i : ℕ) → i < length names → i < length keys
+key-place names keys keyed i h = omega (arith, keyed .same)
 
 -- what is found is one of the rows
 pub holder-in : (names keys : List (List ℕ)) (n : Number) (k i : ℕ) (f : Found) → f ≡ findAccount n k (holdersOf names keys) → f ≡ At i → i < length names
@@ -51,9 +63,6 @@ first-map f p i [] = refl
 first-map f p i (x ∷ l) = ap (λ (r : Found). cond (p (f x)) (At i) r) (first-map f p (i + 1) l)
 
 module _ (names keys : List (List ℕ)) (g : Gate) (listed : Listed names keys g) where
-  pub listed-same : length keys ≡ length names
-  listed-same = listed .keyed ∙ sym (listed .named)
-
   -- a lookup in the rows is one among the accounts: balances do not matter
   pub listed-find : (n : Number) (k : ℕ) → findAccount n k (holdersOf names keys) ≡ findAccount n k (accountsOf g)
   unfolding findAccount holdersOf isAccount

@@ -1,2 +1,3 @@
+pub mod DigestLaws
 pub mod FillLaws
 pub mod FindLaws

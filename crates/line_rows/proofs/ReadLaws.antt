@@ -76,7 +76,7 @@ pub length-lines : (u : LineRows) (n : ℕ) → length (linesOf u n) ≡ n
 unfolding linesOf
 length-lines u n = length-tab n (lineAt u)
 
-getD-lines : (u : LineRows) (n i : ℕ) (z : Line) → i < n → getD (linesOf u n) i z ≡ lineAt u i
+pub getD-lines : (u : LineRows) (n i : ℕ) (z : Line) → i < n → getD (linesOf u n) i z ≡ lineAt u i
 unfolding linesOf
 getD-lines u n i z h = getD-tab n (lineAt u) i z h
 

@@ -2,3 +2,4 @@ pub mod HeldLaws
 pub mod DueLaws
 pub mod MatchLaws
 pub mod PostLaws
+pub mod LookupLaws

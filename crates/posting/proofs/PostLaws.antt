@@ -24,6 +24,7 @@ use Rattle.directory.proofs.FindLaws.{listed-find, holder-in}
 use Rattle.ledger.specs.Change.{creditedAt}
 use Rattle.posting.specs.Posting.{matches, isDone, postVerdict, verdictOf, restored, postedRecord, Ledger, Verdict, Keeps, Restores, Posts, Unposted, applied, settleLine, ledgerOf}
 use Rattle.posting.specs.declared.applying.Due.{Due}
+use Rattle.posting.specs.Lookup.{SameReceipt, fits}
 use Rattle.posting.specs.Steps.{Left, Placed, paid, Applied}
 use Rattle.posting.proofs.HeldLaws.{post-room, verdict-post, verdict-restore}
 use Rattle.posting.proofs.MatchLaws.{match-within}
@@ -80,10 +81,10 @@ module _ (t : Rows) (n : ℕ) (x : Line) (f : Found) (ef : f ≡ firstFrom (matc
         let there : getD (recordsOf t n) i noRecord ≡ r = getD-records t n i noRecord (match-within t n x i f ef e) ∙ sym er in
         ev ∙ rw (eu, ← ef, e, there)
 
-    pub judged-new : (names keys : List (List ℕ)) → Listed names keys g → f ≡ Nothing → (q : Found) → q ≡ findRecord (x .receipt) (recordsOf t n)
+    pub judged-new : (names keys : List (List ℕ)) → Listed names keys g → f ≡ Nothing → (q : Found) → q ≡ firstFrom (fits SameReceipt x) 0 (recordsOf t n)
         → (k : Found) → k ≡ findAccount (x .number) (x .kind) (holdersOf names keys) → (v : Verdict) → v ≡ postVerdict q k (leb lent n)
         → v ≡ verdictOf g (recordsOf t (g .used)) lent x
-    unfolding verdictOf isFull
+    unfolding verdictOf isFull findRecord
     judged-new names keys listed e q eq k ek v ev = ev ∙ rw (eu, ← ef, e, ← eq, ← listed-find names keys g listed (x .number) (x .kind), ← ek)
 
 -- ---- what a verdict says of its place

@@ -1,2 +1,3 @@
 pub mod Posting
 pub mod Steps
+pub mod Lookup

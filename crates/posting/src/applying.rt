@@ -12,6 +12,7 @@ ghost use Prim.Native.Nat.{_<_, _≤_};
 ghost use lib.ListN.{length};
 ghost use Rattle.table.specs.Table.{recordAt, rowsWith, Whole, SameLengths};
 ghost use Rattle.table.specs.Lent.{lent, before, after};
+ghost use Rattle.directory.specs.Directory.{Keyed};
 ghost use Rattle.planning.specs.Plan.{Within};
 ghost use Rattle.posting.specs.Posting.{restored, postedRecord};
 ghost use Rattle.posting.specs.Steps.{Placed, Applied};
@@ -80,13 +81,13 @@ pub fn apply(
     dates: &mut [[[u8; 19]; 3]],
     used: usize,
     names: &[[u8; 30]],
-    keys: &[[u64; 2]],
+    keys: &[[u64; 3]],
     clock: [u8; 19],
     x: Line,
     v: Verdict,
 ) -> Due
     requires { ⌜ Whole (lent nums numbers dates) used × SameLengths (lent nums numbers dates) × (length (now nums) ≤ 4096) ⌝ }
-    requires { ⌜ (length (now keys) ≡ length (now names)) × Placed v used (length (now nums)) (length (now names)) ⌝ }
+    requires { ⌜ Keyed (now names) (now keys) × Placed v used (length (now nums)) (length (now names)) ⌝ }
     ensures { λ d. ⌜ Applied (now (names .entry)) (now (keys .entry)) used (before nums numbers dates) clock x v d (after nums numbers dates) ⌝ }
     ensures { λ d. ⌜ Within (d .account) (length (now (names .entry))) ⌝ }
 {

@@ -1,5 +1,6 @@
 // The verdict on one line of a registry: what it does to the table.
-use crate::matching;
+use crate::lookup;
+use crate::lookup::Sought;
 use lines::line::Line;
 use lists::Found;
 use table::Gate;
@@ -8,10 +9,12 @@ use table::rows;
 ghost use mathlib.Core.Path.{_≡_};
 ghost use mathlib.Core.Bool.{cond};
 ghost use lib.ListN.{length};
+ghost use Rattle.index.specs.Index.{Chained};
 ghost use Rattle.table.specs.Table.{recordsOf, Whole};
 ghost use Rattle.table.specs.Lent.{lent, before};
 ghost use Rattle.posting.specs.Posting.{isDone, postVerdict, verdictOf, Keeps, Restores};
-ghost use Rattle.directory.specs.Directory.{Listed};
+ghost use Rattle.posting.specs.Lookup.{receiptAt};
+ghost use Rattle.directory.specs.Directory.{Keyed, Listed};
 
 // The record that it matches is done, or at a place to be done again; it is posted to an account; or none of these.
 pub enum Verdict {
@@ -56,19 +59,24 @@ pub fn judge(
     dates: &[[[u8; 19]; 3]],
     used: usize,
     names: &[[u8; 30]],
-    keys: &[[u64; 2]],
+    keys: &[[u64; 3]],
     x: Line,
+    heads: &[u16],
+    next: &[u16],
 ) -> Verdict
-    requires { ⌜ Whole (lent nums numbers dates) used × (length (now keys) ≡ length (now names)) ⌝ }
+    requires { ⌜ Whole (lent nums numbers dates) used × Keyed (now names) (now keys) ⌝ }
+    requires { ⌜ Chained (receiptAt (now nums)) 0 used (now heads) (now next) ⌝ }
     ensures { λ v. ⌜ ((g : Gate) → Listed (now (names .entry)) (now (keys .entry)) g → g .used ≡ used
         → v ≡ verdictOf g (recordsOf (before nums numbers dates) (g .used)) (length (now (nums .entry))) x) ⌝ }
 {
-    let found = matching::find_match(nums, numbers, dates, used, x);
+    let sought = Sought::Matched;
+    let found = lookup::find(nums, numbers, dates, used, heads, next, sought, x);
     match found {
         Found::At(i) => judge_match(rows::load(nums, numbers, dates, i), i),
         Found::Nothing => {
             let n = x.number;
-            let recorded = rows::find_record(nums, numbers, dates, used, x.receipt);
+            let same = Sought::SameReceipt;
+            let recorded = lookup::find(nums, numbers, dates, used, heads, next, same, x);
             let account = directory::find(names, keys, n, x.kind);
             judge_new(recorded, account, nums.len() <= used)
         }

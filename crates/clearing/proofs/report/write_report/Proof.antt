@@ -12,14 +12,14 @@ use Rattle.clearing.proofs.report.write_report.Statement.{statement}
 use Rattle.clearing.proofs.report.write_report.Tie as tie
 
 abbrev Inv-loop : tie.InvT-loop
-Inv-loop nums numbers dates used values holders days count out₀ i₀ out i =
+Inv-loop nums numbers dates used heads next values holders days count out₀ i₀ out i =
     let rs = recordsOf (record { nums = nums; numbers = numbers; dates = dates }) used in
     let u : LineRows = record { nums = values; numbers = holders; dates = days } in
     (i ≤ count) × (length out ≡ length out₀) × (count ≤ length out)
     × (over out₀ 0 (reportOf (linesOf u count) rs) ≡ over out i (reportOf (drop i (linesOf u count)) rs))
 
 abbrev μ-loop : tie.MeasureT-loop
-μ-loop nums numbers dates used values holders days count out₀ i₀ out i = count - i
+μ-loop nums numbers dates used heads next values holders days count out₀ i₀ out i = count - i
 
 ruleset laws = (report-end, report-on, report-place, read-nums, read-numbers, read-dates, needs)
 

@@ -1,6 +1,6 @@
 use borrow.Author.Needs.{needs}
 use Rattle.directory.specs.Directory.{Listed}
-use Rattle.directory.proofs.FindLaws.{listed-same, listed-moved}
+use Rattle.directory.proofs.FindLaws.{listed-moved}
 use Rattle.clearing.proofs.SweepLaws.{Sweeping, sweeping-start, sweeping-nums, sweeping-numbers, sweeping-dates, sweeping-small, sweeping-fits, sweeping-account, sweeping-near, sweeping-skip, sweeping-none, sweeping-debited, sweeping-end, sweeping-last, sweeping-ledger}
 use Prim.Native.Nat.{_≤_, _-_}
 use native.Mathlib.Omega.{arith}
@@ -12,14 +12,14 @@ use Rattle.clearing.proofs.sweeping.sweep.Statement.{statement}
 use Rattle.clearing.proofs.sweeping.sweep.Tie as tie
 
 abbrev Inv-loop : tie.InvT-loop
-Inv-loop nums₀ numbers₀ dates₀ clock day values holders days count names keys used gate₀ i₀ nums numbers dates gate i =
+Inv-loop nums₀ numbers₀ dates₀ clock day values holders days count names keys heads next used gate₀ i₀ nums numbers dates gate i =
     let t₀ : Rows = record { nums = nums₀; numbers = numbers₀; dates = dates₀ } in
     let u : LineRows = record { nums = values; numbers = holders; dates = days } in
     (i ≤ used) × (used ≡ gate₀ .used) × (length nums ≡ length nums₀) × (length numbers ≡ length numbers₀) × (length dates ≡ length dates₀)
     × Listed names keys gate × Sweeping clock day (linesOf u count) t₀ gate₀ (record { nums = nums; numbers = numbers; dates = dates }) gate i
 
 abbrev μ-loop : tie.MeasureT-loop
-μ-loop nums₀ numbers₀ dates₀ clock day values holders days count names keys used gate₀ i₀ nums numbers dates gate i = used - i
+μ-loop nums₀ numbers₀ dates₀ clock day values holders days count names keys heads next used gate₀ i₀ nums numbers dates gate i = used - i
 
 load-requires : tie.Need-load-requires Inv-loop μ-loop
 load-requires c κs =
@@ -47,7 +47,7 @@ revoke-at-requires c κs =
     let n = c .before .before .before .before .before .before .before .before .before in
     let v = n .before .loop .inv in
     let h = n .loop-test .taken in
-    (sweeping-nums _ _ _ _ _ _ _ _ (v .6) h, sweeping-numbers _ _ _ _ _ _ _ _ (v .6) h, sweeping-dates _ _ _ _ _ _ _ _ (v .6) h, listed-same _ _ _ (v .5))
+    (sweeping-nums _ _ _ _ _ _ _ _ (v .6) h, sweeping-numbers _ _ _ _ _ _ _ _ (v .6) h, sweeping-dates _ _ _ _ _ _ _ _ (v .6) h, v .5 .keyed)
 
 add-i-2 : tie.Need-add-i-2 Inv-loop μ-loop
 add-i-2 c =
@@ -88,7 +88,7 @@ minus-requires c κs =
     let n = l .before .before .before .before in
     let v = n .before .loop .inv in
     let h = n .loop-test .taken in
-    (sweeping-near _ _ _ _ _ _ _ _ (v .6) h _ _ (v .5) _ _ _ (w .revoke-at .ensures .1) _ (a .account .given .1), sweeping-small _ _ _ _ _ _ _ _ (v .6) h _ (l .load .ensures .0))
+    (sweeping-near _ _ _ _ _ _ _ _ (v .6) h _ _ (v .5) _ _ _ (w .revoke-at .ensures .1) _ (a .account .given .1), search (sweeping-small _ _ _ _ _ _ _ _ (v .6) h _ (l .load .ensures .0), needs))
 
 element-set-from-a : tie.Need-element-set-from-a Inv-loop μ-loop
 element-set-from-a c = element-copy-out-a (c .before .before .before)

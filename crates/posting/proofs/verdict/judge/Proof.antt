@@ -8,10 +8,10 @@ load-requires : tie.Need-load-requires
 load-requires c κs =
     let k = c .before in
     let f = k .before .before in
-    let s = f .before in
+    let s = f .before .before .before in
     let t : Rows = record { nums = s .args .nums .now; numbers = s .args .numbers .now; dates = s .args .dates .now } in
     let e = k .found .given .1 in
-    (match-nums t _ (s .args .x) _ (f .find-match .ensures) (s .pre .0) _ e, match-numbers t _ (s .args .x) _ (f .find-match .ensures) (s .pre .0) _ e, match-dates t _ (s .args .x) _ (f .find-match .ensures) (s .pre .0) _ e)
+    (match-nums t _ (s .args .x) _ (f .find .ensures) (s .pre .0 .0) _ e, match-numbers t _ (s .args .x) _ (f .find .ensures) (s .pre .0 .0) _ e, match-dates t _ (s .args .x) _ (f .find .ensures) (s .pre .0 .0) _ e)
 
 pub judge-spec : {M : Type 1} → statement M
 judge-spec =
