@@ -36,6 +36,26 @@ fn deliver<'a>(gates: &'a Gates, touched: Touched, request: &'a [u8]) -> Vec<Sid
     ]
 }
 
+/// A request on the proved side and the twin's, whatever the code.
+pub fn request<'a>(gates: &'a Gates, request: &'a [u8]) -> Vec<Side<'a>> {
+    vec![
+        gate_side(&gates.proved, Touched::Nothing, |gate: &mut Gate, out| {
+            gate.deliver(CLOCK, black_box(request), out).map(|answer| answer.code)
+        }),
+        gate_side(&gates.lent, Touched::Nothing, |Lent { head, table }, out| {
+            head.deliver(table_rows(table), CLOCK, black_box(request), out)
+        }),
+    ]
+}
+
+/// What it costs alone that a gate goes in and comes back by value: one that is refused at its first number.
+pub fn refused(stopwatch: &mut Stopwatch) {
+    stopwatch.table("A gate of 257 accounts, refused at once", false);
+    let mut gates = Gates::new(1, 0, 16, |_| TODAY, |_| true);
+    (gates.proved.head.count, gates.lent.head.count) = (257, 257);
+    stopwatch.row("deliver", request(&gates, b"action=status&receipt=1"));
+}
+
 /// Each call once, with 256 records and 16 accounts.
 pub fn calls(stopwatch: &mut Stopwatch) {
     stopwatch.table("Calls of the gate, 256 records in use, 16 accounts", true);

@@ -15,6 +15,7 @@ fn main() {
     let mut stopwatch = Stopwatch::new();
     gate::calls(&mut stopwatch);
     gate::growth(&mut stopwatch);
+    gate::refused(&mut stopwatch);
     gate::settlements(&mut stopwatch);
     gate::settlement_growth(&mut stopwatch);
     agent::calls(&mut stopwatch);

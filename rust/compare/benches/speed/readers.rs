@@ -1,14 +1,14 @@
 //! The readers alone: what a call that reads a text takes longer than the same call where no byte of it is looked at,
 //! on a state with next to nothing in it.
 use crate::agent::{CHECKED, PAID};
-use crate::gate::gate_side;
+use crate::gate::{gate_side, request};
 use crate::sides::{Books, CLOCK, Gates, Lent, LentBook, PutBack, START, TODAY, Touched, payment};
 use crate::stopwatch::{Side, Stopwatch, side};
 use compare::sides::{self, book_rows, table_rows};
 use compare::texts::{good_registry, payment_request};
 use roosteryore::{Action, Gate};
 use std::hint::black_box;
-use twin::request;
+use twin::request as asked;
 
 /// Requests and registries at a gate without accounts and records, answers at a book of one entry.
 pub fn readers(stopwatch: &mut Stopwatch) {
@@ -19,13 +19,13 @@ pub fn readers(stopwatch: &mut Stopwatch) {
     let status = "action=status&receipt=100000021";
     let coded = format!("{status}&coded={}", "%7E".repeat(670));
     for (name, text) in [("a payment", &paid[..]), ("a status", status), ("2,048 coded bytes", &coded)] {
-        let sides = |text| deliver(&gates, text);
+        let sides = |text| request(&gates, text);
         stopwatch.difference(&format!("request, {name}"), sides(text.as_bytes()), sides(&too_long));
     }
     let books = Books::new(1, 16, |_| TODAY);
     let (known, unknown) = (books.proved.head.first, 1);
-    let check = (Action::Check, request::Action::Check);
-    let pay = (Action::Payment, request::Action::Payment);
+    let check = (Action::Check, asked::Action::Check);
+    let pay = (Action::Payment, asked::Action::Payment);
     for (name, action, text) in [("a check's", check, CHECKED), ("a payment's", pay, PAID)] {
         let sides = |action, receipt| take_answer(&books, action, receipt, text);
         stopwatch.difference(&format!("answer, {name}"), sides(action, known), sides(pay, unknown));
@@ -35,19 +35,8 @@ pub fn readers(stopwatch: &mut Stopwatch) {
     stopwatch.difference("registry, 512 lines", sides(&lines), sides(b"?"));
 }
 
-fn deliver<'a>(gates: &'a Gates, request: &'a [u8]) -> Vec<Side<'a>> {
-    vec![
-        gate_side(&gates.proved, Touched::Nothing, |gate: &mut Gate, out| {
-            gate.deliver(CLOCK, black_box(request), out).map(|answer| answer.code)
-        }),
-        gate_side(&gates.lent, Touched::Nothing, |Lent { head, table }, out| {
-            head.deliver(table_rows(table), CLOCK, black_box(request), out)
-        }),
-    ]
-}
-
 /// With a receipt that is not in the book no byte of a payment's answer is looked at.
-fn take_answer<'a>(books: &'a Books, action: (Action, request::Action), receipt: u64, text: &'a [u8]) -> Vec<Side<'a>> {
+fn take_answer<'a>(books: &'a Books, action: (Action, asked::Action), receipt: u64, text: &'a [u8]) -> Vec<Side<'a>> {
     vec![
         book_side(&books.proved, move |book| book.take_answer(action.0, receipt, black_box(text))),
         book_side(&books.lent, move |LentBook { head, entries }| {
