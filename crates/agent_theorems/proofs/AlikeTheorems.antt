@@ -1,21 +1,20 @@
 -- The registry of a frozen day is the same bytes at each writing, whatever answers and requests come between.
-use Prim.Native.Nat.{ℕ, _<_}
-use mathlib.Core.Path.{_≡_, refl, sym, ap, _∙_}
-use mathlib.Core.Bool.{Bool, true, false}
+use Prim.Native.Nat.{ℕ}
+use mathlib.Core.Path.{_≡_, sym, ap, _∙_}
+use mathlib.Core.Bool.{true, false}
 use mathlib.Core.List.{List}
 use lib.ListN.{set, getD}
 use Rattle.days.specs.declared.calendar.Day.{Day}
 use Rattle.days.specs.Calendar.{dayBefore}
 use Rattle.payments.specs.declared.Action.{Action}
 use Rattle.lists.specs.declared.Found.{Found}
-use Rattle.lists.specs.declared.Found.the-variants.{At}
 use Rattle.book.specs.declared.Book.{Book}
 use Rattle.book.specs.declared.Entry.{Entry}
-use Rattle.book.specs.Entries.{BookRows, noEntry, entryAt, entriesOf, bookWith}
+use Rattle.book.specs.Entries.{BookRows, noEntry, entryAt, entriesOf}
 use Rattle.book_validity.specs.BookValid.{bookGood, ReadyBook}
 use Rattle.book.proofs.EntryLaws.{EntryRoom, entries-set, getD-entries}
 use Rattle.daybook.specs.Freezing.{isFrozen}
-use Rattle.listing.specs.Listing.{isListed, listed, registryOf, writeRegistry}
+use Rattle.listing.specs.Listing.{isListed, registryOf, writeRegistry}
 use Rattle.agent_theorems.proofs.ListedTheorems.{registry-same, writing-same, unfrozen-off, listed-set}
 use Rattle.answering.specs.Answering.{takeAnswer}
 use Rattle.writing.specs.Writing.{writeRequest}

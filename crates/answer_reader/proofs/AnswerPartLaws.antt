@@ -27,7 +27,7 @@ use Rattle.answer_reader.specs.declared.tags.Element.the-variants.{Absen
 use Rattle.answer_reader.specs.declared.parts.Part.{Part}
 use Rattle.answer_reader.specs.declared.parts.Part.the-variants.{Code, Authcode, Date, Message}
 use Rattle.answers.specs.Answer.{xmlLine, responseTag, opening, closing}
-use Rattle.answer_reader.specs.AnswerRead.{starts, skipBlanks, Found, elementAt, nameOf, mayStand, mayLackDate, mayLack, emptyAnswer, withCode, withAuthcode, withDate, unreadable, good, numberHeld, filled, Reading, Unreadable, SoFar, readOn, tagStep, partStep, openStep, partsStep, endStep, answerRead}
+use Rattle.answer_reader.specs.AnswerRead.{starts, skipBlanks, Found, elementAt, nameOf, mayStand, mayLackDate, mayLack, emptyAnswer, withCode, withAuthcode, withDate, unreadable, good, numberHeld, filled, Unreadable, SoFar, readOn, tagStep, partStep, openStep, partsStep, endStep, answerRead}
 use Rattle.answer_reader.specs.AnswerParts.{foundOf, noStep, absentStep, numberStep, dateStep, messageStep, filledStep, dateIn, heldBy, given, Unheld, Takes, Gives, placed, Passes, noParts, answerOf, partsOf}
 
 pub none-read : (x : Answer) → x ≡ emptyAnswer → record { ok = false; answer = x } ≡ unreadable

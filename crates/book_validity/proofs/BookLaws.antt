@@ -3,18 +3,16 @@ use mathlib.Core.Path.{_≡_, refl, sym, ap, subst⁻¹, _∙_}
 use mathlib.Core.Logic.{_≢_}
 use mathlib.Core.Bool.{Bool, true, _&&_}
 use mathlib.Core.List.{List}
-use Prim.Native.Nat.{ℕ, zero, suc, _+_, _-_, _<_, _≤_}
+use Prim.Native.Nat.{ℕ, _+_, _-_, _<_, _≤_}
 use native.Mathlib.Decide.{ℕ-discrete}
 use native.Mathlib.Omega.{arith}
-use lib.Dec.{leb}
 use lib.ListN.{length, getD, length-set}
-use borrow.Author.Tests.{eq-eqb, ne-eqb, eqb-true, leb-true}
+use borrow.Author.Tests.{eq-eqb, eqb-true}
 use Rattle.days.specs.declared.calendar.Day.{Day}
 use Rattle.days.specs.declared.calendar.DayRead.the-variants.{Good}
 use Rattle.days.specs.Calendar.{isDay}
 use Rattle.fields.specs.Codes.{isReceipt}
 use Rattle.dates.specs.Date.{dateDay}
-use Rattle.texts.specs.Digits.{within}
 use Rattle.texts.proofs.Tests.{and-left, and-right, no-claim}
 use Rattle.lists.specs.declared.Found.{Found}
 use Rattle.lists.specs.declared.Found.the-variants.{At, Nothing}
@@ -24,9 +22,7 @@ use Rattle.lists.proofs.LentLaws.{lent-facts, facts-lent}
 use Rattle.lists.proofs.ListLaws.{all-at, all-of, search-within, found-fits, found-none}
 use Rattle.book.specs.declared.Book.{Book}
 use Rattle.book.specs.declared.Entry.{Entry}
-use Rattle.book.specs.declared.State.{State}
-use Rattle.book.specs.declared.State.the-variants.{Asked, Credited, CancelAsked, Cancelled, Unposted}
-use Rattle.book.specs.Entries.{BookRows, entryAt, entriesOf, entryNums, bookWith, isEntry, findEntry, stateNumber, stateOf}
+use Rattle.book.specs.Entries.{BookRows, entryAt, entriesOf, entryNums, bookWith, isEntry, findEntry}
 use Rattle.book_validity.specs.BookValid.{entryFields, inTurn, entryGood, dayCount, daysGood, bookLent, bookHead, bookGood}
 use Rattle.book.proofs.EntryLaws.{EntryRoom, entry-other, entry-same, entries-set, entries-more, length-entries, getD-entries}
 use Rattle.book_validity.proofs.CountLaws.{count-set, days-few, days-kept, days-more}

@@ -1,6 +1,6 @@
 -- What a payment is known by, which no answer, writing or report changes; its state and its authcode may.
 use mathlib.Core.Path.{_≡_, refl, ap, _∙_}
-use mathlib.Core.Bool.{Bool, true, false}
+use mathlib.Core.Bool.{true}
 use Rattle.fields.specs.Amount.{isAmount}
 use Rattle.fields.specs.Codes.{isReceipt, isKind}
 use Rattle.dates.specs.Date.{isWritten}
@@ -8,9 +8,6 @@ use Rattle.texts.specs.Digits.{within}
 use Rattle.fields.specs.Number.{isNumber}
 use Rattle.texts.proofs.Tests.{both}
 use Rattle.book.specs.declared.Entry.{Entry}
-use Rattle.book.specs.declared.State.{State}
-use Rattle.book.specs.declared.State.the-variants.{Asked, Credited, CancelAsked, Cancelled, Unposted}
-use Rattle.book.specs.Entries.{stateNumber}
 use Rattle.book_validity.specs.BookValid.{entryFields}
 
 -- ---- the fields of an entry, as facts

@@ -1,7 +1,7 @@
 -- Document 01, "Requests": where a request's parameters stand, and their pieces.
 use Prim.Native.Nat.{ℕ, suc}
 use mathlib.Core.List.{List, [], _∷_}
-use mathlib.Core.Bool.{Bool, true, false, cond}
+use mathlib.Core.Bool.{Bool, cond}
 use lib.ListN.{length, take, drop}
 use lib.Dec.{eqb, ltb}
 use Rattle.coding.specs.declared.params.Method.{Method}

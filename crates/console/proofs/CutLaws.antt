@@ -5,7 +5,7 @@ use native.Mathlib.Decide.{decLt}
 use native.Mathlib.Omega.{arith}
 use mathlib.Core.Path.{_≡_, refl, sym, ap, _∙_}
 use mathlib.Core.List.{List, [], _∷_}
-use mathlib.Core.Bool.{Bool, true, false, cond, not, _&&_, and-false}
+use mathlib.Core.Bool.{true, false, cond, not, _&&_, and-false}
 use lib.Dec.{leb, eqb, leb·zero, leb·suc-suc}
 use lib.ListN.{length, getD, take, replicate}
 use lib.Seq.{take-all, length-take-le, take-nil}

@@ -7,7 +7,7 @@ use Rattle.table.specs.Table.{Rows}
 use Rattle.orders.specs.declared.Console.{Console}
 use Rattle.gathering.specs.declared.Held.{Held}
 use Rattle.gathering.specs.Held.{heldText, absorbed, emptied}
-use Rattle.orders.specs.Order.{Turn, lineTurn, turnText}
+use Rattle.orders.specs.Order.{lineTurn, turnText}
 
 -- ---- the input, byte by byte
 pub record Fed : Type 0 where

@@ -1,7 +1,7 @@
 -- The calls of a session: a part of its input, the end of its input, or all of it at once. A line prints at most 64 bytes.
 use Prim.Native.Nat.{ℕ, _+_, _*_}
 use mathlib.Core.Path.{_≡_}
-use mathlib.Core.List.{List, [], _++_}
+use mathlib.Core.List.{List, []}
 use mathlib.Core.Bool.{Bool, true, false, cond}
 use lib.Dec.{leb}
 use lib.ListN.{length}
@@ -9,7 +9,7 @@ use Rattle.texts.specs.Lists.{over}
 use Rattle.table.specs.Table.{Rows}
 use Rattle.orders.specs.declared.Console.{Console}
 use Rattle.gathering.specs.declared.Held.{Held}
-use Rattle.orders.specs.Order.{Turn, lineTurn, turnText}
+use Rattle.orders.specs.Order.{lineTurn, turnText}
 use Rattle.gathering.specs.Held.{heldText, emptied}
 use Rattle.console.specs.Feed.{Fed, fed, finished}
 use Rattle.console.specs.Session.{newFed, sessionText}

@@ -1,18 +1,16 @@
 -- Document 01, the session program: all of its input to all of its output, line by line.
 use Prim.Native.Nat.{ℕ}
 use mathlib.Core.List.{List, [], _∷_, _++_}
-use mathlib.Core.Bool.{true, false, cond}
+use mathlib.Core.Bool.{false}
 use lib.IntN.{pos}
 use lib.ListN.{replicate}
-use Rattle.days.specs.declared.calendar.Day.{Day}
 use Rattle.fields.specs.Number.{noNumber}
 use Rattle.coding.specs.Params.{splitAt}
-use Rattle.table.specs.declared.Account.{Account}
 use Rattle.table.specs.declared.Gate.{Gate}
 use Rattle.table.specs.Table.{Rows}
 use Rattle.orders.specs.declared.Console.{Console}
 use Rattle.gathering.specs.Held.{newHeld}
-use Rattle.orders.specs.Order.{Turn, lineTurn, turnText}
+use Rattle.orders.specs.Order.{lineTurn, turnText}
 use Rattle.console.specs.Feed.{Fed}
 
 -- the lines, ended by 0A (10); an empty rest behind the last is none

@@ -2,7 +2,7 @@
 use Prim.Native.Nat.{ℕ, _+_, _-_, _*_, _%_, _≤_, _<_}
 use native.Mathlib.Omega.{arith}
 use mathlib.Core.Path.{_≡_, refl, sym, _∙_}
-use mathlib.Core.Bool.{Bool, true, false, cond, not, _&&_, _||_, and-false}
+use mathlib.Core.Bool.{Bool, true, false, not, and-false}
 use mathlib.Core.Logic.{_⊎_, inl, inr}
 use mathlib.Core.List.{List}
 use mir.Syntax.{w16}
@@ -13,7 +13,7 @@ use borrow.Author.Tests.{le-leb, lt-leb, lt-ltb, le-ltb, eq-eqb, ne-eqb, leb-tru
 use Rattle.days.specs.declared.calendar.Day.{Day}
 use Rattle.days.specs.declared.calendar.DayRead.{DayRead}
 use Rattle.days.specs.declared.calendar.DayRead.the-variants.{Good, NoDate}
-use Rattle.days.specs.Calendar.{leapYear, daysIn, isDate, isDay, dayOf, nextDay, dayKey, dayBefore, sameDay, onDay, upTo, twoDigits, dayWith, dayPart, dayRead}
+use Rattle.days.specs.Calendar.{leapYear, daysIn, isDate, dayOf, nextDay, dayKey, dayBefore, sameDay, onDay, upTo, twoDigits, dayWith, dayPart, dayRead}
 use Rattle.texts.proofs.Tests.{and-left, and-right}
 
 module _ (y : ℕ) where

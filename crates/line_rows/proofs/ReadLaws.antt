@@ -8,8 +8,8 @@ use mathlib.Core.Logic.{_≢_}
 use mathlib.Core.Bool.{Bool, true, false, cond, not, _&&_}
 use mathlib.Core.List.{List, [], _∷_, _++_, append-nil}
 use lib.Dec.{ltb, leb}
-use lib.ListN.{length, getD, take, drop, length-set, length-drop, drop-of-length-le}
-use lib.Seq.{drop-cons, drop-drop, append-snoc, getD-set-same, getD-set-other}
+use lib.ListN.{length, getD, take, drop, length-set, drop-of-length-le}
+use lib.Seq.{drop-cons, append-snoc, getD-set-same, getD-set-other}
 use Rattle.texts.specs.declared.digits.Digits.{Digits}
 use Rattle.texts.specs.declared.digits.Digits.the-variants.{Value, Malformed}
 use Rattle.fields.specs.declared.number.NumberRead.{NumberRead}

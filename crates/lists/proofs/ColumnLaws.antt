@@ -1,5 +1,5 @@
 -- Laws of lists that are lent in columns: the first elements of a column are what a list of records holds there, the others stay as they were lent.
-use mathlib.Core.Path.{_≡_, refl, sym, ap, _∙_}
+use mathlib.Core.Path.{_≡_, sym, ap, _∙_}
 use mathlib.Core.Logic.{_≢_}
 use mathlib.Core.List.{List, [], _∷_, _++_, map, map-append}
 use Prim.Native.Nat.{ℕ, suc, _+_, _-_, _<_, _≤_}
@@ -8,7 +8,7 @@ use native.Mathlib.Omega.{arith}
 use lib.ListN.{length, take, drop, getD, set, length-append, take-append-drop, length-map, length-drop, List·getD-append, List·getD-map}
 use lib.Seq.{length-take-le, set-append-left, set-split, append-snoc, set-at, drop-cons}
 use Rattle.lists.specs.Lists.{tab}
-use Rattle.lists.proofs.ListLaws.{length-tab, tab-same, tab-set, map-set, getD-other}
+use Rattle.lists.proofs.ListLaws.{tab-same, tab-set, map-set, getD-other}
 
 -- ---- records by their places: u is t with r at i
 module _ {R : Type 0} (t u : ℕ → R) (i : ℕ) (r : R) (other : (j : ℕ) → j ≢ i → u j ≡ t j) (same : u i ≡ r) where

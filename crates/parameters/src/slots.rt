@@ -111,7 +111,7 @@ pub fn gather(s: &[u8]) -> Scan
             return broken();
         }
         let k = p.place;
-        if 7 <= k {
+        if action::NO_NAME <= k {
             at = next;
             continue;
         }

@@ -37,7 +37,7 @@ use Rattle.rules.specs.declared.decision.View.{View}
 use Rattle.rules.specs.declared.decision.Decided.{Decided}
 use Rattle.planning.specs.declared.plan.Plan.{Plan}
 use Rattle.rules.specs.Decision.{decision}
-use Rattle.planning.specs.Plan.{planWith, planOf, Within, recordFound, standingOf, dateClosed, accountOf, dateOf, isShort, isFull, viewOf}
+use Rattle.planning.specs.Plan.{planWith, Within, recordFound, standingOf, dateClosed, accountOf, dateOf, isShort, isFull, viewOf}
 use Rattle.table.specs.Table.{noRecord}
 use Rattle.rules.specs.Answering.{isCancel}
 

@@ -17,11 +17,9 @@ use table::rows;
 ghost use mathlib.Core.Path.{_≡_};
 ghost use Prim.Native.Nat.{_≤_, _<_};
 ghost use lib.ListN.{length};
-ghost use Rattle.table.specs.Table.{recordsOf, findRecord};
+ghost use Rattle.table.specs.Table.{recordsOf};
 ghost use Rattle.table.specs.Lent.{lent, before};
-ghost use mathlib.Core.Bool.{true};
-ghost use Rattle.validity.specs.Valid.{Sound, Ready, tableGood};
-ghost use Rattle.planning.specs.Plan.{Within, recordFound, standingOf, dateClosed, accountOf, dateOf, isShort, isFull, viewOf, planWith, planOf};
+ghost use Rattle.planning.specs.Plan.{Within, recordFound, standingOf, accountOf, dateOf, isShort, viewOf, planWith};
 ghost use Rattle.table.specs.Table.{noRecord};
 ghost use Rattle.table.specs.Accounts.{balanceOf, holdingOf};
 

@@ -11,7 +11,7 @@ use mir.Val.{toZ, ofZ}
 use Rattle.lists.specs.declared.Found.{Found}
 use Rattle.lists.specs.declared.Found.the-variants.{At, Nothing}
 use Rattle.table.specs.declared.Gate.{Gate}
-use Rattle.table.specs.Accounts.{balanceAt, gateBalance, credited, withUsed, Funds}
+use Rattle.table.specs.Accounts.{balanceAt, gateBalance, withUsed, Funds}
 use Rattle.table.proofs.SignedLaws.{back}
 use Rattle.table.proofs.AccountLaws.{credit-is}
 use Rattle.directory.specs.Directory.{Listed}

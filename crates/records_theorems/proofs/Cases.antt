@@ -11,8 +11,8 @@ use Rattle.settlement_theorems.specs.Cases.{emptyGate, emptyRows, blank, clock2
 use Rattle.settlement_theorems.proofs.Cases.{cases}
 use Rattle.records.specs.Records.{rowsOf, Called, backFrom}
 use Rattle.calls.specs.Calls.{callWith, callOn}
-use Rattle.records_theorems.specs.Lists.{CallMade, overRecords, overRows}
-use Rattle.records_theorems.specs.Claims.{request, registry, opening, draw, pay, drawn, cancelled, closed, start, run, KRecords}
+use Rattle.records_theorems.specs.Lists.{CallMade, overRows}
+use Rattle.records_theorems.specs.Claims.{request, registry, opening, pay, drawn, cancelled, closed, start, run, KRecords}
 use Rattle.records_theorems.proofs.ListsTheorems.{lists-are}
 
 -- ---- the same lists over rows

@@ -6,7 +6,6 @@ use lib.IntN.{ℤ, pos, negsuc}
 use lib.ListN.{replicate}
 use Rattle.days.specs.declared.calendar.Day.{Day}
 use Rattle.lists.specs.declared.Found.the-variants.{At}
-use Rattle.table.specs.declared.Record.{Record}
 use Rattle.table.specs.Table.{noRecord}
 use Rattle.table.specs.Accounts.{accountsOf, findAccount, balanceAt}
 use Rattle.settlement_theorems.specs.Cases.{payment1, cancel1, line1, answer1, clock1, clock2, clock3, clock4, clock5, clock6, amountMost, amountOver, oneKopeck, noKopecks, pointAlone, threeDecimals, oneDecimal, receiptMost, receiptLong, receiptZero, leapDate, noLeapDate, payment2, day19, day20, day22, account12, emptyGate, blank}

@@ -1,12 +1,11 @@
 -- Texts written one after the other, and the texts of a request.
 use Prim.Native.Nat.{ℕ, _+_, _-_, _/_, _%_, _≤_}
-use native.Mathlib.Nat.{add-zero, zero-add}
+use native.Mathlib.Nat.{add-zero}
 use native.Mathlib.Omega.{arith}
 use mathlib.Core.Path.{_≡_, refl, sym, ap, _∙_}
 use mathlib.Core.List.{List, [], _∷_, _++_, append-assoc, append-nil}
 use mathlib.Core.Bool.{Bool, true, false, not}
-use lib.ListN.{length, take, drop, length-append, length-drop}
-use lib.Seq.{take-append-seam}
+use lib.ListN.{length, take, length-append, length-drop}
 use borrow.Author.Tests.{not-true, not-false}
 use Rattle.texts.specs.Lists.{written, cursorAfter}
 use Rattle.texts.proofs.OutLaws.{text-back, over-none, cursor-moves, written-over, written-length, cursor-then, written-then}

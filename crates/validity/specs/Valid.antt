@@ -1,6 +1,6 @@
 -- Document 01, row 68 of "What a fault gives": what a lent gate and table must be, clause by clause. Places past those in use are not looked at.
 use mathlib.Core.Bool.{Bool, cond, _&&_}
-use Prim.Native.Nat.{ℕ, _+_, _≤_}
+use Prim.Native.Nat.{ℕ, _+_}
 use lib.Dec.{eqb, leb, ltb}
 use lib.IntN.{ℤ, pos, negsuc}
 use lib.ListN.{length}

@@ -1,19 +1,18 @@
 -- Laws of what a line gives.
 use Prim.Native.Nat.{ℕ}
-use mathlib.Core.Path.{_≡_, refl, sym, ap, _∙_}
+use mathlib.Core.Path.{_≡_, sym, ap, _∙_}
 use mathlib.Core.List.{List}
 use lib.ListN.{length, take, replicate}
 use Rattle.texts.specs.declared.digits.Digits.{Digits}
 use Rattle.texts.specs.declared.digits.Digits.the-variants.{Value, Malformed}
-use Rattle.fields.specs.declared.number.Number.{Number}
-use Rattle.texts.specs.Lists.{find, written}
+use Rattle.texts.specs.Lists.{written}
 use Rattle.texts.specs.Digits.{digitsRead}
 use Rattle.days.specs.declared.calendar.Day.{Day}
 use Rattle.days.specs.declared.calendar.DayRead.{DayRead}
 use Rattle.days.specs.declared.calendar.DayRead.the-variants.{Good, NoDate}
 use Rattle.days.specs.Calendar.{dayRead}
 use Rattle.table.specs.declared.Gate.{Gate}
-use Rattle.vectors.specs.Given.{fieldOf, valueOr0, valueGiven, dayOr0, dayGiven, zeroed, numberGiven, dateGiven, noAccount, noAccounts}
+use Rattle.vectors.specs.Given.{fieldOf, valueOr0, valueGiven, dayOr0, dayGiven, numberGiven, dateGiven, noAccount, noAccounts}
 
 module _ (s f : List ℕ) (ef : f ≡ fieldOf s) where
   pub value-good : (d : Digits) (v : ℕ) → d ≡ digitsRead 20 f → d ≡ Value v → v ≡ valueGiven s

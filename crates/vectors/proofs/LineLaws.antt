@@ -12,10 +12,9 @@ use mir.Val.{Fits}
 use lib.Dec.{ltb, leb, eqb}
 use lib.ListN.{length, take, drop, getD, length-drop}
 use lib.Seq.{length-take-le, take-all, drop-drop}
-use borrow.Author.Tests.{lt-ltb, le-ltb, le-leb, lt-leb, eq-eqb, ne-eqb}
+use borrow.Author.Tests.{lt-ltb, le-ltb, le-leb, lt-leb}
 use Rattle.texts.specs.Lists.{find, eqList}
 use Rattle.texts.proofs.ScanLaws.{find-le}
-use Rattle.coding.specs.Params.{splitAt}
 use Rattle.coding.proofs.ParamLaws.{split-first, split-last}
 use Rattle.vectors.specs.Lines.{lineAt, isHeading, placeOf, spaced}
 

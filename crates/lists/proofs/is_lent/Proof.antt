@@ -1,4 +1,3 @@
-use borrow.Author.Needs.{needs}
 use Rattle.texts.proofs.Tests.{no-claim}
 use Rattle.lists.proofs.LentLaws.{lent-none, lent-many, lent-second, lent-third, lent-used, lent-all}
 use Rattle.lists.proofs.is_lent.Statement.{statement}

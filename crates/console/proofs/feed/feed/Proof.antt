@@ -3,7 +3,6 @@ use mathlib.Core.Path.{_≡_, _∙_}
 use Prim.Native.Nat.{_-_}
 use lib.ListN.{length}
 use borrow.Author.Needs.{needs}
-use Rattle.table.specs.Table.{Rows}
 use Rattle.console.specs.Parts.{before}
 use Rattle.console.proofs.PartLaws.{Going, going-start, line-room, part-on, part-in, going-on, part-rest, part-end, feed-is}
 use Rattle.console.proofs.feed.feed.Statement.{statement}

@@ -1,5 +1,4 @@
 use borrow.Author.Needs.{needs}
-use mathlib.Core.Path.{refl}
 use Rattle.ledger.proofs.ChangeLaws.{sum-back, appended, room-too, place-small}
 use Rattle.ledger.proofs.change.append.Statement.{statement}
 use Rattle.ledger.proofs.change.append.Tie as tie

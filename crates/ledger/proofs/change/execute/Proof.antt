@@ -3,7 +3,7 @@ use mathlib.Core.Path.{refl, sym, _∙_}
 use mir.Syntax.{w64}
 use mir.Val.{toZ, ofZ}
 use Rattle.table.specs.Table.{Rows}
-use Rattle.planning.proofs.PlanLaws.{found-within, found-amount, account-within, held-balance}
+use Rattle.planning.proofs.PlanLaws.{found-within, found-amount}
 use Rattle.ledger.proofs.ChangeLaws.{near-back, near-passed, plan-by, plan-balance, plan-within, plan-near, planned, made-moved, decided-code, made-by}
 use Rattle.ledger.proofs.change.execute.Statement.{statement}
 use Rattle.ledger.proofs.change.execute.Tie as tie
