@@ -1,18 +1,20 @@
 -- What a book that is good gives its callers, and what makes a book good again.
 use mathlib.Core.Path.{_≡_, refl, sym, ap, subst⁻¹, _∙_}
 use mathlib.Core.Logic.{_≢_}
-use mathlib.Core.Bool.{Bool, true, _&&_}
+use mathlib.Core.Bool.{Bool, true, false, not, _&&_}
 use mathlib.Core.List.{List}
 use Prim.Native.Nat.{ℕ, _+_, _-_, _<_, _≤_}
 use native.Mathlib.Decide.{ℕ-discrete}
 use native.Mathlib.Omega.{arith}
 use lib.ListN.{length, getD, length-set}
-use borrow.Author.Tests.{eq-eqb, eqb-true}
+use borrow.Author.Tests.{eq-eqb, eqb-true, not-false}
 use Rattle.days.specs.declared.calendar.Day.{Day}
 use Rattle.days.specs.declared.calendar.DayRead.the-variants.{Good}
 use Rattle.days.specs.Calendar.{isDay}
-use Rattle.fields.specs.Codes.{isReceipt}
-use Rattle.dates.specs.Date.{dateDay}
+use Rattle.fields.specs.Amount.{isAmount}
+use Rattle.fields.specs.Codes.{isReceipt, isKind}
+use Rattle.fields.specs.Number.{isNumber}
+use Rattle.dates.specs.Date.{dateDay, isWritten}
 use Rattle.texts.proofs.Tests.{and-left, and-right, no-claim}
 use Rattle.lists.specs.declared.Found.{Found}
 use Rattle.lists.specs.declared.Found.the-variants.{At, Nothing}
@@ -23,7 +25,7 @@ use Rattle.lists.proofs.ListLaws.{all-at, all-of, search-within, found-fits, fo
 use Rattle.book.specs.declared.Book.{Book}
 use Rattle.book.specs.declared.Entry.{Entry}
 use Rattle.book.specs.Entries.{BookRows, entryAt, entriesOf, entryNums, bookWith, isEntry, findEntry}
-use Rattle.book_validity.specs.BookValid.{entryFields, inTurn, entryGood, dayCount, daysGood, bookLent, bookHead, bookGood}
+use Rattle.book_validity.specs.BookValid.{entryFields, inTurn, entryGood, dayCount, daysGood, bookLent, bookHead, bookGood, Dated}
 use Rattle.book.proofs.EntryLaws.{EntryRoom, entry-other, entry-same, entries-set, entries-more, length-entries, getD-entries}
 use Rattle.book_validity.proofs.CountLaws.{count-set, days-few, days-kept, days-more}
 
@@ -34,6 +36,14 @@ pub record GoodBook (b : Book) (t : BookRows) : Type 0 where
   pub entry : (i : ℕ) → i < b .used → entryFields (entryAt t i) ≡ true
   pub turn : (i : ℕ) → i < b .used → (entryAt t i) .receipt ≡ b .first + i
   pub days : (d : Day) → dayCount d (entriesOf t (b .used)) ≤ 512
+
+pub fields-dated : (e : Entry) → entryFields e ≡ true → isWritten (e .date) ≡ true
+unfolding entryFields
+fields-dated e h =
+    let number = and-right (isReceipt (e .receipt)) _ h in
+    let kind = and-right (isNumber (e .number)) _ number in
+    let amount = and-right (isKind (e .kind)) _ kind in
+    and-left (isWritten (e .date)) _ (and-right (isAmount (e .amount)) _ amount)
 
 module _ (b : Book) (t : BookRows) where
   abbrev entries : List Entry
@@ -49,6 +59,16 @@ module _ (b : Book) (t : BookRows) where
   good-rest : bookGood b t ≡ true → bookHead b && (allGood && daysGood entries) ≡ true
   unfolding bookGood
   good-rest h = and-right (bookLent b t) (bookHead b && (allGood && daysGood entries)) h
+
+  -- each entry in use
+  each-good : allGood ≡ true → (i : ℕ) → i < b .used → inTurn b i (entryAt t i) && entryFields (entryAt t i) ≡ true
+  each-good h i l =
+      ap (λ (e : Entry). inTurn b i e && entryFields e) (sym (getD-entries t (b .used) i (entryAt t i) l))
+      ∙ (unfold entryGood in all-at (entryGood b) entries (entryAt t i) i h (omega (arith, length-entries t (b .used))))
+
+  pub entries-dated : (g : Bool) → g ≡ allFrom (entryGood b) 0 (entriesOf t (b .used)) → not g ≡ false → Dated t (b .used)
+  entries-dated g eg n i l =
+      fields-dated (entryAt t i) (and-right (inTurn b i (entryAt t i)) (entryFields (entryAt t i)) (each-good (sym eg ∙ not-false g n) i l))
 
   pub good-book : bookGood b t ≡ true → GoodBook b t
   good-book h =
@@ -67,12 +87,13 @@ module _ (b : Book) (t : BookRows) where
       rest = and-right (bookHead b) (allGood && daysGood entries) (good-rest h)
 
       one : (i : ℕ) → i < b .used → inTurn b i (entryAt t i) && entryFields (entryAt t i) ≡ true
-      one i l =
-          ap (λ (e : Entry). inTurn b i e && entryFields e) (sym (getD-entries t (b .used) i (entryAt t i) l))
-          ∙ (unfold entryGood in all-at (entryGood b) entries (entryAt t i) i (and-left allGood (daysGood entries) rest) (omega (arith, length-entries t (b .used))))
+      one = each-good (and-left allGood (daysGood entries) rest)
 
       in-turn : (i : ℕ) → inTurn b i (entryAt t i) ≡ true → (entryAt t i) .receipt ≡ b .first + i
       in-turn i q = eqb-true _ _ (unfold inTurn in q)
+
+  pub good-dated : bookGood b t ≡ true → Dated t (b .used)
+  good-dated h i l = fields-dated (entryAt t i) (good-book h .entry i l)
 
   -- and back
   pub book-again : bookLent b t ≡ true → GoodBook b t → bookGood b t ≡ true

@@ -16,7 +16,7 @@ use Rattle.days.specs.declared.calendar.Day.{Day}
 use Rattle.days.specs.declared.calendar.DayRead.{DayRead}
 use Rattle.days.specs.declared.calendar.DayRead.the-variants.{Good, NoDate}
 use Rattle.days.specs.Calendar.{isDay, sameDay, onDay}
-use Rattle.dates.specs.Date.{dateDay}
+use Rattle.dates.specs.Date.{dateDay, isWritten}
 use Rattle.texts.proofs.Tests.{and-left, and-right, no-claim}
 use Rattle.days.proofs.DayLaws.{IsDate, is-date, days-high, same-day, same-day-refl}
 use Rattle.dates.proofs.DateLaws.{DayOf, date-day}
@@ -24,7 +24,7 @@ use Rattle.lists.specs.Lists.{tab, allFrom}
 use Rattle.lists.proofs.ListLaws.{all-of}
 use Rattle.book.specs.declared.Entry.{Entry}
 use Rattle.book.specs.Entries.{BookRows, entryAt, entriesOf}
-use Rattle.book_validity.specs.BookValid.{dayCount, dayFits, daysGood}
+use Rattle.book_validity.specs.BookValid.{dayCount, dayFits, daysGood, Dated}
 use Rattle.book_validity.specs.BookWalk.{daySlot}
 use Rattle.book.proofs.EntryLaws.{length-entries}
 
@@ -99,6 +99,10 @@ module _ (d : Day) (t : BookRows) where
     pub count-end : (u : ℕ) → i ≤ u → u ≤ i → n ≡ dayCount d (entriesOf t u)
     count-end u h k = let e : i ≡ u = omega arith in rw (← e) counted
 
+-- the date of an entry that was loaded
+pub date-known : (t : BookRows) (n i : ℕ) (e : Entry) → Dated t n → i < n → e ≡ entryAt t i → isWritten (e .date) ≡ true
+date-known t n i e dated l is = ap (λ (v : Entry). isWritten (v .date)) is ∙ dated i l
+
 pub count-none : (d : Day) (t : BookRows) → 0 ≡ dayCount d (entriesOf t 0)
 unfolding entriesOf tab dayCount
 count-none d t = refl
@@ -121,9 +125,6 @@ good-day s x e = let g : DayOf s = date-day s (rw e) in let q : g .day ≡ x = s
   where
     same : {y : Day} → dateDay s ≡ Good y → y ≡ x
     same h = cc
-
-pub read-day : (s : List ℕ) (r : DayRead) → r ≡ dateDay s → (x : Day) → r ≡ Good x → isDay x ≡ true
-read-day s r e x q = good-day s x (sym e ∙ q)
 
 some-fits : (d : Day) (all es : List Entry) (k : ℕ) → allFrom (λ i e. dayFits all (dateDay (e .date))) k es ≡ true → (dayCount d es ≡ 0) ⊎ (dayCount d all ≤ 512)
 unfolding allFrom dayCount
@@ -219,62 +220,53 @@ counts-none t counts e =
       few = λ d. omega arith;
     }
 
-module _ (counts : List ℕ) (t : BookRows) (i : ℕ) (c : DayCounts counts (entriesOf t i)) (e : Entry) (is : e ≡ entryAt t i) (r : DayRead) (on : r ≡ dateDay (e .date)) where
-  is-on : (d : Day) → isOn d (entryAt t i) ≡ onDay d r
-  is-on d = sym (ap (onDay d) on ∙ ap (isOn d) is)
+module _ (counts : List ℕ) (t : BookRows) (i : ℕ) (c : DayCounts counts (entriesOf t i)) (e : Entry) (is : e ≡ entryAt t i)
+    (x : Day) (q : dateDay (e .date) ≡ Good x) (s : ℕ) (slot : s ≡ daySlot x) where
+  on : dateDay ((entryAt t i) .date) ≡ Good x
+  on = sym (ap (λ (v : Entry). dateDay (v .date)) is) ∙ q
 
-  -- what is no date is on no day
-  pub counts-pass : r ≡ NoDate → DayCounts counts (entriesOf t (i + 1))
-  counts-pass q = record { size = c .size; at = λ d g. c .at d g ∙ sym (kept d); few = λ d. omega (arith, kept d, c .few d) }
+  valid : isDay x ≡ true
+  valid = good-day (e .date) x q
+
+  here : s < length counts
+  here = omega (arith, slot-below x valid s slot, c .size)
+
+  value : getD counts s 0 ≡ dayCount x (entriesOf t i)
+  value = rw slot (c .at x valid)
+
+  pub counts-step : getD counts s 0 < 512 → DayCounts (set counts s (getD counts s 0 + 1)) (entriesOf t (i + 1))
+  counts-step l = record { size = length-set counts s _ ∙ c .size; at = λ d g. at d g (sameDay x d) refl; few = few }
     where
-      kept : (d : Day) → dayCount d (entriesOf t (i + 1)) ≡ dayCount d (entriesOf t i)
-      kept d = count-next d t i ∙ rw (is-on d, q) (omega arith)
+      next : (d : Day) (b : Bool) → sameDay x d ≡ b → dayCount d (entriesOf t (i + 1)) ≡ dayCount d (entriesOf t i) + cond b 1 0
+      next d b h = count-next d t i ∙ rw (on, h)
 
-  module _ (x : Day) (q : r ≡ Good x) (s : ℕ) (slot : s ≡ daySlot x) where
-    valid : isDay x ≡ true
-    valid = good-day (e .date) x (sym on ∙ q)
+      at : (d : Day) → isDay d ≡ true → (b : Bool) → sameDay x d ≡ b → getD (set counts s (getD counts s 0 + 1)) (daySlot d) 0 ≡ dayCount d (entriesOf t (i + 1))
+      at d g true h =
+          let w : x ≡ d = same-day x d h in
+          let k : daySlot d ≡ s = ap daySlot (sym w) ∙ sym slot in
+          ap (λ (j : ℕ). getD (set counts s (getD counts s 0 + 1)) j 0) k
+          ∙ getD-set-same counts s (getD counts s 0 + 1) 0 here
+          ∙ ap (λ (n : ℕ). n + 1) (value ∙ ap (λ (v : Day). dayCount v (entriesOf t i)) w) ∙ sym (next d true h)
+      at d g false h =
+          getD-set-other counts s (daySlot d) (getD counts s 0 + 1) 0 (λ k. no-claim (sym h ∙ slot-same d g x valid (k ∙ slot)))
+          ∙ c .at d g ∙ sym (next d false h ∙ omega arith)
 
-    here : s < length counts
-    here = omega (arith, slot-below x valid s slot, c .size)
+      few : (d : Day) → dayCount d (entriesOf t (i + 1)) ≤ 512
+      few d = rw (entries-next t i) (days-more (entriesOf t i) (entryAt t i) x on (omega (arith, value)) (c .few) d)
 
-    value : getD counts s 0 ≡ dayCount x (entriesOf t i)
-    value = rw slot (c .at x valid)
+  -- the 513th entry of a day
+  pub counts-full : (u : ℕ) → i < u → 512 ≤ getD counts s 0 → false ≡ daysGood (entriesOf t u)
+  counts-full u h l = go (daysGood (entriesOf t u)) refl
+    where
+      over : 512 < dayCount x (entriesOf t (i + 1))
+      over = let k : dayCount x (entriesOf t (i + 1)) ≡ dayCount x (entriesOf t i) + 1 = count-next x t i ∙ rw (on, same-day-refl x) in omega (arith, value)
 
-    pub counts-step : getD counts s 0 < 512 → DayCounts (set counts s (getD counts s 0 + 1)) (entriesOf t (i + 1))
-    counts-step l = record { size = length-set counts s _ ∙ c .size; at = λ d g. at d g (sameDay x d) refl; few = few }
-      where
-        next : (d : Day) (b : Bool) → sameDay x d ≡ b → dayCount d (entriesOf t (i + 1)) ≡ dayCount d (entriesOf t i) + cond b 1 0
-        next d b h = count-next d t i ∙ rw (is-on d, q, h)
+      below : i + 1 ≤ u
+      below = omega arith
 
-        at : (d : Day) → isDay d ≡ true → (b : Bool) → sameDay x d ≡ b → getD (set counts s (getD counts s 0 + 1)) (daySlot d) 0 ≡ dayCount d (entriesOf t (i + 1))
-        at d g true h =
-            let w : x ≡ d = same-day x d h in
-            let k : daySlot d ≡ s = ap daySlot (sym w) ∙ sym slot in
-            ap (λ (j : ℕ). getD (set counts s (getD counts s 0 + 1)) j 0) k
-            ∙ getD-set-same counts s (getD counts s 0 + 1) 0 here
-            ∙ ap (λ (n : ℕ). n + 1) (value ∙ ap (λ (v : Day). dayCount v (entriesOf t i)) w) ∙ sym (next d true h)
-        at d g false h =
-            getD-set-other counts s (daySlot d) (getD counts s 0 + 1) 0 (λ k. no-claim (sym h ∙ slot-same d g x valid (k ∙ slot)))
-            ∙ c .at d g ∙ sym (next d false h ∙ omega arith)
-
-        few : (d : Day) → dayCount d (entriesOf t (i + 1)) ≤ 512
-        few d =
-            let k : dateDay ((entryAt t i) .date) ≡ Good x = sym (on ∙ ap (λ (v : Entry). dateDay (v .date)) is) ∙ q in
-            rw (entries-next t i) (days-more (entriesOf t i) (entryAt t i) x k (omega (arith, value)) (c .few) d)
-
-    -- the 513th entry of a day
-    pub counts-full : (u : ℕ) → i < u → 512 ≤ getD counts s 0 → false ≡ daysGood (entriesOf t u)
-    counts-full u h l = go (daysGood (entriesOf t u)) refl
-      where
-        over : 512 < dayCount x (entriesOf t (i + 1))
-        over = let k : dayCount x (entriesOf t (i + 1)) ≡ dayCount x (entriesOf t i) + 1 = count-next x t i ∙ rw (is-on x, q, same-day-refl x) in omega (arith, value)
-
-        below : i + 1 ≤ u
-        below = omega arith
-
-        go : (b : Bool) → daysGood (entriesOf t u) ≡ b → false ≡ b
-        go true w = absurd (omega (arith, over, count-mono x t (i + 1) u below, days-few (entriesOf t u) w x))
-        go false w = refl
+      go : (b : Bool) → daysGood (entriesOf t u) ≡ b → false ≡ b
+      go true w = absurd (omega (arith, over, count-mono x t (i + 1) u below, days-few (entriesOf t u) w x))
+      go false w = refl
 
 pub counts-end : (counts : List ℕ) (t : BookRows) (i u : ℕ) → DayCounts counts (entriesOf t i) → i ≤ u → u ≤ i → true ≡ daysGood (entriesOf t u)
 counts-end counts t i u c h k = let e : i ≡ u = omega arith in rw (← e) (sym (days-kept (entriesOf t i) (c .few)))

@@ -1,7 +1,8 @@
 -- Document 01, row 68 of "What a fault gives": what a lent book must be, clause by clause. Places past those in use are not looked at.
 use mathlib.Core.Bool.{Bool, true, cond, _&&_}
 use mathlib.Core.List.{List, [], _∷_}
-use Prim.Native.Nat.{ℕ, suc, _+_, _≤_}
+use mathlib.Core.Path.{_≡_}
+use Prim.Native.Nat.{ℕ, suc, _+_, _≤_, _<_}
 use lib.Dec.{eqb, leb}
 use lib.ListN.{length}
 use Rattle.days.specs.declared.calendar.Day.{Day}
@@ -17,7 +18,7 @@ use Rattle.lists.specs.Lists.{allFrom}
 use Rattle.lists.specs.Lent.{lentWell}
 use Rattle.book.specs.declared.Book.{Book}
 use Rattle.book.specs.declared.Entry.{Entry}
-use Rattle.book.specs.Entries.{BookRows, entriesOf, WholeBook, OneLength}
+use Rattle.book.specs.Entries.{BookRows, entryAt, entriesOf, WholeBook, OneLength}
 
 -- the fields of an entry in their ranges, its state one of five
 unfoldable pub entryFields : Entry → Bool
@@ -60,6 +61,10 @@ bookGood b t =
     bookLent b t && (bookHead b && (allFrom (entryGood b) 0 (entriesOf t (b .used)) && daysGood (entriesOf t (b .used))))
 
 -- ---- the same as facts, for the functions behind the check
+-- the dates of the first n entries are written ones
+abbrev pub Dated : BookRows → ℕ → Type 0
+Dated t n = (i : ℕ) → i < n → isWritten ((entryAt t i) .date) ≡ true
+
 pub record ReadyBook (b : Book) (t : BookRows) : Type 0 where
   pub whole : WholeBook t (b .used)
   pub same : OneLength t

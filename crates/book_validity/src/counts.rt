@@ -2,15 +2,14 @@
 use book::rows;
 use dates::date;
 use days::calendar::Day;
-use days::calendar::DayRead;
 ghost use mathlib.Core.Bool.{true};
 ghost use mathlib.Core.Path.{_≡_};
 ghost use Prim.Native.Nat.{_<_, _≤_};
 ghost use lib.ListN.{length, replicate};
 ghost use Rattle.days.specs.Calendar.{isDay};
 ghost use Rattle.book.specs.Entries.{entriesOf};
-ghost use Rattle.book.specs.Lent.{bookBefore};
-ghost use Rattle.book_validity.specs.BookValid.{dayCount, daysGood};
+ghost use Rattle.book.specs.Lent.{lentBook, bookBefore};
+ghost use Rattle.book_validity.specs.BookValid.{dayCount, daysGood, Dated};
 ghost use Rattle.book_validity.specs.BookWalk.{daySlot};
 
 // How many entries one day has at most.
@@ -28,6 +27,7 @@ pub fn count_day(
     day: Day,
 ) -> usize
     requires { ⌜ (used ≤ length (now nums)) × (used ≤ length (now numbers)) × (used ≤ length (now dates)) ⌝ }
+    requires { ⌜ Dated (lentBook nums numbers dates) used ⌝ }
     ensures { λ r. ⌜ r ≡ dayCount day (entriesOf (bookBefore nums numbers dates) used) ⌝ }
 {
     let mut n: usize = 0;
@@ -35,7 +35,7 @@ pub fn count_day(
     while i < used {
         let e = rows::load_entry(nums, numbers, dates, i);
         let written = e.date;
-        if !date::is_on(day, written) {
+        if !date::written_on(day, written) {
             i += 1;
             continue;
         }
@@ -71,6 +71,7 @@ pub(crate) fn days_good(
     used: usize,
 ) -> bool
     requires { ⌜ (used ≤ length (now nums)) × (used ≤ length (now numbers)) × (used ≤ length (now dates)) ⌝ }
+    requires { ⌜ Dated (lentBook nums numbers dates) used ⌝ }
     ensures { λ r. ⌜ r ≡ daysGood (entriesOf (bookBefore nums numbers dates) used) ⌝ }
 {
     if used <= DAY_MOST {
@@ -81,11 +82,7 @@ pub(crate) fn days_good(
     while i < used {
         let e = rows::load_entry(nums, numbers, dates, i);
         let written = e.date;
-        let DayRead::Good(day) = date::day_of_date(written) else {
-            i += 1;
-            continue;
-        };
-        let s = day_slot(day);
+        let s = day_slot(date::written_day(written));
         let before = counts[s];
         if COUNT_MOST <= before {
             return false;

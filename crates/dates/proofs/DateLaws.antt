@@ -1,10 +1,12 @@
 -- Laws of written dates.
-use Prim.Native.Nat.{ℕ, _+_, _≤_, _<_}
+use Prim.Native.Nat.{ℕ, _+_, _-_, _*_, _≤_, _<_}
 use native.Mathlib.Nat.{add-assoc, le-trans}
 use native.Mathlib.Omega.{arith}
 use mathlib.Core.Path.{_≡_, refl, sym, _∙_}
 use mathlib.Core.Bool.{Bool, true, false, _&&_, and-false}
 use mathlib.Core.List.{List, append-nil}
+use mir.Syntax.{w8}
+use mir.Val.{Fits}
 use lib.Dec.{eqb, leb}
 use lib.ListN.{getD, length, drop, drop-of-length-le}
 use borrow.Author.Tests.{le-leb, lt-leb, eq-eqb, ne-eqb, leb-true, eqb-true}
@@ -14,12 +16,12 @@ use Rattle.days.specs.declared.calendar.DayRead.the-variants.{Good, NoDate}
 use Rattle.dates.specs.declared.date.DateRead.{DateRead}
 use Rattle.texts.specs.Lists.{every, written}
 use Rattle.texts.specs.Digits.{isDigit}
-use Rattle.days.specs.Calendar.{isDate, dayOf, isDay, twoDigits, twoAt, dayWith, dayPart}
+use Rattle.days.specs.Calendar.{isDate, dayOf, isDay, sameDay, onDay, twoDigits, twoAt, dayWith, dayPart}
 use Rattle.dates.specs.Date.{clockTime, dateDay, found, isWritten, emptyDate, noDate, dateRead}
 use Rattle.texts.proofs.Tests.{both, cond-elim}
 use Rattle.texts.proofs.ListLaws.{every-step, every-all}
 use Rattle.texts.proofs.OutLaws.{written-over}
-use Rattle.days.proofs.CalendarLaws.{part-with}
+use Rattle.days.proofs.CalendarLaws.{two-good, part-with}
 use Rattle.days.proofs.DayLaws.{is-date, days-high, read-good, made}
 
 module _ (s : List ℕ) where
@@ -209,3 +211,49 @@ module _ (p : ℕ → Bool) (s : List ℕ) (digit : (b : ℕ) → isDigit b ≡ 
       let m = every-step p s 16 k (omega arith) (rw (w .colon-2) colon) in
       let n = pair-step 17 (omega arith) (omega arith) m in
       every-all p s 19 n (omega arith)
+
+-- ---- the day of a date that is known to be written
+module _ (a b : ℕ) (h : twoDigits a b ≤ 99) where
+  pub tens-least : 48 ≤ a
+  tens-least = leb-true _ _ (both (leb 48 a) _ (two-digits a b h .0) .0)
+
+  pub ones-least : 48 ≤ b
+  ones-least = leb-true _ _ (both (leb 48 b) _ (two-digits a b h .1) .0)
+
+  tens-most : a ≤ 57
+  tens-most = leb-true _ _ (both (leb 48 a) _ (two-digits a b h .0) .1)
+
+  ones-most : b ≤ 57
+  ones-most = leb-true _ _ (both (leb 48 b) _ (two-digits a b h .1) .1)
+
+  pub tens-fit : Fits w8 ((a - 48) * 10)
+  tens-fit = omega (arith, tens-most)
+
+  pub pair-fits : Fits w8 ((a - 48) * 10 + (b - 48))
+  pair-fits = omega (arith, tens-most, ones-most)
+
+  pub pair-is : (a - 48) * 10 + (b - 48) ≡ twoDigits a b
+  pair-is = two-good a b tens-least tens-most ones-least ones-most
+
+module _ (s : List ℕ) (h : isWritten s ≡ true) where
+  pub year-pair : twoDigits (getD s 2 0) (getD s 3 0) ≤ 99
+  year-pair = written-parts s h .year
+
+  pub month-pair : twoDigits (getD s 5 0) (getD s 6 0) ≤ 99
+  month-pair = omega (arith, written-parts s h .month)
+
+  pub day-pair : twoDigits (getD s 8 0) (getD s 9 0) ≤ 99
+  day-pair = omega (arith, written-parts s h .day)
+
+  pub day-written : (y m d : ℕ)
+      → y ≡ twoDigits (getD s 2 0) (getD s 3 0) → m ≡ twoDigits (getD s 5 0) (getD s 6 0) → d ≡ twoDigits (getD s 8 0) (getD s 9 0)
+      → dateDay s ≡ Good (record { year = 2000 + y; month = m; day = d })
+  unfolding dayOf
+  day-written y m d ey em ed =
+      let x = date-day s h in
+      let part = part-tests s (x .day) (date-tests s (x .day) (x .is) .1) in
+      let own = read-good (isDate (2000 + twoAt s 2) (twoAt s 5) (twoAt s 8)) _ (part .1) .1 in
+      x .is ∙ sym own ∙ rw (← ey, ← em, ← ed)
+
+pub same-on : (s : List ℕ) (day own : Day) → dateDay s ≡ Good own → (r : Bool) → r ≡ sameDay own day → r ≡ onDay day (dateDay s)
+same-on s day own e r q = q ∙ rw e

@@ -5,8 +5,10 @@ use days::calendar::DayRead;
 use texts::out;
 use texts::scan;
 ghost use mathlib.Core.Path.{_≡_};
-ghost use Prim.Native.Nat.{_<_};
-ghost use Rattle.days.specs.Calendar.{onDay, upTo};
+ghost use mathlib.Core.Bool.{true};
+ghost use Prim.Native.Nat.{_<_, _≤_};
+ghost use Rattle.days.specs.Calendar.{onDay, upTo, twoDigits};
+ghost use Rattle.days.specs.declared.calendar.DayRead.the-variants.{Good};
 ghost use Rattle.dates.specs.Date.{clockTime, dateDay, isWritten, emptyDate, noDate, dateRead};
 ghost use Rattle.texts.specs.Lists.{eqList, written, cursorAfter};
 
@@ -62,6 +64,38 @@ pub fn is_written(d: [u8; 19]) -> bool
         DayRead::Good(_) => true,
         DayRead::NoDate => false,
     }
+}
+
+// The value of two bytes that are digits.
+fn pair(a: u8, b: u8) -> u8
+    requires { ⌜ twoDigits a b ≤ 99 ⌝ }
+    ensures { λ r. ⌜ r ≡ twoDigits a b ⌝ }
+{
+    (a - 48) * 10 + (b - 48)
+}
+
+// The day of nineteen bytes that are known to be a written date: they are not judged again.
+pub fn written_day(d: [u8; 19]) -> Day
+    requires { ⌜ isWritten d ≡ true ⌝ }
+    ensures { λ r. ⌜ dateDay d ≡ Good r ⌝ }
+{
+    let y = pair(d[2], d[3]);
+    let month = pair(d[5], d[6]);
+    let day = pair(d[8], d[9]);
+    Day {
+        year: 2000 + y as u16,
+        month,
+        day,
+    }
+}
+
+// Whether what is known to be a written date is on the day.
+pub fn written_on(day: Day, d: [u8; 19]) -> bool
+    requires { ⌜ isWritten d ≡ true ⌝ }
+    ensures { λ r. ⌜ r ≡ onDay day (dateDay d) ⌝ }
+{
+    let own = written_day(d);
+    own.same(day)
 }
 
 // Whether a written date is on the day.

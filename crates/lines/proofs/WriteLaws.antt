@@ -4,13 +4,12 @@ use native.Mathlib.Nat.{zero-add}
 use native.Mathlib.Omega.{arith}
 use mathlib.Core.Path.{_≡_, refl, sym, ap, _∙_}
 use mathlib.Core.List.{List, [], _∷_, _++_, append-assoc}
-use mathlib.Core.Bool.{Bool, true, false, not}
+use mathlib.Core.Bool.{Bool, true, false}
 use mir.Syntax.{w64}
 use mir.Val.{Fits}
 use lib.Dec.{leb}
 use lib.ListN.{length, take, drop, length-append, getD-replicate}
 use lib.Seq.{take-append-seam}
-use borrow.Author.Tests.{not-true, not-false}
 use Rattle.texts.specs.Lists.{over, written, cursorAfter}
 use Rattle.texts.specs.Digits.{decimal}
 use Rattle.fields.specs.Amount.{amountBytes}
@@ -167,33 +166,34 @@ module _ (d : List ℕ) (at : ℕ) where
   unfolding written
   none-written = cond-elim (λ e. d ≡ e) (leb (at + 0) (length d)) (over d at []) d (λ _. sym (over-none d at)) (λ _. refl)
 
--- ---- the line
+-- ---- a line that is one, and one that is none
 module _ (x : Line) (t : Bool) (test : t ≡ isLine x) where
-  text-none : not t ≡ true → lineText x ≡ []
-  unfolding lineText
-  text-none h = rw (← test, not-true t h)
+  pub valid : t ≡ true → isLine x ≡ true
+  valid h = sym test ∙ h
 
-  pub valid : not t ≡ false → isLine x ≡ true
-  valid h = sym test ∙ not-false t h
+  text-none : t ≡ false → lineText x ≡ []
+  unfolding lineText
+  text-none h = rw (← test, h)
 
   module _ (d : List ℕ) (at : ℕ) where
-    pub bad-cursor : not t ≡ true → at ≡ cursorAfter d at (lineText x)
+    pub bad-cursor : t ≡ false → at ≡ cursorAfter d at (lineText x)
     bad-cursor h = rw (text-none h) (none-cursor d at)
 
-    pub bad-kept : (e : List ℕ) → e ≡ d → not t ≡ true → e ≡ written d at (lineText x)
+    pub bad-kept : (e : List ℕ) → e ≡ d → t ≡ false → e ≡ written d at (lineText x)
     bad-kept e q h = q ∙ rw (text-none h) (none-written d at)
 
-  module _ (good : not t ≡ false) (n : ℕ) (row f : List ℕ) (h : n ≡ cursorAfter rowOf9 0 (lineBytes x)) (g : row ≡ written rowOf9 0 (lineBytes x)) (part : f ≡ take n row) where
-    part-is : f ≡ lineText x
-    part-is =
-        let l : 0 + length (lineBytes x) ≤ 96 = omega (arith, line-length x (valid good)) in
-        part
-        ∙ rw (h, g, text-is x (valid good), ← cursor-moves rowOf9 0 (lineBytes x) l, ← written-over rowOf9 0 (lineBytes x) l)
-        (rw zero-add (take-append-seam (lineBytes x) _))
+-- ---- the line
+module _ (x : Line) (good : isLine x ≡ true) (n : ℕ) (row f : List ℕ) (h : n ≡ cursorAfter rowOf9 0 (lineBytes x)) (g : row ≡ written rowOf9 0 (lineBytes x)) (part : f ≡ take n row) where
+  part-is : f ≡ lineText x
+  part-is =
+      let l : 0 + length (lineBytes x) ≤ 96 = omega (arith, line-length x good) in
+      part
+      ∙ rw (h, g, text-is x good, ← cursor-moves rowOf9 0 (lineBytes x) l, ← written-over rowOf9 0 (lineBytes x) l)
+      (rw zero-add (take-append-seam (lineBytes x) _))
 
-    module _ (d : List ℕ) (at : ℕ) where
-      pub line-cursor : (r : ℕ) → r ≡ cursorAfter d at f → r ≡ cursorAfter d at (lineText x)
-      line-cursor r q = q ∙ rw part-is
+  module _ (d : List ℕ) (at : ℕ) where
+    pub line-cursor : (r : ℕ) → r ≡ cursorAfter d at f → r ≡ cursorAfter d at (lineText x)
+    line-cursor r q = q ∙ rw part-is
 
-      pub line-written : (e : List ℕ) → e ≡ written d at f → e ≡ written d at (lineText x)
-      line-written e q = q ∙ rw part-is
+    pub line-written : (e : List ℕ) → e ≡ written d at f → e ≡ written d at (lineText x)
+    line-written e q = q ∙ rw part-is

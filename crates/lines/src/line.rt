@@ -153,16 +153,25 @@ impl Line {
         out::put_bytes(&end, row, b)
     }
 
-    // Writes a line and its end at the cursor, where it is well formed and has room.
-    pub fn write(self, dst: &mut [u8], at: usize) -> usize
+    // Writes a line that is known to be well formed, and its end, at the cursor, where it has room.
+    pub fn put(self, dst: &mut [u8], at: usize) -> usize
+        requires { ⌜ isLine self ≡ true ⌝ }
         ensures { λ r. ⌜ (r ≡ cursorAfter (now (dst .entry)) at (lineText self)) × (now (dst .exit) ≡ written (now (dst .entry)) at (lineText self)) ⌝ }
     {
-        if !self.is_valid() {
-            return at;
-        }
         let mut row = [9u8; 96];
         let a = self.put_account(&mut row);
         let n = self.put_payment(&mut row, a);
         out::put_bytes(scan::first_bytes(&row, n), dst, at)
+    }
+
+    // Writes a line and its end at the cursor, where it is well formed and has room.
+    pub fn write(self, dst: &mut [u8], at: usize) -> usize
+        ensures { λ r. ⌜ (r ≡ cursorAfter (now (dst .entry)) at (lineText self)) × (now (dst .exit) ≡ written (now (dst .entry)) at (lineText self)) ⌝ }
+    {
+        if self.is_valid() {
+            self.put(dst, at)
+        } else {
+            at
+        }
     }
 }

@@ -28,7 +28,7 @@ use Rattle.book.specs.declared.State.the-variants.{Cancelled}
 use Rattle.book.specs.Entries.{BookRows, stateNumber, isCancelled, entryAt, entriesOf}
 use Rattle.book_validity.specs.BookValid.{entryFields, inTurn, entryGood, dayCount, daysGood, bookLent, bookHead, bookGood}
 use Rattle.book.proofs.EntryLaws.{length-entries, entries-rest}
-use Rattle.book_validity.proofs.BookLaws.{good-book}
+use Rattle.book_validity.proofs.BookLaws.{fields-dated, good-book}
 use Rattle.listing.specs.Listing.{isListed, listed, entryLine, registryOf, Listing, unlisted, listOn, writeRegistry}
 
 -- ---- the test
@@ -61,6 +61,16 @@ entry-line e h =
     let d = both (isAmount (e .amount)) _ (c .1) in
     let f = both (isWritten (e .date)) _ (d .1) in
     line-is (entryLine e) (record { number = b .0; kind = c .0; date = f .0; amount = d .0; receipt = a .0 })
+
+module _ (b : Book) (t : BookRows) (good : bookGood b t ≡ true) (i : ℕ) (h : i < b .used) (e : Entry) (is : e ≡ entryAt t i) where
+  in-range : entryFields e ≡ true
+  in-range = ap entryFields is ∙ good-book b t good .entry i h
+
+  pub listed-date : isWritten (e .date) ≡ true
+  listed-date = fields-dated e in-range
+
+  pub listed-line : (x : Line) → x ≡ entryLine e → isLine x ≡ true
+  listed-line x ex = ap isLine ex ∙ entry-line e in-range
 
 -- ---- how long: 83 bytes for each entry of the day
 module _ (b : Book) (day : Day) where
@@ -120,7 +130,7 @@ module _ (b : Book) (t : BookRows) (day : Day) where
       text : lineText x ≡ lineBytes (entryLine e)
       text =
           ap lineText ex
-          ∙ text-is (entryLine e) (entry-line e (ap entryFields is ∙ good-book b t good .entry i h))
+          ∙ text-is (entryLine e) (entry-line e (in-range b t good i h e is))
 
       line : registryOf day (drop i es) ≡ lineText x ++ registryOf day (drop (i + 1) es)
       line =

@@ -14,6 +14,7 @@ ghost use mathlib.Core.Bool.{true};
 ghost use Prim.Native.Nat.{_≤_};
 ghost use lib.ListN.{length};
 ghost use Rattle.texts.specs.Lists.{written, cursorAfter};
+ghost use Rattle.dates.specs.Date.{isWritten};
 ghost use Rattle.book.specs.Entries.{entriesOf};
 ghost use Rattle.book.specs.Lent.{lentBook, bookBefore};
 ghost use Rattle.book_validity.specs.BookValid.{bookGood, ReadyBook};
@@ -22,12 +23,13 @@ ghost use Rattle.listing.specs.Listing.{isListed, entryLine, registryOf,
 // How many bytes a registry's buffer has at least.
 const REGISTRY_ROOM: usize = 65536;
 
-// Whether the day's registry lists the entry.
+// Whether the day's registry lists an entry whose date is known to be written.
 pub fn is_listed(day: Day, e: Entry) -> bool
+    requires { ⌜ isWritten (e .date) ≡ true ⌝ }
     ensures { λ r. ⌜ r ≡ isListed day e ⌝ }
 {
     let written = e.date;
-    if !date::is_on(day, written) {
+    if !date::written_on(day, written) {
         return false;
     }
     e.state != states::state_number(State::Cancelled)
@@ -72,7 +74,7 @@ pub(crate) fn write_lines(
             continue;
         }
         let x = entry_line(e);
-        at = x.write(out, at);
+        at = x.put(out, at);
         i += 1;
     }
     at

@@ -1,4 +1,4 @@
-use Rattle.listing.proofs.RegistryLaws.{lines-start, skip-room, skip-cursor, skip-written, line-kept, line-room, line-cursor, line-written, lines-cursor, lines-written}
+use Rattle.listing.proofs.RegistryLaws.{listed-date, listed-line, lines-start, skip-room, skip-cursor, skip-written, line-kept, line-room, line-cursor, line-written, lines-cursor, lines-written}
 use Prim.Native.Nat.{_≤_, _-_, _+_}
 use mathlib.Core.Path.{_≡_}
 use mathlib.Core.List.{List}
@@ -23,7 +23,7 @@ Inv-loop nums numbers dates day out₀ used at₀ i₀ out at i =
 abbrev μ-loop : tie.MeasureT-loop
 μ-loop nums numbers dates day out₀ used at₀ i₀ out at i = used - i
 
-ruleset laws = (lines-start, skip-room, skip-cursor, skip-written, lines-cursor, lines-written, needs)
+ruleset laws = (listed-date, listed-line, lines-start, skip-room, skip-cursor, skip-written, lines-cursor, lines-written, needs)
 
 pub write-lines-spec : {M : Type 1} → statement M
 write-lines-spec =

@@ -1,4 +1,4 @@
-use Rattle.book_validity.proofs.CountLaws.{count-none, count-off, count-on, count-fits, count-end}
+use Rattle.book_validity.proofs.CountLaws.{date-known, count-none, count-off, count-on, count-fits, count-end}
 use Prim.Native.Nat.{_≤_, _-_}
 use mathlib.Core.Path.{_≡_}
 use Rattle.book.specs.Entries.{entriesOf}
@@ -14,7 +14,7 @@ Inv-loop nums numbers dates used day n₀ i₀ n i =
 abbrev μ-loop : tie.MeasureT-loop
 μ-loop nums numbers dates used day n₀ i₀ n i = used - i
 
-ruleset laws = (count-none, count-off, count-on, count-fits, count-end, needs)
+ruleset laws = (date-known, count-none, count-off, count-on, count-fits, count-end, needs)
 
 pub count-day-spec : {M : Type 1} → statement M
 count-day-spec =

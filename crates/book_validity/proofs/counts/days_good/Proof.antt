@@ -1,5 +1,5 @@
 -- `book::counts::days_good` meets its contract. The invariant: each slot holds the count of its day among the entries that were read, and none is past the limit.
-use Rattle.book_validity.proofs.CountLaws.{few-days, read-day, counts-none, counts-pass, counts-step, counts-full, counts-end}
+use Rattle.book_validity.proofs.CountLaws.{few-days, good-day, date-known, counts-none, counts-step, counts-full, counts-end}
 use Prim.Native.Nat.{_≤_, _-_}
 use Rattle.book.specs.Entries.{entriesOf}
 use Rattle.book_validity.proofs.CountLaws.{DayCounts}
@@ -14,7 +14,7 @@ Inv-loop nums numbers dates used counts₀ i₀ counts i =
 abbrev μ-loop : tie.MeasureT-loop
 μ-loop nums numbers dates used counts₀ i₀ counts i = used - i
 
-ruleset laws = (few-days, read-day, counts-none, counts-pass, counts-step, counts-full, counts-end, needs)
+ruleset laws = (few-days, good-day, date-known, counts-none, counts-step, counts-full, counts-end, needs)
 
 pub days-good-spec : {M : Type 1} → statement M
 days-good-spec =
@@ -27,11 +27,6 @@ days-good-spec =
     (λ c. search laws)
     (λ c κs. search laws)
     (λ c κs. search laws)
-    (λ c. search laws)
-    (λ c. search laws)
-    (λ c. search laws)
-    (λ c. search laws)
-    (λ c. search laws)
     (λ c κs. search laws)
     (λ c. search laws)
     (λ c. search laws)
