@@ -19,7 +19,7 @@ ghost use lib.ListN.{length};
 ghost use Rattle.dates.specs.Date.{dateDay};
 ghost use Rattle.book.specs.Entries.{entriesOf};
 ghost use Rattle.book.specs.Lent.{lentBook, bookBefore, bookAfter};
-ghost use Rattle.book_validity.specs.BookValid.{bookGood, ReadyBook};
+ghost use Rattle.book_validity.specs.BookValid.{bookGood, ReadyBook, Dated};
 ghost use Rattle.acceptance.specs.Acceptance.{acceptanceOf, madeEntry, mayAccept, dayOpen, hasPlace, acceptFault, accept};
 
 // The receipt is 0 with a fault.
@@ -58,6 +58,7 @@ pub fn day_open(
     written: [u8; 19],
 ) -> bool
     requires { ⌜ (used ≤ length (now nums)) × (used ≤ length (now numbers)) × (used ≤ length (now dates)) ⌝ }
+    requires { ⌜ Dated (lentBook nums numbers dates) used ⌝ }
     ensures { λ r. ⌜ r ≡ dayOpen (entriesOf (bookBefore nums numbers dates) used) (dateDay written) ⌝ }
 {
     let DayRead::Good(day) = date::day_of_date(written) else {

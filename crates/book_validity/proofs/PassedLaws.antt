@@ -9,8 +9,8 @@ use Rattle.lists.specs.declared.Found.{Found}
 use Rattle.lists.specs.declared.Found.the-variants.{At}
 use Rattle.book.specs.declared.Book.{Book}
 use Rattle.book.specs.Entries.{BookRows, entriesOf, findEntry}
-use Rattle.book_validity.specs.BookValid.{bookGood, ReadyBook}
-use Rattle.book_validity.proofs.BookLaws.{entry-within}
+use Rattle.book_validity.specs.BookValid.{bookGood, ReadyBook, Dated}
+use Rattle.book_validity.proofs.BookLaws.{good-dated, entry-within}
 
 module _ (b : Book) (t : BookRows) where
   pub good-is : (g : Bool) → g ≡ bookGood b t → not g ≡ false → bookGood b t ≡ true
@@ -18,6 +18,9 @@ module _ (b : Book) (t : BookRows) where
 
   pub ready-is : (g : Bool) → (g ≡ true → ReadyBook b t) → not g ≡ false → ReadyBook b t
   ready-is g r h = r (not-false g h)
+
+  pub dated-is : (g : Bool) → g ≡ bookGood b t → not g ≡ false → Dated t (b .used)
+  dated-is g e h = good-dated b t (good-is g e h)
 
   -- the rows reach the place of an entry
   pub room-at : (i : ℕ) → ReadyBook b t → i < b .used → (i < length (t .nums)) × (i < length (t .numbers)) × (i < length (t .dates))
