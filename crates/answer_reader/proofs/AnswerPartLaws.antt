@@ -11,11 +11,13 @@ use borrow.Author.Tests.{le-leb, lt-leb, leb-true, leb-false, not-true, not-fals
 use Rattle.texts.specs.declared.digits.Digits.{Digits}
 use Rattle.texts.specs.declared.digits.Digits.the-variants.{Value, Malformed}
 use Rattle.dates.specs.declared.date.DateRead.{DateRead}
+use Rattle.texts.specs.Lists.{written}
 use Rattle.texts.specs.Digits.{digitsRead}
 use Rattle.dates.specs.Date.{isWritten, emptyDate, dateRead}
-use Rattle.dates.proofs.DateLaws.{written-parts}
+use Rattle.dates.proofs.DateLaws.{date-again, written-parts}
 use Rattle.texts.proofs.Tests.{cond-elim, no-claim}
 use Rattle.texts.proofs.ListLaws.{drop-next}
+use Rattle.texts.proofs.OutLaws.{written-length, text-first}
 use Rattle.payments.specs.declared.Action.{Action}
 use Rattle.payments.specs.declared.Answer.{Answer}
 use Rattle.answer_reader.specs.declared.answer.AnswerRead.{AnswerRead}
@@ -26,16 +28,12 @@ use Rattle.answer_reader.specs.declared.tags.Element.{Element}
 use Rattle.answer_reader.specs.declared.tags.Element.the-variants.{Absent, Broken, Held}
 use Rattle.answer_reader.specs.declared.parts.Part.{Part}
 use Rattle.answer_reader.specs.declared.parts.Part.the-variants.{Code, Authcode, Date, Message}
-use Rattle.answers.specs.Answer.{xmlLine, responseTag, opening, closing}
-use Rattle.answer_reader.specs.AnswerRead.{starts, skipBlanks, Found, elementAt, nameOf, mayStand, mayLackDate, mayLack, emptyAnswer, withCode, withAuthcode, withDate, unreadable, good, numberHeld, filled, Unreadable, SoFar, readOn, tagStep, partStep, openStep, partsStep, endStep, answerRead}
-use Rattle.answer_reader.specs.AnswerParts.{foundOf, noStep, absentStep, numberStep, dateStep, messageStep, filledStep, dateIn, heldBy, given, Unheld, Takes, Gives, placed, Passes, noParts, answerOf, partsOf}
+use Rattle.answers.specs.Answer.{xmlLine, responseTag, codeTag, authcodeTag, dateTag, messageTag, opening, closing}
+use Rattle.answer_reader.specs.AnswerRead.{starts, skipBlanks, elementAt, nameOf, takesMore, mayStand, mayLackDate, mayLack, emptyAnswer, withCode, withAuthcode, withDate, unreadable, good, numberHeld, filled, Unreadable, SoFar, readOn, tagStep, partStep, openStep, partsStep, endStep, answerRead}
+use Rattle.answer_reader.specs.AnswerParts.{foundOf, noStep, absentStep, numberStep, dateStep, messageStep, filledStep, dateIn, heldBy, given, Unheld, Takes, placed, Passes, noParts, codeAlone, answerOf, moreStep, partsOf}
 
 pub none-read : (x : Answer) → x ≡ emptyAnswer → record { ok = false; answer = x } ≡ unreadable
 none-read x none = rw none
-
--- ---- the element that stands at the start of a text
-pub part-as : (k l : Part) (t : List ℕ) (f : Found) → k ≡ l → f ≡ elementAt (nameOf l) t → f ≡ elementAt (nameOf k) t
-part-as k l t f e q = rw e q
 
 -- ---- what an element gives
 module _ (r : Step) where
@@ -86,13 +84,20 @@ nineteen n l e = go (leb n (length l)) refl
         let z : length l ≡ 19 = sym (ap length w) ∙ e in
         take-all 19 l (omega arith) ∙ sym w
 
-date-length : (c : List ℕ) → (dateRead c) .ok ≡ true → length c ≡ 19
+date-written : (c : List ℕ) → (dateRead c) .ok ≡ true → isWritten c ≡ true
 unfolding dateRead
-date-length c = cond-elim (λ (r : DateRead). r .ok ≡ true → length c ≡ 19) (isWritten c) _ _ (λ h _. (written-parts c h) .size) (λ _ e. no-claim e)
+date-written c = cond-elim (λ (r : DateRead). r .ok ≡ true → isWritten c ≡ true) (isWritten c) _ _ (λ h _. h) (λ _ e. no-claim e)
+
+-- its copy is the date that was read
+date-copied : (c : List ℕ) → length c ≡ 19 → written emptyDate 0 c ≡ c
+date-copied c l =
+    let fit : length c ≤ length emptyDate = omega arith in
+    let all : length (written emptyDate 0 c) ≤ length c = rw (written-length emptyDate 0 c) (omega arith) in
+    sym (take-all (length c) (written emptyDate 0 c) all) ∙ text-first emptyDate c fit
 
 module _ (s : List ℕ) (dated : Bool) (from : ℕ) where
-  pub date-there : dated ≡ true → (u c : List ℕ) → u ≡ drop from s → c ≡ take 19 u → (d : DateRead) → d ≡ dateRead c → d .date ≡ dateIn s dated from
-  date-there h u c eu ec d ed = rw (h, ed, ec, eu)
+  pub date-there : dated ≡ true → (u c : List ℕ) → u ≡ drop from s → c ≡ take 19 u → (r : List ℕ) → r ≡ written emptyDate 0 c → r ≡ dateIn s dated from
+  date-there h u c eu ec r q = q ∙ rw (h, ec, eu)
 
   pub date-none : (r : List ℕ) → r ≡ emptyDate → dated ≡ false → r ≡ dateIn s dated from
   date-none r q h = q ∙ rw h
@@ -117,9 +122,10 @@ module _ (s : List ℕ) (x : Answer) (from size next : ℕ) where
     where
       go : (b : Bool) → (dateRead c) .ok ≡ b → given Date s x (dateStep b from next) ≡ readOn (cond b (good (withDate x ((dateRead c) .date))) unreadable) (drop next s)
       go true b =
-          let l : length c ≡ 19 = date-length c b in
+          let w : isWritten c ≡ true = date-written c b in
+          let l : length c ≡ 19 = (written-parts c w) .size in
           let z : take 19 (drop from s) ≡ c = nineteen size (drop from s) (ap length (sym e) ∙ l) ∙ sym e in
-          rw z
+          rw (z, date-copied c l, date-again c w)
       go false b = refl
   fill-given Message c e = go (leb (length c) 512)
     where
@@ -152,14 +158,15 @@ module _ (k : Part) (a : Action) (code : ℕ) (s : List ℕ) (at : ℕ) (r : Ste
     pub take-held : (from size next : ℕ) → e ≡ Held from size next → (u c : List ℕ) → u ≡ drop from s → c ≡ take size u → r ≡ filledStep k c from next → Takes k a code s at e r
     take-held from size next q u c eu ec er x ex = rw (er, q) (fill-given s x from size next k c (ec ∙ rw eu) ∙ rw (ec, eu))
 
-  module _ (t : Bool) (may : t ≡ mayStand k a) where
-    pub step-barred : t ≡ false → r ≡ absentStep true at → Gives k a code s at r
-    unfolding partStep given
-    step-barred n er x ex = rw (er, ← may, n)
-
-    pub step-part : t ≡ true → (e : Element) → foundOf s e ≡ elementAt (nameOf k) (drop at s) → Takes k a code s at e r → Gives k a code s at r
+    -- it is the definition's, where the element may stand
+    step-part : foundOf s e ≡ elementAt (nameOf k) (drop at s) → Takes k a code s at e r → mayStand k a ≡ true
+        → (x : Answer) → x .code ≡ code → partStep k a (SoFar x (drop at s)) ≡ given k s x r
     unfolding partStep
-    step-part y e ee takes x ex = takes x ex ∙ rw (ee, ← may, y)
+    step-part ee takes may x ex = rw (may, ← ee) (sym (takes x ex))
+
+step-barred : (k : Part) (a : Action) (x : Answer) (t : List ℕ) → mayStand k a ≡ false → partStep k a (SoFar x t) ≡ SoFar x t
+unfolding partStep
+step-barred k a x t barred = rw barred
 
 module _ (r : Step) where
   pub absent-unheld : (ok : Bool) (at : ℕ) → r ≡ absentStep ok at → Unheld r
@@ -196,72 +203,103 @@ module _ (k : Part) (s : List ℕ) (x : Answer) (r : Step) where
       go false q = no-claim q
 
 -- the answer after each element
-abbrev coded : Step → Answer
-coded c = withCode emptyAnswer (c .value)
+abbrev coded : ℕ → Answer
+coded code = withCode emptyAnswer code
 
-abbrev authorizedBy : Step → Step → Answer
-authorizedBy c n = record { code = c .value; authorized = n .there; authcode = n .value; dated = false; date = emptyDate }
+abbrev authorizedBy : ℕ → Step → Answer
+authorizedBy code n = record { code = code; authorized = n .there; authcode = n .value; dated = false; date = emptyDate }
 
-abbrev datedBy : List ℕ → Step → Step → Step → Answer
-datedBy s c n d = record { code = c .value; authorized = n .there; authcode = n .value; dated = d .there; date = dateIn s (d .there) (d .from) }
+abbrev datedBy : List ℕ → ℕ → Step → Step → Answer
+datedBy s code n d = record { code = code; authorized = n .there; authcode = n .value; dated = d .there; date = dateIn s (d .there) (d .from) }
 
-code-held : (s : List ℕ) (c : Step) → Unheld c → cond (c .there) (heldBy Code s emptyAnswer c) emptyAnswer ≡ coded c
+code-held : (s : List ℕ) (c : Step) → Unheld c → cond (c .there) (heldBy Code s emptyAnswer c) emptyAnswer ≡ coded (c .value)
 code-held s c u = go (c .there) refl
   where
-    go : (b : Bool) → c .there ≡ b → cond b (heldBy Code s emptyAnswer c) emptyAnswer ≡ coded c
+    go : (b : Bool) → c .there ≡ b → cond b (heldBy Code s emptyAnswer c) emptyAnswer ≡ coded (c .value)
     go true e = refl
     go false e = rw (u e)
 
-authcode-held : (s : List ℕ) (c n : Step) → Unheld n → cond (n .there) (heldBy Authcode s (coded c) n) (coded c) ≡ authorizedBy c n
-authcode-held s c n u = go (n .there) refl
-  where
-    go : (b : Bool) → n .there ≡ b → cond b (heldBy Authcode s (coded c) n) (coded c) ≡ authorizedBy c n
-    go true e = rw e
-    go false e = rw (e, u e)
+module _ (s : List ℕ) (code : ℕ) (n : Step) where
+  authcode-held : Unheld n → cond (n .there) (heldBy Authcode s (coded code) n) (coded code) ≡ authorizedBy code n
+  authcode-held u = go (n .there) refl
+    where
+      go : (b : Bool) → n .there ≡ b → cond b (heldBy Authcode s (coded code) n) (coded code) ≡ authorizedBy code n
+      go true e = rw e
+      go false e = rw (e, u e)
 
-date-held : (s : List ℕ) (c n d : Step) → cond (d .there) (heldBy Date s (authorizedBy c n) d) (authorizedBy c n) ≡ datedBy s c n d
-date-held s c n d = go (d .there) refl
-  where
-    go : (b : Bool) → d .there ≡ b → cond b (heldBy Date s (authorizedBy c n) d) (authorizedBy c n) ≡ datedBy s c n d
-    go true e = rw e
-    go false e = rw e
+  date-held : (d : Step) → cond (d .there) (heldBy Date s (authorizedBy code n) d) (authorizedBy code n) ≡ datedBy s code n d
+  date-held d = go (d .there) refl
+    where
+      go : (b : Bool) → d .there ≡ b → cond b (heldBy Date s (authorizedBy code n) d) (authorizedBy code n) ≡ datedBy s code n d
+      go true e = rw e
+      go false e = rw e
 
 cond-same : {A : Type 0} (b : Bool) (x : A) → cond b x x ≡ x
 cond-same true x = refl
 cond-same false x = refl
 
-module _ (a : Action) (s : List ℕ) (at : ℕ) (c : Step) (gc : Gives Code a 0 s at c) where
-  pub no-code : not (c .ok) ≡ true → (r : Parts) → r ≡ noParts → partsOf s r ≡ partsStep a (SoFar emptyAnswer (drop at s))
+-- authcode and date
+module _ (a : Action) (code : ℕ) (s : List ℕ) (at : ℕ) (t : Bool) (may : t ≡ takesMore a) (r : Parts) where
+  pub more-barred : not t ≡ true → r ≡ codeAlone code at → partsOf s r ≡ moreStep a (SoFar (coded code) (drop at s))
+  unfolding mayStand partsOf
+  more-barred h q =
+      let barred : takesMore a ≡ false = sym may ∙ not-true t h in
+      rw (q, step-barred Authcode a (coded code) (drop at s) barred, step-barred Date a (coded code) (drop at s) barred)
+
+  module _ (h : not t ≡ false) (e : Element) (ee : foundOf s e ≡ elementAt authcodeTag (drop at s)) (n : Step) (tn : Takes Authcode a code s at e n) where
+    stands : takesMore a ≡ true
+    stands = sym may ∙ not-false t h
+
+    authcode-step : partStep Authcode a (SoFar (coded code) (drop at s)) ≡ given Authcode s (coded code) n
+    authcode-step = step-part Authcode a code s at n e ee tn (unfold mayStand in stands) (coded code) refl
+
+    pub no-authcode : not (n .ok) ≡ true → r ≡ noParts → partsOf s r ≡ moreStep a (SoFar (coded code) (drop at s))
+    unfolding partsOf
+    no-authcode stop q = rw (q, authcode-step, stopped Authcode s (coded code) n stop) (unfold partStep in refl)
+
+    pub all-more : not (n .ok) ≡ false → Unheld n → (f : Element) → foundOf s f ≡ elementAt dateTag (drop (n .at) s) → (d : Step) → Takes Date a code s (n .at) f d
+        → r ≡ record { ok = d .ok; code = code; authorized = n .there; authcode = n .value; dated = d .there; from = d .from; at = d .at }
+        → partsOf s r ≡ moreStep a (SoFar (coded code) (drop at s))
+    unfolding partsOf given
+    all-more fine un f ef d td q =
+        let x = authorizedBy code n in
+        let date-step : partStep Date a (SoFar x (drop (n .at) s)) ≡ given Date s x d = step-part Date a code s (n .at) d f ef td (unfold mayStand in stands) x refl in
+        rw (q, authcode-step, going Authcode s (coded code) n fine x (authcode-held s code n un), date-step, date-held s code n d)
+
+-- what was read of them, or that they cannot be read
+module _ (s : List ℕ) (p : Parts) where
+  parts-stop : not (p .ok) ≡ true → partsOf s p ≡ Unreadable
+  unfolding partsOf
+  parts-stop h = rw (not-true (p .ok) h)
+
+  parts-go : not (p .ok) ≡ false → partsOf s p ≡ SoFar (answerOf s p) (drop (p .at) s)
+  unfolding partsOf
+  parts-go h = rw (not-false (p .ok) h)
+
+-- all four
+module _ (a : Action) (s : List ℕ) (at : ℕ) (e : Element) (ee : foundOf s e ≡ elementAt codeTag (drop at s)) (c : Step) (tc : Takes Code a 0 s at e c) (r : Parts) where
+  code-step : partStep Code a (SoFar emptyAnswer (drop at s)) ≡ given Code s emptyAnswer c
+  code-step = step-part Code a 0 s at c e ee tc (unfold mayStand in refl) emptyAnswer refl
+
+  pub no-code : not (c .ok) ≡ true → r ≡ noParts → partsOf s r ≡ partsStep a (SoFar emptyAnswer (drop at s))
   unfolding partsStep partsOf
-  no-code h r q = rw (q, ← gc emptyAnswer refl, stopped Code s emptyAnswer c h) (unfold partStep in refl)
+  no-code h q = rw (q, code-step, stopped Code s emptyAnswer c h) (unfold partStep in refl)
 
-  module _ (fine : not (c .ok) ≡ false) (uc : Unheld c) where
-    code-read : partStep Code a (SoFar emptyAnswer (drop at s)) ≡ SoFar (coded c) (drop (c .at) s)
-    code-read = sym (gc emptyAnswer refl) ∙ going Code s emptyAnswer c fine (coded c) (code-held s c uc)
+  module _ (fine : not (c .ok) ≡ false) (uc : Unheld c) (p : Parts) (ep : partsOf s p ≡ moreStep a (SoFar (coded (c .value)) (drop (c .at) s))) where
+    more-read : partsStep a (SoFar emptyAnswer (drop at s)) ≡ partStep Message a (partsOf s p)
+    unfolding partsStep
+    more-read = rw (code-step, going Code s emptyAnswer c fine (coded (c .value)) (code-held s c uc), ep)
 
-    module _ (n : Step) (gn : Gives Authcode a (c .value) s (c .at) n) where
-      pub no-authcode : not (n .ok) ≡ true → (r : Parts) → r ≡ noParts → partsOf s r ≡ partsStep a (SoFar emptyAnswer (drop at s))
-      unfolding partsStep partsOf
-      no-authcode h r q = rw (q, code-read, ← gn (coded c) refl, stopped Authcode s (coded c) n h) (unfold partStep in refl)
+    pub no-more : not (p .ok) ≡ true → r ≡ noParts → partsOf s r ≡ partsStep a (SoFar emptyAnswer (drop at s))
+    no-more h q = sym (more-read ∙ rw (parts-stop s p h, q) (unfold partStep partsOf in refl))
 
-      module _ (fine₁ : not (n .ok) ≡ false) (un : Unheld n) where
-        authcode-read : partStep Authcode a (SoFar (coded c) (drop (c .at) s)) ≡ SoFar (authorizedBy c n) (drop (n .at) s)
-        authcode-read = sym (gn (coded c) refl) ∙ going Authcode s (coded c) n fine₁ (authorizedBy c n) (authcode-held s c n un)
-
-        module _ (d : Step) (gd : Gives Date a (c .value) s (n .at) d) where
-          pub no-date : not (d .ok) ≡ true → (r : Parts) → r ≡ noParts → partsOf s r ≡ partsStep a (SoFar emptyAnswer (drop at s))
-          unfolding partsStep partsOf
-          no-date h r q = rw (q, code-read, authcode-read, ← gd (authorizedBy c n) refl, stopped Date s (authorizedBy c n) d h) (unfold partStep in refl)
-
-          pub all-parts : not (d .ok) ≡ false → (m : Step) → Gives Message a (c .value) s (d .at) m → (r : Parts)
-              → r ≡ record { ok = m .ok; code = c .value; authorized = n .there; authcode = n .value; dated = d .there; from = d .from; at = m .at }
-              → partsOf s r ≡ partsStep a (SoFar emptyAnswer (drop at s))
-          unfolding partsStep partsOf given
-          all-parts fine₂ m gm r q =
-              let y = datedBy s c n d in
-              let read : partStep Date a (SoFar (authorizedBy c n) (drop (n .at) s)) ≡ SoFar y (drop (d .at) s) =
-              sym (gd (authorizedBy c n) refl) ∙ going Date s (authorizedBy c n) d fine₂ y (date-held s c n d) in
-              rw (q, code-read, authcode-read, read) (ap (λ (z : Answer). cond (m .ok) (SoFar z (drop (m .at) s)) Unreadable) (sym (cond-same (m .there) y)) ∙ gm y refl)
+    pub all-parts : not (p .ok) ≡ false → (f : Element) → foundOf s f ≡ elementAt messageTag (drop (p .at) s) → (m : Step) → Takes Message a (p .code) s (p .at) f m
+        → r ≡ record { ok = m .ok; code = p .code; authorized = p .authorized; authcode = p .authcode; dated = p .dated; from = p .from; at = m .at }
+        → partsOf s r ≡ partsStep a (SoFar emptyAnswer (drop at s))
+    all-parts h f ef m tm q =
+        let x = answerOf s p in
+        let message-step : partStep Message a (SoFar x (drop (p .at) s)) ≡ given Message s x m = step-part Message a (p .code) s (p .at) m f ef tm (unfold mayStand in refl) x refl in
+        sym (more-read ∙ rw (parts-go s p h, message-step, q) (unfold given partsOf in rw cond-same))
 
 -- ---- the answer
 module _ (s : List ℕ) (p : Place) (passes : Passes s 0 xmlLine p) where
@@ -288,16 +326,12 @@ module _ (a : Action) (s : List ℕ) (o : Place) (eo : placed s emptyAnswer o �
 
     pub not-parts : not (p .ok) ≡ true → r ≡ unreadable → r ≡ answerRead a s
     unfolding answerRead
-    not-parts h q =
-        let e : partsOf s p ≡ Unreadable = unfold partsOf in rw (not-true (p .ok) h) in
-        q ∙ rw (opened, ← ep, e) (unfold tagStep endStep in refl)
+    not-parts h q = q ∙ rw (opened, ← ep, parts-stop s p h) (unfold tagStep endStep in refl)
 
     module _ (fine₁ : not (p .ok) ≡ false) (e : Place) (passes : Passes s (p .at) (closing responseTag) e) where
       closed : answerRead a s ≡ endStep (placed s (answerOf s p) e)
       unfolding answerRead
-      closed =
-          let z : partsOf s p ≡ SoFar (answerOf s p) (drop (p .at) s) = unfold partsOf in rw (not-false (p .ok) fine₁) in
-          rw (opened, ← ep, z, passes (answerOf s p))
+      closed = rw (opened, ← ep, parts-go s p fine₁, passes (answerOf s p))
 
       pub not-closed : not (e .ok) ≡ true → r ≡ unreadable → r ≡ answerRead a s
       not-closed h q = q ∙ sym (closed ∙ unfold placed endStep in rw (not-true (e .ok) h))

@@ -8,10 +8,10 @@ use mathlib.Core.Bool.{Bool, true, false}
 use mir.Syntax.{w64}
 use mir.Val.{Fits}
 use lib.ListN.{length, getD, take, drop, length-take, length-drop, drop-of-length-le}
-use lib.Seq.{take-all, drop-drop}
+use lib.Seq.{take-all, length-take-le, drop-drop}
 use Rattle.texts.specs.Lists.{find, eqList}
 use Rattle.texts.proofs.ListLaws.{drop-next}
-use Rattle.texts.proofs.ScanLaws.{find-le, eqList-true}
+use Rattle.texts.proofs.ScanLaws.{find-le, lengths-differ, eqList-true}
 use Rattle.answer_reader.specs.AnswerRead.{starts, isBlank, skipBlanks, NoTag, Unclosed, Content, contentOf, between}
 
 module _ (s : List ℕ) (at : ℕ) where
@@ -36,10 +36,20 @@ module _ (s : List ℕ) (at : ℕ) where
     skip-end h = sym (passed ∙ rw (drop-of-length-le s h))
 
   -- ---- a tag at `at`
+  pub starts-short : (tag u : List ℕ) → u ≡ drop at s → length u < length tag → false ≡ starts tag (drop at s)
+  unfolding starts
+  starts-short tag u eu h =
+      let n : length u ≡ length tag → ⊥ = λ e. omega arith in
+      let all : take (length tag) u ≡ u = take-all (length tag) u (omega arith) in
+      rw (← eu, all) (lengths-differ u tag n)
+
+  pub cut-size : (tag u : List ℕ) → length tag ≤ length u → length tag ≡ length (take (length tag) u)
+  cut-size tag u h = sym (length-take-le (length tag) u h)
+
   module _ (tag : List ℕ) (r : Bool) where
-    pub starts-is : (u v : List ℕ) → u ≡ drop at s → v ≡ take (length tag) u → r ≡ eqList v tag → r ≡ starts tag (drop at s)
+    pub starts-is : (u : List ℕ) → u ≡ drop at s → r ≡ eqList (take (length tag) u) tag → r ≡ starts tag (drop at s)
     unfolding starts
-    starts-is u v eu ev e = rw (← eu, ← ev) e
+    starts-is u eu e = rw (← eu) e
 
     pub tag-fits : r ≡ starts tag (drop at s) → r ≡ true → length s < 2 ^ 64 → Fits w64 at → Fits w64 (at + length tag)
     unfolding starts

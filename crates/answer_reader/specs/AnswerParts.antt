@@ -7,6 +7,7 @@ use lib.Dec.{leb}
 use lib.ListN.{length, take, drop}
 use Rattle.texts.specs.declared.digits.Digits.{Digits}
 use Rattle.texts.specs.declared.digits.Digits.the-variants.{Value, Malformed}
+use Rattle.texts.specs.Lists.{written}
 use Rattle.texts.specs.Digits.{digitsRead}
 use Rattle.dates.specs.Date.{emptyDate, dateRead}
 use Rattle.payments.specs.declared.Action.{Action}
@@ -49,9 +50,9 @@ filledStep Authcode c from at = numberStep (digitsRead 15 c) at
 filledStep Date c from at = dateStep ((dateRead c) .ok) from at
 filledStep Message c from at = messageStep (length c) at
 
--- the date that begins at a place
+-- the nineteen bytes that begin at a place
 abbrev pub dateIn : List ℕ → Bool → ℕ → List ℕ
-dateIn s dated from = cond dated ((dateRead (take 19 (drop from s))) .date) emptyDate
+dateIn s dated from = cond dated (written emptyDate 0 (take 19 (drop from s))) emptyDate
 
 -- the answer x with what an element gives, and the reading
 abbrev pub heldBy : Part → List ℕ → Answer → Step → Answer
@@ -70,9 +71,6 @@ Unheld r = r .there ≡ false → r .value ≡ 0
 abbrev pub Takes : Part → Action → ℕ → List ℕ → ℕ → Element → Step → Type 0
 Takes k a code s at e r = (x : Answer) → x .code ≡ code → given k s x r ≡ partFound k a x (drop at s) (foundOf s e)
 
-abbrev pub Gives : Part → Action → ℕ → List ℕ → ℕ → Step → Type 0
-Gives k a code s at r = (x : Answer) → x .code ≡ code → given k s x r ≡ partStep k a (SoFar x (drop at s))
-
 -- ---- a tag that was passed
 unfoldable pub placed : List ℕ → Answer → Place → Reading
 placed s x r = cond (r .ok) (SoFar x (drop (r .at) s)) Unreadable
@@ -84,9 +82,16 @@ Passes s at tag r = (x : Answer) → placed s x r ≡ tagStep tag (SoFar x (drop
 abbrev pub noParts : Parts
 noParts = record { ok = false; code = 0; authorized = false; authcode = 0; dated = false; from = 0; at = 0 }
 
+abbrev pub codeAlone : ℕ → ℕ → Parts
+codeAlone code at = record { ok = true; code = code; authorized = false; authcode = 0; dated = false; from = 0; at = at }
+
 abbrev pub answerOf : List ℕ → Parts → Answer
 answerOf s p =
     record { code = p .code; authorized = p .authorized; authcode = p .authcode; dated = p .dated; date = dateIn s (p .dated) (p .from) }
 
 unfoldable pub partsOf : List ℕ → Parts → Reading
 partsOf s p = cond (p .ok) (SoFar (answerOf s p) (drop (p .at) s)) Unreadable
+
+-- what may stand between code and message
+abbrev pub moreStep : Action → Reading → Reading
+moreStep a r = partStep Date a (partStep Authcode a r)

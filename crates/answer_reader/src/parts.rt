@@ -1,14 +1,11 @@
 // The four elements of a response, under one rule.
-use crate::tags;
-use crate::tags::Element;
 use dates::date;
 use payments::Action;
 use texts::digits;
 use texts::digits::Digits;
 ghost use mathlib.Core.Path.{_≡_};
-ghost use lib.ListN.{drop};
-ghost use Rattle.answer_reader.specs.AnswerRead.{elementAt, nameOf, takesMore, mayStand, mayLackDate, mayLack};
-ghost use Rattle.answer_reader.specs.AnswerParts.{foundOf, noStep, absentStep, numberStep, dateStep, messageStep, filledStep};
+ghost use Rattle.answer_reader.specs.AnswerRead.{takesMore, mayLackDate, mayLack};
+ghost use Rattle.answer_reader.specs.AnswerParts.{noStep, absentStep, numberStep, dateStep, messageStep, filledStep};
 
 // The most bytes of a message.
 const MESSAGE_MOST: usize = 512;
@@ -55,18 +52,6 @@ pub(crate) fn absent(ok: bool, at: usize) -> Step
     }
 }
 
-// The element that stands at a place, if it is this one.
-pub(crate) fn part_at(k: Part, s: &[u8], at: usize) -> Element
-    ensures { λ r. ⌜ foundOf (now (s .entry)) r ≡ elementAt (nameOf k) (drop at (now (s .entry))) ⌝ }
-{
-    match k {
-        Part::Code => tags::element_at(s, at, b"<code>", b"</code>"),
-        Part::Authcode => tags::element_at(s, at, b"<authcode>", b"</authcode>"),
-        Part::Date => tags::element_at(s, at, b"<date>", b"</date>"),
-        Part::Message => tags::element_at(s, at, b"<message>", b"</message>"),
-    }
-}
-
 // Whether an action's answers may have an authcode and a date.
 pub(crate) fn takes_more(a: Action) -> bool
     ensures { λ r. ⌜ r ≡ takesMore a ⌝ }
@@ -88,18 +73,6 @@ pub(crate) fn may_lack_date(a: Action, code: u64) -> bool
         Action::Payment => { if code == 1 { true } else { code == 31 } }
         Action::Status => true,
         Action::Cancel => true,
-    }
-}
-
-// Whether an action's answers may have an element.
-pub(crate) fn may_stand(k: Part, a: Action) -> bool
-    ensures { λ r. ⌜ r ≡ mayStand k a ⌝ }
-{
-    match k {
-        Part::Code => true,
-        Part::Authcode => takes_more(a),
-        Part::Date => takes_more(a),
-        Part::Message => true,
     }
 }
 

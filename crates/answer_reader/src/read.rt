@@ -6,14 +6,14 @@ use crate::parts::Part;
 use crate::parts::Step;
 use crate::tags;
 use crate::tags::Element;
-use dates::date;
 use payments::Action;
 use payments::Answer;
+use texts::out;
 use texts::scan;
 ghost use mathlib.Core.Path.{_≡_};
 ghost use lib.ListN.{drop};
-ghost use Rattle.answer_reader.specs.AnswerRead.{emptyAnswer, SoFar, openStep, partsStep, answerRead};
-ghost use Rattle.answer_reader.specs.AnswerParts.{Passes, Takes, Gives, Unheld, placed, noParts, partsOf, dateIn, answerOf};
+ghost use Rattle.answer_reader.specs.AnswerRead.{emptyAnswer, withCode, SoFar, openStep, partsStep, answerRead};
+ghost use Rattle.answer_reader.specs.AnswerParts.{Passes, Takes, Unheld, placed, noParts, codeAlone, moreStep, partsOf, dateIn, answerOf};
 
 // Where the text goes on behind a tag; `ok` false where it does not stand.
 struct Place {
@@ -44,6 +44,21 @@ fn no_parts() -> Parts
         dated: false,
         from: 0,
         at: 0,
+    }
+}
+
+// A code behind which nothing is read yet.
+fn code_alone(code: u64, at: usize) -> Parts
+    ensures { λ r. ⌜ r ≡ codeAlone code at ⌝ }
+{
+    Parts {
+        ok: true,
+        code,
+        authorized: false,
+        authcode: 0,
+        dated: false,
+        from: 0,
+        at,
     }
 }
 
@@ -88,15 +103,28 @@ fn take_part(k: Part, a: Action, code: u64, s: &[u8], at: usize, e: Element) -> 
     }
 }
 
-// One element, where the action's answers may have it.
-fn part_step(k: Part, a: Action, code: u64, s: &[u8], at: usize) -> Step
-    ensures { λ r. ⌜ Gives k a code (now (s .entry)) at r × Unheld r ⌝ }
+// Authcode and date, which stand behind the code where the action's answers have them.
+fn read_more(a: Action, code: u64, s: &[u8], at: usize) -> Parts
+    ensures { λ r. ⌜ partsOf (now (s .entry)) r ≡ moreStep a (SoFar (withCode emptyAnswer code) (drop at (now (s .entry)))) ⌝ }
 {
-    if parts::may_stand(k, a) {
-        let e = parts::part_at(k, s, at);
-        take_part(k, a, code, s, at, e)
-    } else {
-        parts::absent(true, at)
+    if !parts::takes_more(a) {
+        return code_alone(code, at);
+    }
+    let e = tags::element_at(s, at, b"<authcode>", b"</authcode>");
+    let n = take_part(Part::Authcode, a, code, s, at, e);
+    if !n.ok {
+        return no_parts();
+    }
+    let f = tags::element_at(s, n.at, b"<date>", b"</date>");
+    let d = take_part(Part::Date, a, code, s, n.at, f);
+    Parts {
+        ok: d.ok,
+        code,
+        authorized: n.there,
+        authcode: n.value,
+        dated: d.there,
+        from: d.from,
+        at: d.at,
     }
 }
 
@@ -104,37 +132,30 @@ fn part_step(k: Part, a: Action, code: u64, s: &[u8], at: usize) -> Step
 fn read_parts(a: Action, s: &[u8], at: usize) -> Parts
     ensures { λ r. ⌜ partsOf (now (s .entry)) r ≡ partsStep a (SoFar emptyAnswer (drop at (now (s .entry)))) ⌝ }
 {
-    let c = part_step(Part::Code, a, 0, s, at);
+    let e = tags::element_at(s, at, b"<code>", b"</code>");
+    let c = take_part(Part::Code, a, 0, s, at, e);
     if !c.ok {
         return no_parts();
     }
-    let n = part_step(Part::Authcode, a, c.value, s, c.at);
-    if !n.ok {
+    let mut p = read_more(a, c.value, s, c.at);
+    if !p.ok {
         return no_parts();
     }
-    let d = part_step(Part::Date, a, c.value, s, n.at);
-    if !d.ok {
-        return no_parts();
-    }
-    let m = part_step(Part::Message, a, c.value, s, d.at);
-    Parts {
-        ok: m.ok,
-        code: c.value,
-        authorized: n.there,
-        authcode: n.value,
-        dated: d.there,
-        from: d.from,
-        at: m.at,
-    }
+    let f = tags::element_at(s, p.at, b"<message>", b"</message>");
+    let m = take_part(Part::Message, a, p.code, s, p.at, f);
+    p.ok = m.ok;
+    p.at = m.at;
+    p
 }
 
-// The date that begins at a place of the text, none where the answer has none.
+// The date that begins at a place of the text, none where the answer has none: it was judged where it was read.
 fn date_in(s: &[u8], dated: bool, from: usize) -> [u8; 19]
     ensures { λ r. ⌜ r ≡ dateIn (now (s .entry)) dated from ⌝ }
 {
     if dated {
-        let d = date::read_date(scan::first_bytes(tags::rest(s, from), 19));
-        d.date
+        let mut d = [0u8; 19];
+        out::put_bytes(scan::first_bytes(tags::rest(s, from), 19), &mut d, 0);
+        d
     } else {
         [0u8; 19]
     }

@@ -23,7 +23,11 @@ pub(crate) fn rest(s: &[u8], at: usize) -> &[u8]
 pub(crate) fn starts_at(s: &[u8], at: usize, tag: &[u8]) -> bool
     ensures { λ r. ⌜ r ≡ starts (now (tag .entry)) (drop at (now (s .entry))) ⌝ }
 {
-    scan::same_bytes(scan::first_bytes(rest(s, at), tag.len()), tag)
+    let left = rest(s, at);
+    if left.len() < tag.len() {
+        return false;
+    }
+    scan::same_bytes(&left[..tag.len()], tag)
 }
 
 // Whether a byte is a space, a tab, CR or LF.

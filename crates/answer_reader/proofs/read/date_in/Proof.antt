@@ -11,6 +11,7 @@ date-in-spec =
     (tie.spec
     (λ c κs. search laws)
     (λ c κs. search laws)
+    (λ c. search laws)
     (λ c κs. search laws)
     (λ c. search laws)
     (λ c. search laws))
