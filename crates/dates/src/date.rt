@@ -7,9 +7,10 @@ use texts::scan;
 ghost use mathlib.Core.Path.{_≡_};
 ghost use mathlib.Core.Bool.{true};
 ghost use Prim.Native.Nat.{_<_, _≤_};
+ghost use lib.ListN.{length};
 ghost use Rattle.days.specs.Calendar.{onDay, upTo, twoDigits};
 ghost use Rattle.days.specs.declared.calendar.DayRead.the-variants.{Good};
-ghost use Rattle.dates.specs.Date.{clockTime, dateDay, isWritten, emptyDate, noDate, dateRead};
+ghost use Rattle.dates.specs.Date.{clockTime, dateDay, isWritten, emptyDate, noDate, dateIf, dateRead, dateReadOn};
 ghost use Rattle.texts.specs.Lists.{eqList, written, cursorAfter};
 
 // A written date, or `ok` false and nineteen zero bytes.
@@ -122,6 +123,27 @@ pub fn no_date() -> DateRead
     }
 }
 
+// The bytes of a text of nineteen.
+pub fn nineteen(s: &[u8]) -> [u8; 19]
+    requires { ⌜ length (now s) ≡ 19 ⌝ }
+    ensures { λ r. ⌜ r ≡ now (s .entry) ⌝ }
+{
+    let mut date = [0u8; 19];
+    out::put_bytes(s, &mut date, 0);
+    date
+}
+
+// Nineteen bytes that passed a test of a date, or not.
+fn date_if(good: bool, date: [u8; 19]) -> DateRead
+    ensures { λ r. ⌜ r ≡ dateIf good date ⌝ }
+{
+    if good {
+        DateRead { ok: true, date }
+    } else {
+        no_date()
+    }
+}
+
 // A written date, from its bytes.
 pub fn read_date(s: &[u8]) -> DateRead
     ensures { λ r. ⌜ r ≡ dateRead (now (s .entry)) ⌝ }
@@ -129,13 +151,19 @@ pub fn read_date(s: &[u8]) -> DateRead
     if s.len() != 19 {
         return no_date();
     }
-    let mut date = [0u8; 19];
-    out::put_bytes(s, &mut date, 0);
-    if is_written(date) {
-        DateRead { ok: true, date }
-    } else {
-        no_date()
+    let date = nineteen(s);
+    date_if(is_written(date), date)
+}
+
+// A written date that is on the day, from its bytes.
+pub fn read_on(day: Day, s: &[u8]) -> DateRead
+    ensures { λ r. ⌜ r ≡ dateReadOn day (now (s .entry)) ⌝ }
+{
+    if s.len() != 19 {
+        return no_date();
     }
+    let date = nineteen(s);
+    date_if(is_on(day, date), date)
 }
 
 // Whether two written dates are one.

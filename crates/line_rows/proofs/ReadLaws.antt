@@ -8,6 +8,7 @@ use mathlib.Core.Logic.{_≢_}
 use mathlib.Core.Bool.{Bool, true, false, cond, not, _&&_}
 use mathlib.Core.List.{List, [], _∷_, _++_, append-nil}
 use lib.Dec.{ltb, leb}
+use borrow.Author.Tests.{not-true, not-false}
 use lib.ListN.{length, getD, take, drop, length-set, drop-of-length-le}
 use lib.Seq.{drop-cons, append-snoc, getD-set-same, getD-set-other}
 use Rattle.texts.specs.declared.digits.Digits.{Digits}
@@ -25,10 +26,10 @@ use Rattle.lists.proofs.ListLaws.{length-tab, getD-tab}
 use Rattle.lists.proofs.ColumnLaws.{tab-add}
 use Rattle.lines.specs.declared.line.Line.{Line}
 use Rattle.lines.specs.declared.line.LineRead.{LineRead}
-use Rattle.lines.specs.Line.{field, afterField, noLine, lineOf, lineRead}
+use Rattle.lines.specs.Line.{field, afterField, noLine, lineOf, lineRead, lineReadOn}
+use Rattle.lines.proofs.LineLaws.{on-read}
 use Rattle.days.specs.declared.calendar.Day.{Day}
-use Rattle.days.specs.Calendar.{onDay}
-use Rattle.dates.specs.Date.{dateRead, dateDay}
+use Rattle.dates.specs.Date.{dateRead}
 use Rattle.registry.specs.Registry.{lineEnd, splitLines, lineCount, heldLines, registryLines, goodLines, rising, registryFault}
 use Rattle.registry.proofs.SplitLaws.{held-line}
 use Rattle.registry.proofs.CheckLaws.{line-left, behind, count-pass, good-pass, rise-pass, too-many, fault-rest, fault-line, fault-end}
@@ -190,22 +191,24 @@ module _ (day : Day) (s : List ℕ) (u : LineRows) (n at : ℕ) (rose : Bool) (l
     pub rest-fault : length s ≤ e → (r : ℕ) → r ≡ cond (leb (n + lineCount (drop at s)) 512) 52 53 → r ≡ registryFault day s
     rest-fault = fault-rest day s n at (reading .count) (reading .good) e here ends
 
-    module _ (h : e < length s) (x : LineRead) (read : x ≡ lineRead (take (lineEnd (drop at s)) (drop at s))) (t : Bool) (test : t ≡ (x .ok) && onDay day (dateDay (x .line .date))) where
-      pub line-fault : not t ≡ true → (r : ℕ) → r ≡ cond (leb (n + lineCount (drop at s)) 512) 52 53 → r ≡ registryFault day s
-      line-fault = fault-line day s n at (reading .count) (reading .good) e here ends x read t test h
+    module _ (h : e < length s) (x : LineRead) (read : x ≡ lineReadOn day (take (lineEnd (drop at s)) (drop at s))) where
+      pub line-fault : not (x .ok) ≡ true → (r : ℕ) → r ≡ cond (leb (n + lineCount (drop at s)) 512) 52 53 → r ≡ registryFault day s
+      line-fault bad = fault-line day s n at (reading .count) (reading .good) e here ends x read h (not-true (x .ok) bad)
 
-      pub reading-on : not t ≡ false → n < 512 → (v : LineRows) → v ≡ linesWith u n (x .line) → (q : Bool) → q ≡ rose && ltb last (x .line .receipt)
+      pub reading-on : not (x .ok) ≡ false → n < 512 → (v : LineRows) → v ≡ linesWith u n (x .line) → (q : Bool) → q ≡ rose && ltb last (x .line .receipt)
           → Reading day s v (n + 1) (e + 2) q (x .line .receipt)
       reading-on good room v ev q eq =
           let y : Line = x .line in
+          let ok : x .ok ≡ true = not-false (x .ok) good in
+          let whole = on-read day _ x read ok in
           rw ev
           (record {
             lines = ap (λ (xs : List Line). xs ++ registryLines (drop (e + 2) s)) (lines-more u n y (omega (arith, reading .nums)) (omega (arith, reading .numbers)) (omega (arith, reading .dates)))
                 ∙ append-snoc (linesOf u n) y (registryLines (drop (e + 2) s))
-                ∙ ap (λ (xs : List Line). linesOf u n ++ xs) (sym (first-line s at e here ends x read h)) ∙ reading .lines;
+                ∙ ap (λ (xs : List Line). linesOf u n ++ xs) (sym (first-line s at e here ends x whole h)) ∙ reading .lines;
             count = count-pass s at e here ends n (reading .count) h;
-            good = good-pass s at e here ends day (reading .good) x read t test h good;
-            rises = rise-pass s at e here ends rose last (reading .rises) x read h q eq;
+            good = good-pass s at e here ends day (reading .good) x read h ok;
+            rises = rise-pass s at e here ends rose last (reading .rises) x whole h q eq;
             few = omega arith;
             nums = length-set (u .nums) n (lineNums y) ∙ reading .nums;
             numbers = length-set (u .numbers) n (y .number .bytes) ∙ reading .numbers;

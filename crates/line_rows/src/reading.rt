@@ -121,8 +121,8 @@ pub fn read_registry(
         if s.len() <= e {
             return refuse(s, at, n);
         }
-        let read = text::line_to(s, at, e);
-        if !text::is_good(day, read) {
+        let read = text::line_to(day, s, at, e);
+        if !read.ok {
             return refuse(s, at, n);
         }
         let x = read.line;

@@ -1,6 +1,7 @@
 // One line of a registry: number, type, date, amount and receipt, split by 09.
 use dates::date;
 use dates::date::DateRead;
+use days::calendar::Day;
 use fields::amount;
 use fields::codes;
 use fields::number;
@@ -13,8 +14,9 @@ use texts::scan;
 ghost use mathlib.Core.Path.{_≡_};
 ghost use mathlib.Core.Bool.{true};
 ghost use Rattle.texts.specs.Lists.{written, cursorAfter};
+ghost use Rattle.dates.specs.Date.{dateReadOn};
 ghost use Rattle.lines.specs.LineText.{lineWith, rowOf9, accountPart};
-ghost use Rattle.lines.specs.Line.{lineRead, lineOf, noLine, isLine, lineBytes, lineText};
+ghost use Rattle.lines.specs.Line.{lineReadOn, lineOf, noLine, isLine, lineBytes, lineText};
 
 pub struct Line {
     pub number: Number,
@@ -84,28 +86,28 @@ pub(crate) fn line_of(n: NumberRead, k: Digits, d: DateRead, a: Digits, r: Digit
     }
 }
 
-// The line of a number and a type that were read, and of the text of the three other fields.
-pub(crate) fn line_with(n: NumberRead, k: Digits, s: &[u8]) -> LineRead
-    ensures { λ x. ⌜ x ≡ lineWith n k (now (s .entry)) ⌝ }
+// The line of a number and a type that were read, and of the text of the three other fields, its date on the day.
+pub(crate) fn line_with(day: Day, n: NumberRead, k: Digits, s: &[u8]) -> LineRead
+    ensures { λ x. ⌜ x ≡ lineWith (dateReadOn day) n k (now (s .entry)) ⌝ }
 {
     let p = scan::find_byte(s, b'\t');
-    let d = date::read_date(scan::first_bytes(s, p));
+    let d = date::read_on(day, scan::first_bytes(s, p));
     let s1 = scan::bytes_from(s, p + 1);
     let q = scan::find_byte(s1, b'\t');
     let a = amount::read_amount(scan::first_bytes(s1, q));
     line_of(n, k, d, a, codes::read_receipt(scan::bytes_from(s1, q + 1)))
 }
 
-// A line, without its end.
-pub fn read_line(s: &[u8]) -> LineRead
-    ensures { λ r. ⌜ r ≡ lineRead (now (s .entry)) ⌝ }
+// A line of the day, without its end.
+pub fn read_line(day: Day, s: &[u8]) -> LineRead
+    ensures { λ r. ⌜ r ≡ lineReadOn day (now (s .entry)) ⌝ }
 {
     let p = scan::find_byte(s, b'\t');
     let n = number::read_number(scan::first_bytes(s, p));
     let s1 = scan::bytes_from(s, p + 1);
     let q = scan::find_byte(s1, b'\t');
     let k = codes::read_kind(scan::first_bytes(s1, q));
-    line_with(n, k, scan::bytes_from(s1, q + 1))
+    line_with(day, n, k, scan::bytes_from(s1, q + 1))
 }
 
 impl Line {

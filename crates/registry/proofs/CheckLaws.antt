@@ -3,35 +3,27 @@ use Prim.Native.Nat.{ℕ, suc, _+_, _-_, _≤_, _<_}
 use native.Mathlib.Omega.{arith}
 use mathlib.Core.Path.{_≡_, refl, sym, _∙_}
 use mathlib.Core.List.{List}
-use mathlib.Core.Bool.{Bool, true, false, cond, not, _&&_, and-assoc, and-true}
+use mathlib.Core.Bool.{Bool, true, false, cond, _&&_, and-assoc, and-true}
 use lib.Dec.{ltb, leb}
 use lib.ListN.{length, take, drop, length-drop, drop-of-length-le}
 use lib.Seq.{drop-drop}
-use borrow.Author.Tests.{le-leb, lt-leb, ltb-true, ltb-false, not-true, not-false}
+use borrow.Author.Tests.{le-leb, lt-leb, ltb-true, ltb-false}
 use Rattle.days.specs.declared.calendar.Day.{Day}
-use Rattle.days.specs.Calendar.{onDay}
-use Rattle.dates.specs.Date.{dateDay}
 use Rattle.lines.specs.declared.line.LineRead.{LineRead}
-use Rattle.lines.specs.Line.{lineRead}
+use Rattle.lines.specs.Line.{lineRead, lineReadOn}
+use Rattle.lines.proofs.LineLaws.{on-ok}
 use Rattle.registry.specs.Registry.{lineEnd, splitLines, countOf, lineCount, goodLine, goodLines, heldLines, registryLines, rising, registryFault}
 use Rattle.registry.proofs.SplitLaws.{end-room, count-line, count-rest, good-line, good-rest, held-line}
 
 -- ---- one line
-pub line-here : (s : List ℕ) (at e : ℕ) → e ≡ at + lineEnd (drop at s) → (t f : List ℕ) → t ≡ drop at s → f ≡ take (e - at) t
-    → (r : LineRead) → r ≡ lineRead f → r ≡ lineRead (take (lineEnd (drop at s)) (drop at s))
-line-here s at e ends t f et ef r er =
+pub line-here : (day : Day) (s : List ℕ) (at e : ℕ) → e ≡ at + lineEnd (drop at s) → (t f : List ℕ) → t ≡ drop at s → f ≡ take (e - at) t
+    → (r : LineRead) → r ≡ lineReadOn day f → r ≡ lineReadOn day (take (lineEnd (drop at s)) (drop at s))
+line-here day s at e ends t f et ef r er =
     let n : e - at ≡ lineEnd (drop at s) = omega arith in
     er ∙ rw (ef, et, n)
 
 pub line-under : (s : List ℕ) (at e : ℕ) → e ≡ at + lineEnd (drop at s) → at ≤ e
 line-under s at e ends = omega arith
-
-module _ (day : Day) (x : LineRead) where
-  pub unread : not (x .ok) ≡ true → false ≡ (x .ok) && onDay day (dateDay (x .line .date))
-  unread h = rw (not-true (x .ok) h)
-
-  pub on-day : not (x .ok) ≡ false → (t : Bool) → t ≡ onDay day (dateDay (x .line .date)) → t ≡ (x .ok) && onDay day (dateDay (x .line .date))
-  on-day good t q = q ∙ rw (not-false (x .ok) good)
 
 pub rise-on : (rose : Bool) (last next : ℕ) → rose ≡ true → ltb last next ≡ rose && ltb last next
 rise-on rose last next e = rw e
@@ -74,16 +66,16 @@ module _ (s : List ℕ) (at e : ℕ) (here : at < length s) (ends : e ≡ at + l
     rest-bad : length s ≤ e → goodLines day (splitLines s) ≡ false
     rest-bad h = passed ∙ good-rest day (drop at s) some-left (rest-left h)
 
-    module _ (x : LineRead) (read : x ≡ lineRead (take (lineEnd (drop at s)) (drop at s))) (t : Bool) (test : t ≡ (x .ok) && onDay day (dateDay (x .line .date))) where
-      first-good : e < length s → goodLines day (splitLines s) ≡ t && goodLines day (splitLines (drop (e + 2) s))
+    module _ (x : LineRead) (read : x ≡ lineReadOn day (take (lineEnd (drop at s)) (drop at s))) where
+      first-good : e < length s → goodLines day (splitLines s) ≡ (x .ok) && goodLines day (splitLines (drop (e + 2) s))
       unfolding goodLine
-      first-good h = passed ∙ good-line day (drop at s) (line-left h) ∙ rw (behind, ← read, ← test)
+      first-good h = passed ∙ good-line day (drop at s) (line-left h) ∙ rw (behind, ← on-ok day _ x read)
 
-      pub good-pass : e < length s → not t ≡ false → goodLines day (splitLines s) ≡ goodLines day (splitLines (drop (e + 2) s))
-      good-pass h g = first-good h ∙ rw (not-false t g)
+      pub good-pass : e < length s → x .ok ≡ true → goodLines day (splitLines s) ≡ goodLines day (splitLines (drop (e + 2) s))
+      good-pass h g = first-good h ∙ rw g
 
-      line-bad : e < length s → not t ≡ true → goodLines day (splitLines s) ≡ false
-      line-bad h g = first-good h ∙ rw (not-true t g)
+      line-bad : e < length s → x .ok ≡ false → goodLines day (splitLines s) ≡ false
+      line-bad h g = first-good h ∙ rw g
 
   pub rise-pass : (rose : Bool) (last : ℕ) → rising 0 (registryLines s) ≡ rose && rising last (registryLines (drop at s))
       → (x : LineRead) → x ≡ lineRead (take (lineEnd (drop at s)) (drop at s)) → e < length s
@@ -139,9 +131,9 @@ module _ (day : Day) (s : List ℕ) (n at : ℕ) (count : lineCount s ≡ n + li
       pub fault-rest : length s ≤ e → (r : ℕ) → r ≡ cond (leb (n + lineCount (drop at s)) 512) 52 53 → r ≡ registryFault day s
       fault-rest h = bad (rest-bad s at e here ends day passed h)
 
-      pub fault-line : (x : LineRead) → x ≡ lineRead (take (lineEnd (drop at s)) (drop at s)) → (t : Bool) → t ≡ (x .ok) && onDay day (dateDay (x .line .date))
-          → e < length s → not t ≡ true → (r : ℕ) → r ≡ cond (leb (n + lineCount (drop at s)) 512) 52 53 → r ≡ registryFault day s
-      fault-line x read t test h g = bad (line-bad s at e here ends day passed x read t test h g)
+      pub fault-line : (x : LineRead) → x ≡ lineReadOn day (take (lineEnd (drop at s)) (drop at s)) → e < length s → x .ok ≡ false
+          → (r : ℕ) → r ≡ cond (leb (n + lineCount (drop at s)) 512) 52 53 → r ≡ registryFault day s
+      fault-line x read h g = bad (line-bad s at e here ends day passed x read h g)
 
     pub fault-end : n ≤ 512 → (rose : Bool) (last : ℕ) → rising 0 (registryLines s) ≡ rose && rising last (registryLines (drop at s))
         → length s ≤ at → (r : ℕ) → r ≡ cond rose 0 54 → r ≡ registryFault day s

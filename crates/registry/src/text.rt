@@ -1,5 +1,4 @@
 // The text of a registry: lines ended by 0D 0A.
-use dates::date;
 use days::calendar::Day;
 use lines::line;
 use lines::line::LineRead;
@@ -9,9 +8,7 @@ ghost use mathlib.Core.Path.{_≡_};
 ghost use mathlib.Core.Bool.{_&&_, cond};
 ghost use lib.Dec.{ltb, leb, eqb};
 ghost use lib.ListN.{take, drop};
-ghost use Rattle.days.specs.Calendar.{onDay};
-ghost use Rattle.dates.specs.Date.{dateDay};
-ghost use Rattle.lines.specs.Line.{lineRead};
+ghost use Rattle.lines.specs.Line.{lineReadOn};
 ghost use Rattle.registry.specs.Registry.{lineEnd, lineCount};
 
 // How many lines a registry has at most.
@@ -42,12 +39,12 @@ pub fn end_of_line(s: &[u8], at: usize) -> usize
     s.len()
 }
 
-// The line from the cursor to its end.
-pub fn line_to(s: &[u8], at: usize, end: usize) -> LineRead
+// The line of the day from the cursor to its end.
+pub fn line_to(day: Day, s: &[u8], at: usize, end: usize) -> LineRead
     requires { ⌜ end ≡ at + lineEnd (drop at (now s)) ⌝ }
-    ensures { λ r. ⌜ r ≡ lineRead (take (lineEnd (drop at (now (s .entry)))) (drop at (now (s .entry)))) ⌝ }
+    ensures { λ r. ⌜ r ≡ lineReadOn day (take (lineEnd (drop at (now (s .entry)))) (drop at (now (s .entry)))) ⌝ }
 {
-    line::read_line(scan::first_bytes(scan::bytes_from(s, at), end - at))
+    line::read_line(day, scan::first_bytes(scan::bytes_from(s, at), end - at))
 }
 
 // How many lines a text has; an unended rest counts as one.
@@ -65,18 +62,6 @@ fn count_lines(s: &[u8]) -> usize
         at = e + 2;
     }
     n
-}
-
-// Whether a line was read, and its date is on the day.
-pub fn is_good(day: Day, read: LineRead) -> bool
-    ensures { λ r. ⌜ r ≡ (read .ok) && onDay day (dateDay (read .line .date)) ⌝ }
-{
-    if !read.ok {
-        return false;
-    }
-    let line = read.line;
-    let d = line.date;
-    date::is_on(day, d)
 }
 
 // Whether receipts that rose so far still do.

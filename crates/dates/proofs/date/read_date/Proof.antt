@@ -1,9 +1,9 @@
 use borrow.Author.Needs.{needs}
-use Rattle.dates.proofs.DateLaws.{date-size, date-field, date-bad}
+use Rattle.dates.proofs.DateLaws.{date-size, date-field}
 use Rattle.dates.proofs.date.read_date.Statement.{statement}
 use Rattle.dates.proofs.date.read_date.Tie as tie
 
-ruleset laws = (date-size, date-field, date-bad, needs)
+ruleset laws = (date-size, date-field, needs)
 
 pub read-date-spec : {M : Type 1} → statement M
 read-date-spec =
@@ -11,9 +11,7 @@ read-date-spec =
     (tie.spec
     (λ c κs. search laws)
     (λ c. search laws)
-    (λ c. search laws)
     (λ c κs. search laws)
     (λ c κs. search laws)
     (λ c κs. search laws)
-    (λ c. search laws)
     (λ c. search laws))

@@ -52,7 +52,6 @@ read-registry-spec =
     returns-2
     (λ c κs. search laws)
     (λ c κs. search laws)
-    (λ c κs. search laws)
     (λ c. search laws)
     (λ c. search laws)
     (λ c. search laws)

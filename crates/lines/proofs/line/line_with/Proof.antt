@@ -9,7 +9,7 @@ returns c =
     let d = a .before .before .before .before in
     let p = d .before .before .find-byte .ensures in
     let q = a .before .before .find-byte2 .ensures in
-    line-with _ _ _ _ _ _ _ _ _ _ _ (field-at _ _ _ (d .before .first-bytes .ensures) p) (d .read-date .ensures) (after-at _ _ _ (a .before .before .before .bytes-from .ensures) p)
+    line-with _ _ _ _ _ _ _ _ _ _ _ _ (field-at _ _ _ (d .before .first-bytes .ensures) p) (d .read-on .ensures) (after-at _ _ _ (a .before .before .before .bytes-from .ensures) p)
     (field-at _ _ _ (a .before .first-bytes2 .ensures) q) (a .read-amount .ensures) (after-at _ _ _ (c .before .before .bytes-from2 .ensures) q) (c .before .read-receipt .ensures) (c .line-of .ensures)
 
 ruleset laws = (behind-fits, needs)

@@ -1,5 +1,5 @@
 use borrow.Author.Needs.{needs}
-use Rattle.lines.proofs.LineLaws.{field-at, after-at, behind-fits, line-read}
+use Rattle.lines.proofs.LineLaws.{field-at, after-at, behind-fits, line-by, line-on}
 use Rattle.lines.proofs.line.read_line.Statement.{statement}
 use Rattle.lines.proofs.line.read_line.Tie as tie
 
@@ -9,8 +9,8 @@ returns c =
     let n = k .before .before .before .before in
     let p = n .before .before .find-byte .ensures in
     let q = k .before .before .find-byte2 .ensures in
-    line-read _ _ _ _ _ _ _ _ (field-at _ _ _ (n .before .first-bytes .ensures) p) (n .read-number .ensures) (after-at _ _ _ (k .before .before .before .bytes-from .ensures) p)
-    (field-at _ _ _ (k .before .first-bytes2 .ensures) q) (k .read-kind .ensures) (after-at _ _ _ (c .before .bytes-from2 .ensures) q) (c .line-with .ensures)
+    line-on _ _ _ (line-by _ _ _ _ _ _ _ _ _ (field-at _ _ _ (n .before .first-bytes .ensures) p) (n .read-number .ensures) (after-at _ _ _ (k .before .before .before .bytes-from .ensures) p)
+    (field-at _ _ _ (k .before .first-bytes2 .ensures) q) (k .read-kind .ensures) (after-at _ _ _ (c .before .bytes-from2 .ensures) q) (c .line-with .ensures))
 
 ruleset laws = (behind-fits, needs)
 
