@@ -14,10 +14,9 @@ use Rattle.dates.specs.declared.date.DateRead.{DateRead}
 use Rattle.texts.specs.Lists.{written}
 use Rattle.texts.specs.Digits.{digitsRead}
 use Rattle.dates.specs.Date.{isWritten, emptyDate, dateRead}
-use Rattle.dates.proofs.DateLaws.{date-again, written-parts}
+use Rattle.dates.proofs.DateLaws.{date-whole, date-again, written-parts}
 use Rattle.texts.proofs.Tests.{cond-elim, no-claim}
 use Rattle.texts.proofs.ListLaws.{drop-next}
-use Rattle.texts.proofs.OutLaws.{written-length, text-first}
 use Rattle.payments.specs.declared.Action.{Action}
 use Rattle.payments.specs.declared.Answer.{Answer}
 use Rattle.answer_reader.specs.declared.answer.AnswerRead.{AnswerRead}
@@ -88,13 +87,6 @@ date-written : (c : List ℕ) → (dateRead c) .ok ≡ true → isWritten c ≡ 
 unfolding dateRead
 date-written c = cond-elim (λ (r : DateRead). r .ok ≡ true → isWritten c ≡ true) (isWritten c) _ _ (λ h _. h) (λ _ e. no-claim e)
 
--- its copy is the date that was read
-date-copied : (c : List ℕ) → length c ≡ 19 → written emptyDate 0 c ≡ c
-date-copied c l =
-    let fit : length c ≤ length emptyDate = omega arith in
-    let all : length (written emptyDate 0 c) ≤ length c = rw (written-length emptyDate 0 c) (omega arith) in
-    sym (take-all (length c) (written emptyDate 0 c) all) ∙ text-first emptyDate c fit
-
 module _ (s : List ℕ) (dated : Bool) (from : ℕ) where
   pub date-there : dated ≡ true → (u c : List ℕ) → u ≡ drop from s → c ≡ take 19 u → (r : List ℕ) → r ≡ written emptyDate 0 c → r ≡ dateIn s dated from
   date-there h u c eu ec r q = q ∙ rw (h, ec, eu)
@@ -125,7 +117,7 @@ module _ (s : List ℕ) (x : Answer) (from size next : ℕ) where
           let w : isWritten c ≡ true = date-written c b in
           let l : length c ≡ 19 = (written-parts c w) .size in
           let z : take 19 (drop from s) ≡ c = nineteen size (drop from s) (ap length (sym e) ∙ l) ∙ sym e in
-          rw (z, date-copied c l, date-again c w)
+          rw (z, date-whole c l (written emptyDate 0 c) refl, date-again c w)
       go false b = refl
   fill-given Message c e = go (leb (length c) 512)
     where
