@@ -5,7 +5,7 @@ use native.Mathlib.Numerals.{add-one}
 use native.Mathlib.Omega.{arith}
 use mathlib.Core.Path.{_≡_, refl, sym, ap, _∙_}
 use mathlib.Core.List.{List, [], _∷_}
-use mathlib.Core.Bool.{true, false}
+use mathlib.Core.Bool.{Bool, true, false}
 use mir.Syntax.{w64}
 use mir.Val.{Fits}
 use lib.ListN.{length, getD, take, drop, length-drop, drop-of-length-le}
@@ -46,16 +46,17 @@ lengths-differ [] (y ∷ t) n = refl
 lengths-differ (x ∷ s) [] n = refl
 lengths-differ (x ∷ s) (y ∷ t) n = rw (← lengths-differ s t (λ e. n (ap suc e))) (sym (and-false (eqb x y)))
 
-module _ (a b : List ℕ) (i : ℕ) (passed : eqList a b ≡ eqList (drop i a) (drop i b)) (same : length a ≡ length b) where
-  pub pass-same : i < length a → getD a i 0 ≡ getD b i 0 → eqList a b ≡ eqList (drop (i + 1) a) (drop (i + 1) b)
+-- a loop that has passed i bytes: what is left decides t
+module _ (t : Bool) (a b : List ℕ) (i : ℕ) (passed : t ≡ eqList (drop i a) (drop i b)) (same : length a ≡ length b) where
+  pub pass-same : i < length a → getD a i 0 ≡ getD b i 0 → t ≡ eqList (drop (i + 1) a) (drop (i + 1) b)
   unfolding eqList
   pass-same h e = passed ∙ rw (drop-next a i h, drop-next b i (omega arith), eq-eqb _ _ e)
 
-  pub bytes-differ : i < length a → (getD a i 0 ≡ getD b i 0 → ⊥) → false ≡ eqList a b
+  pub bytes-differ : i < length a → (getD a i 0 ≡ getD b i 0 → ⊥) → false ≡ t
   unfolding eqList
   bytes-differ h n = sym (passed ∙ rw (drop-next a i h, drop-next b i (omega arith), ne-eqb _ _ n))
 
-  pub all-same : length a ≤ i → true ≡ eqList a b
+  pub all-same : length a ≤ i → true ≡ t
   unfolding eqList
   all-same h = let k : length b ≤ i = omega arith in sym (passed ∙ rw (drop-of-length-le a h, drop-of-length-le b k))
 

@@ -1,8 +1,9 @@
 // Searching and comparing bytes.
 ghost use mathlib.Core.Path.{_≡_};
-ghost use Prim.Native.Nat.{suc};
-ghost use lib.ListN.{take, drop};
+ghost use Prim.Native.Nat.{suc, _+_, _*_, _<_, _≤_};
+ghost use lib.ListN.{length, take, drop};
 ghost use Rattle.texts.specs.Lists.{find, eqList};
+ghost use Rattle.texts.specs.Words.{wordAt, wholeWords};
 
 // The index of the first b in s, or its length where there is none.
 pub fn find_byte(s: &[u8], b: u8) -> usize
@@ -18,14 +19,53 @@ pub fn find_byte(s: &[u8], b: u8) -> usize
     i
 }
 
-// Whether two slices hold the same bytes.
-pub fn same_bytes(a: &[u8], b: &[u8]) -> bool
-    ensures { λ r. ⌜ r ≡ eqList (now (a .entry)) (now (b .entry)) ⌝ }
+// Two bytes as a number, the first the lower.
+fn pair(low: u8, high: u8) -> u64
+    ensures { λ r. ⌜ (r ≡ low + 256 * high) × (r < 65536) ⌝ }
 {
-    if a.len() != b.len() {
-        return false;
-    }
+    low as u64 + 256 * (high as u64)
+}
+
+// Two pairs as a number, the first the lower.
+fn two_pairs(low: u64, high: u64) -> u64
+    requires { ⌜ low < 65536 ⌝ }
+    requires { ⌜ high < 65536 ⌝ }
+    ensures { λ r. ⌜ (r ≡ low + 65536 * high) × (r < 4294967296) ⌝ }
+{
+    low + 65536 * high
+}
+
+// Eight bytes from a place on as one word, the first the lowest. The compiler loads them together.
+fn word_at(s: &[u8], i: usize) -> u64
+    requires { ⌜ i + 8 ≤ length (now s) ⌝ }
+    ensures { λ r. ⌜ r ≡ wordAt (now (s .entry)) i ⌝ }
+{
+    let low = two_pairs(pair(s[i], s[i + 1]), pair(s[i + 2], s[i + 3]));
+    let high = two_pairs(pair(s[i + 4], s[i + 5]), pair(s[i + 6], s[i + 7]));
+    low + 4294967296 * high
+}
+
+// Whether the whole words of two slices of one length agree.
+fn words_same(a: &[u8], b: &[u8]) -> bool
+    requires { ⌜ length (now a) ≡ length (now b) ⌝ }
+    ensures { λ r. ⌜ r ≡ eqList (wholeWords (now (a .entry))) (wholeWords (now (b .entry))) ⌝ }
+{
     let mut i: usize = 0;
+    while i + 8 <= a.len() {
+        if word_at(a, i) != word_at(b, i) {
+            return false;
+        }
+        i += 8;
+    }
+    true
+}
+
+// Whether two slices of one length agree from a place on.
+fn rest_same(a: &[u8], b: &[u8], from: usize) -> bool
+    requires { ⌜ length (now a) ≡ length (now b) ⌝ }
+    ensures { λ r. ⌜ r ≡ eqList (drop from (now (a .entry))) (drop from (now (b .entry))) ⌝ }
+{
+    let mut i = from;
     while i < a.len() {
         if a[i] != b[i] {
             return false;
@@ -33,6 +73,20 @@ pub fn same_bytes(a: &[u8], b: &[u8]) -> bool
         i += 1;
     }
     true
+}
+
+// Whether two slices hold the same bytes: eight at a time, and the tail singly.
+pub fn same_bytes(a: &[u8], b: &[u8]) -> bool
+    ensures { λ r. ⌜ r ≡ eqList (now (a .entry)) (now (b .entry)) ⌝ }
+{
+    if a.len() != b.len() {
+        return false;
+    }
+    if words_same(a, b) {
+        rest_same(a, b, a.len() / 8 * 8)
+    } else {
+        false
+    }
 }
 
 // The first n bytes, or all where there are fewer.
