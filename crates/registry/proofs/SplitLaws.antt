@@ -1,14 +1,17 @@
 -- Laws of the lines of a text: where the first ends, what it is, and what is left.
-use Prim.Native.Nat.{ℕ, suc, _+_, _-_, _≤_, _<_}
-use native.Mathlib.Nat.{le-refl, suc-add, not-suc-le-zero}
+use Prim.Native.Nat.{ℕ, zero, suc, _+_, _-_, _≤_, _<_}
+use native.Mathlib.Nat.{le-refl, zero-add, suc-add, not-suc-le-zero}
 use native.Mathlib.Omega.{arith}
 use mathlib.Core.Path.{_≡_, refl, sym, ap, _∙_}
 use mathlib.Core.List.{List, [], _∷_}
 use mathlib.Core.Bool.{Bool, true, false, cond, _&&_}
 use lib.Dec.{eqb}
-use lib.ListN.{length, getD, take, drop, drop-of-length-le}
+use lib.ListN.{length, getD, take, drop, length-drop, drop-of-length-le}
+use lib.Seq.{drop-drop}
 use borrow.Author.Tests.{eq-eqb, ne-eqb}
+use Rattle.texts.specs.Lists.{find}
 use Rattle.texts.proofs.ListLaws.{drop-next}
+use Rattle.texts.proofs.ScanLaws.{find-le}
 use Rattle.lines.specs.Line.{lineRead}
 use Rattle.registry.specs.Registry.{lineEnd, onto, splitLines, countOf, lineCount, goodLine, goodLines, heldLines}
 use Rattle.days.specs.declared.calendar.Day.{Day}
@@ -41,6 +44,32 @@ line-end-le (b ∷ (c ∷ s)) = go (eqb b 13 && eqb c 10) (line-end-le (c ∷ s)
     go : (t : Bool) → lineEnd (c ∷ s) ≤ suc (length s) → cond t 0 (suc (lineEnd (c ∷ s))) ≤ suc (suc (length s))
     go true h = omega arith
     go false h = omega arith
+
+-- a byte alone ends no line
+end-short : (t : List ℕ) → length t ≤ 1 → lineEnd t ≡ length t
+unfolding lineEnd
+end-short [] h = refl
+end-short (b ∷ []) h = refl
+end-short (b ∷ (c ∷ s)) h = absurd (omega arith)
+
+-- bytes of which none is 0D belong to the line
+end-other-first : (b : ℕ) (t : List ℕ) → eqb b 13 ≡ false → lineEnd (b ∷ t) ≡ suc (lineEnd t)
+unfolding lineEnd
+end-other-first b [] e = refl
+end-other-first b (c ∷ t) e = rw e
+
+end-far : (k : ℕ) (t : List ℕ) → find 13 t ≡ k + find 13 (drop k t) → lineEnd t ≡ k + lineEnd (drop k t)
+unfolding find
+end-far zero t h = sym (zero-add (lineEnd t))
+end-far (suc k) [] h = absurd (omega arith)
+end-far (suc k) (b ∷ t) h = go (eqb b 13) refl (end-far k t) h
+  where
+    go : (u : Bool) → eqb b 13 ≡ u → (find 13 t ≡ k + find 13 (drop k t) → lineEnd t ≡ k + lineEnd (drop k t))
+        → cond u 0 (suc (find 13 t)) ≡ suc k + find 13 (drop k t) → lineEnd (b ∷ t) ≡ suc k + lineEnd (drop k t)
+    go true e ih h = absurd (omega arith)
+    go false e ih h =
+        let g : find 13 t ≡ k + find 13 (drop k t) = omega arith in
+        omega (arith, end-other-first b t e, ih g)
 
 -- an ended line has its two end bytes
 pub end-room : (t : List ℕ) → lineEnd t < length t → lineEnd t + 2 ≤ length t
@@ -147,6 +176,22 @@ module _ (s : List ℕ) (at : ℕ) where
   unfolding lineEnd
   end-past h = rw (drop-of-length-le s h) (omega arith)
 
+  -- the first 0D from i on is the first from `at` on
+  module _ (i : ℕ) (same : at + find 13 (drop at s) ≡ i + find 13 (drop i s)) where
+    pub far-inside : at < length s → i ≤ length s
+    far-inside h =
+        let l : find 13 (drop at s) ≤ length s - at = rw (← length-drop at s) (find-le 13 (drop at s)) in
+        omega arith
+
+    pub far-end : at ≤ i → at + lineEnd (drop at s) ≡ i + lineEnd (drop i s)
+    far-end h =
+        let k = i - at in
+        let n : at + k ≡ i = omega arith in
+        let d : drop k (drop at s) ≡ drop i s = drop-drop k at s ∙ rw n in
+        let f : find 13 (drop at s) ≡ k + find 13 (drop k (drop at s)) = rw d (omega arith) in
+        let e : lineEnd (drop at s) ≡ k + lineEnd (drop i s) = rw (← d) (end-far k (drop at s) f) in
+        omega arith
+
   module _ (i : ℕ) (passed : at + lineEnd (drop at s) ≡ i + lineEnd (drop i s)) where
     module _ (h : i < length s - 1) (t : Bool) (test : t ≡ eqb (getD s i 0) 13 && eqb (getD s (i + 1) 0) 10) where
       two-more : drop i s ≡ getD s i 0 ∷ (getD s (i + 1) 0 ∷ drop (i + 1 + 1) s)
@@ -163,9 +208,5 @@ module _ (s : List ℕ) (at : ℕ) where
           rw (two-more, drop-next s (i + 1) (omega arith)) (goes-on (getD s i 0) (getD s (i + 1) 0) (drop (i + 1 + 1) s) (sym test ∙ e)) in
           omega arith
 
-    pub end-last : i < length s → length s - 1 ≤ i → length s ≡ at + lineEnd (drop at s)
-    unfolding lineEnd
-    end-last h g =
-        let l : length s ≤ i + 1 = omega arith in
-        let z : lineEnd (drop i s) ≡ 1 = rw (drop-next s i h, drop-of-length-le s l) in
-        omega arith
+    pub end-last : i ≤ length s → length s - 1 ≤ i → length s ≡ at + lineEnd (drop at s)
+    end-last h g = omega (arith, passed, end-short (drop i s) (rw length-drop (omega arith)), length-drop i s)

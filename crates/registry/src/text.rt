@@ -29,7 +29,7 @@ pub fn end_of_line(s: &[u8], at: usize) -> usize
         return at;
     }
     let last = s.len() - 1;
-    let mut i = at;
+    let mut i = scan::pass_others(s, at, b'\r');
     while i < last {
         if is_end(s[i], s[i + 1]) {
             return i;

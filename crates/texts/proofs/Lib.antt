@@ -4,5 +4,6 @@ pub mod OutLaws
 pub mod ScanLaws
 pub mod WordLaws
 pub mod FindLaws
+pub mod PassLaws
 pub mod DigitLaws
 pub mod DecimalLaws

@@ -1,6 +1,8 @@
 // Searching and comparing bytes.
 ghost use mathlib.Core.Path.{_≡_};
 ghost use Prim.Native.Nat.{suc, _+_, _*_, _<_, _≤_};
+ghost use mathlib.Core.Bool.{cond};
+ghost use lib.Dec.{eqb};
 ghost use lib.ListN.{length, take, drop};
 ghost use Rattle.texts.specs.Lists.{find, eqList};
 ghost use Rattle.texts.specs.Words.{wordAt, wholeWords};
@@ -115,4 +117,44 @@ pub fn after_byte(s: &[u8], b: u8) -> &[u8]
     ensures { λ r. ⌜ now r ≡ drop (suc (find b (now (s .entry)))) (now (s .entry)) ⌝ }
 {
     bytes_from(s, find_byte(s, b) + 1)
+}
+
+// Whether a byte is b, as a number.
+fn hit(c: u8, b: u8) -> u32
+    ensures { λ r. ⌜ r ≡ cond (eqb c b) 1 0 ⌝ }
+{
+    if c == b { 1 } else { 0 }
+}
+
+// Whether none of the sixteen bytes from i on is b. None of them decides alone, so that the compiler takes them together.
+fn none_near(s: &[u8], i: usize, b: u8) -> bool
+    requires { ⌜ i + 16 ≤ length (now s) ⌝ }
+    ensures { λ r. ⌜ r ≡ eqb (find b (take 16 (drop i (now (s .entry))))) 16 ⌝ }
+{
+    let mut hits: u32 = 0;
+    let mut j: usize = 0;
+    while j < 16 {
+        hits += hit(s[i + j], b);
+        j += 1;
+    }
+    hits == 0
+}
+
+// A place from which the first b is the same as from `at`, found by sixteen bytes at a time.
+pub fn pass_others(s: &[u8], at: usize, b: u8) -> usize
+    ensures { λ r. ⌜ (at ≤ r) × (at + find b (drop at (now (s .entry))) ≡ r + find b (drop r (now (s .entry)))) ⌝ }
+{
+    if s.len() < 16 {
+        return at;
+    }
+    let last = s.len() - 16;
+    let mut i = at;
+    while i <= last {
+        if none_near(s, i, b) {
+            i += 16;
+        } else {
+            return i;
+        }
+    }
+    i
 }
