@@ -7,14 +7,13 @@ use mathlib.Core.Bool.{Bool, true, false, cond, not}
 use lib.Dec.{leb}
 use lib.ListN.{length, take, drop, drop-of-length-le}
 use lib.Seq.{drop-drop, take-all, length-take-le}
-use borrow.Author.Tests.{le-leb, lt-leb, leb-true, leb-false, not-true, not-false}
+use borrow.Author.Tests.{le-leb, lt-leb, eq-eqb, ne-eqb, leb-true, leb-false, not-true, not-false}
 use Rattle.texts.specs.declared.digits.Digits.{Digits}
 use Rattle.texts.specs.declared.digits.Digits.the-variants.{Value, Malformed}
 use Rattle.dates.specs.declared.date.DateRead.{DateRead}
-use Rattle.texts.specs.Lists.{written}
 use Rattle.texts.specs.Digits.{digitsRead}
 use Rattle.dates.specs.Date.{isWritten, emptyDate, dateRead}
-use Rattle.dates.proofs.DateLaws.{date-whole, date-again, written-parts}
+use Rattle.dates.proofs.DateLaws.{date-again, written-parts}
 use Rattle.texts.proofs.Tests.{cond-elim, no-claim}
 use Rattle.texts.proofs.ListLaws.{drop-next}
 use Rattle.payments.specs.declared.Action.{Action}
@@ -29,7 +28,7 @@ use Rattle.answer_reader.specs.declared.parts.Part.{Part}
 use Rattle.answer_reader.specs.declared.parts.Part.the-variants.{Code, Authcode, Date, Message}
 use Rattle.answers.specs.Answer.{xmlLine, responseTag, codeTag, authcodeTag, dateTag, messageTag, opening, closing}
 use Rattle.answer_reader.specs.AnswerRead.{starts, skipBlanks, elementAt, nameOf, takesMore, mayStand, mayLackDate, mayLack, emptyAnswer, withCode, withAuthcode, withDate, unreadable, good, numberHeld, filled, Unreadable, SoFar, readOn, tagStep, partStep, openStep, partsStep, endStep, answerRead}
-use Rattle.answer_reader.specs.AnswerParts.{foundOf, noStep, absentStep, numberStep, dateStep, messageStep, filledStep, dateIn, heldBy, given, Unheld, Takes, placed, Passes, noParts, codeAlone, answerOf, moreStep, partsOf}
+use Rattle.answer_reader.specs.AnswerParts.{foundOf, noStep, absentStep, numberStep, dateStep, messageStep, filledStep, nineteenOf, dateIn, heldBy, given, Unheld, Takes, placed, Passes, noParts, codeAlone, answerWith, answerOf, wholeOf, moreStep, partsOf}
 
 pub none-read : (x : Answer) → x ≡ emptyAnswer → record { ok = false; answer = x } ≡ unreadable
 none-read x none = rw none
@@ -87,17 +86,6 @@ date-written : (c : List ℕ) → (dateRead c) .ok ≡ true → isWritten c ≡ 
 unfolding dateRead
 date-written c = cond-elim (λ (r : DateRead). r .ok ≡ true → isWritten c ≡ true) (isWritten c) _ _ (λ h _. h) (λ _ e. no-claim e)
 
-module _ (s : List ℕ) (dated : Bool) (from : ℕ) where
-  pub date-there : dated ≡ true → (u c : List ℕ) → u ≡ drop from s → c ≡ take 19 u → (r : List ℕ) → r ≡ written emptyDate 0 c → r ≡ dateIn s dated from
-  date-there h u c eu ec r q = q ∙ rw (h, ec, eu)
-
-  pub date-none : (r : List ℕ) → r ≡ emptyDate → dated ≡ false → r ≡ dateIn s dated from
-  date-none r q h = q ∙ rw h
-
-pub answer-parts : (s : List ℕ) (p : Parts) (d : List ℕ) → d ≡ dateIn s (p .dated) (p .from) → (r : Answer)
-    → r ≡ record { code = p .code; authorized = p .authorized; authcode = p .authcode; dated = p .dated; date = d } → r ≡ answerOf s p
-answer-parts s p d e r q = q ∙ rw e
-
 -- ---- what was filled in is what the definition fills in
 module _ (s : List ℕ) (x : Answer) (from size next : ℕ) where
   number-given : (k : Part) (f : ℕ → Answer) → ((r : Step) → heldBy k s x r ≡ f (r .value)) → (d : Digits)
@@ -117,7 +105,7 @@ module _ (s : List ℕ) (x : Answer) (from size next : ℕ) where
           let w : isWritten c ≡ true = date-written c b in
           let l : length c ≡ 19 = (written-parts c w) .size in
           let z : take 19 (drop from s) ≡ c = nineteen size (drop from s) (ap length (sym e) ∙ l) ∙ sym e in
-          rw (z, date-whole c l (written emptyDate 0 c) refl, date-again c w)
+          rw (z, eq-eqb (length c) 19 l, date-again c w)
       go false b = refl
   fill-given Message c e = go (leb (length c) 512)
     where
@@ -305,32 +293,54 @@ module _ (s : List ℕ) (p : Place) (passes : Passes s 0 xmlLine p) where
       let e : placed s emptyAnswer p ≡ SoFar emptyAnswer (drop (p .at) s) = unfold placed in rw (not-false (p .ok) h) in
       next emptyAnswer ∙ ap (tagStep (opening responseTag)) (sym e ∙ passes emptyAnswer)
 
-module _ (a : Action) (s : List ℕ) (o : Place) (eo : placed s emptyAnswer o ≡ openStep s) (r : AnswerRead) where
-  pub not-open : not (o .ok) ≡ true → r ≡ unreadable → r ≡ answerRead a s
+module _ (a : Action) (s : List ℕ) (o : Place) (eo : placed s emptyAnswer o ≡ openStep s) (r : Parts) where
+  pub not-open : not (o .ok) ≡ true → r ≡ noParts → wholeOf s r ≡ answerRead a s
   unfolding answerRead
   not-open h q =
       let e : openStep s ≡ Unreadable = sym eo ∙ unfold placed in rw (not-true (o .ok) h) in
-      q ∙ rw e (unfold partsStep partStep tagStep endStep in refl)
+      ap (wholeOf s) q ∙ rw e (unfold partsStep partStep tagStep endStep in refl)
 
   module _ (fine : not (o .ok) ≡ false) (p : Parts) (ep : partsOf s p ≡ partsStep a (SoFar emptyAnswer (drop (o .at) s))) where
     opened : openStep s ≡ SoFar emptyAnswer (drop (o .at) s)
     opened = sym eo ∙ unfold placed in rw (not-false (o .ok) fine)
 
-    pub not-parts : not (p .ok) ≡ true → r ≡ unreadable → r ≡ answerRead a s
+    pub not-parts : not (p .ok) ≡ true → r ≡ noParts → wholeOf s r ≡ answerRead a s
     unfolding answerRead
-    not-parts h q = q ∙ rw (opened, ← ep, parts-stop s p h) (unfold tagStep endStep in refl)
+    not-parts h q = ap (wholeOf s) q ∙ rw (opened, ← ep, parts-stop s p h) (unfold tagStep endStep in refl)
 
     module _ (fine₁ : not (p .ok) ≡ false) (e : Place) (passes : Passes s (p .at) (closing responseTag) e) where
       closed : answerRead a s ≡ endStep (placed s (answerOf s p) e)
       unfolding answerRead
       closed = rw (opened, ← ep, parts-go s p fine₁, passes (answerOf s p))
 
-      pub not-closed : not (e .ok) ≡ true → r ≡ unreadable → r ≡ answerRead a s
-      not-closed h q = q ∙ sym (closed ∙ unfold placed endStep in rw (not-true (e .ok) h))
+      pub not-closed : not (e .ok) ≡ true → r ≡ noParts → wholeOf s r ≡ answerRead a s
+      not-closed h q = ap (wholeOf s) q ∙ sym (closed ∙ unfold placed endStep in rw (not-true (e .ok) h))
 
       module _ (fine₂ : not (e .ok) ≡ false) where
-        pub not-ended : e .at < length s → r ≡ unreadable → r ≡ answerRead a s
-        not-ended h q = q ∙ sym (closed ∙ unfold placed endStep in rw (not-false (e .ok) fine₂, drop-next s (e .at) h))
+        pub not-ended : e .at < length s → r ≡ noParts → wholeOf s r ≡ answerRead a s
+        not-ended h q = ap (wholeOf s) q ∙ sym (closed ∙ unfold placed endStep in rw (not-false (e .ok) fine₂, drop-next s (e .at) h))
 
-        pub answered : length s ≤ e .at → (x : Answer) → x ≡ answerOf s p → r ≡ good x → r ≡ answerRead a s
-        answered h x ex q = q ∙ sym (closed ∙ unfold placed endStep in rw (not-false (e .ok) fine₂, drop-of-length-le s h, ex))
+        pub answered : length s ≤ e .at → r ≡ p → wholeOf s r ≡ answerRead a s
+        answered h q = ap (wholeOf s) q ∙ rw (not-false (p .ok) fine₁) (sym (closed ∙ unfold placed endStep in rw (not-false (e .ok) fine₂, drop-of-length-le s h)))
+
+-- ---- the answer that is made of the elements
+module _ (a : Action) (s : List ℕ) (p : Parts) (ep : wholeOf s p ≡ answerRead a s) (r : AnswerRead) where
+  pub no-answer : not (p .ok) ≡ true → r ≡ unreadable → r ≡ answerRead a s
+  no-answer h q = q ∙ rw (not-true (p .ok) h) at ep
+
+  module _ (fine : not (p .ok) ≡ false) where
+    with-date : (d : List ℕ) → d ≡ dateIn s (p .dated) (p .from) → r ≡ good (answerWith p d) → r ≡ answerRead a s
+    with-date d e q = q ∙ ap (λ (x : List ℕ). good (answerWith p x)) e ∙ rw (not-false (p .ok) fine) at ep
+
+    pub date-none : not (p .dated) ≡ true → r ≡ good (answerWith p emptyDate) → r ≡ answerRead a s
+    date-none h = with-date emptyDate (rw (not-true (p .dated) h))
+
+    module _ (h : not (p .dated) ≡ false) (u c : List ℕ) (eu : u ≡ drop (p .from) s) (ec : c ≡ take 19 u) where
+      cut : nineteenOf c ≡ dateIn s (p .dated) (p .from)
+      cut = rw (not-false (p .dated) h, ec, eu)
+
+      pub date-short : (length c ≡ 19 → ⊥) → r ≡ good (answerWith p emptyDate) → r ≡ answerRead a s
+      date-short n = with-date emptyDate (rw (← cut, ne-eqb _ _ n))
+
+      pub date-there : length c ≡ 19 → (d : List ℕ) → d ≡ c → r ≡ good (answerWith p d) → r ≡ answerRead a s
+      date-there l d e = with-date d (e ∙ rw (← cut, eq-eqb _ _ l))

@@ -3,11 +3,10 @@ use Prim.Native.Nat.{ℕ}
 use mathlib.Core.Path.{_≡_}
 use mathlib.Core.List.{List}
 use mathlib.Core.Bool.{Bool, true, false, cond}
-use lib.Dec.{leb}
+use lib.Dec.{leb, eqb}
 use lib.ListN.{length, take, drop}
 use Rattle.texts.specs.declared.digits.Digits.{Digits}
 use Rattle.texts.specs.declared.digits.Digits.the-variants.{Value, Malformed}
-use Rattle.texts.specs.Lists.{written}
 use Rattle.texts.specs.Digits.{digitsRead}
 use Rattle.dates.specs.Date.{emptyDate, dateRead}
 use Rattle.payments.specs.declared.Action.{Action}
@@ -19,7 +18,8 @@ use Rattle.answer_reader.specs.declared.parts.Part.the-variants.{Code, A
 use Rattle.answer_reader.specs.declared.parts.Step.{Step}
 use Rattle.answer_reader.specs.declared.tags.Element.{Element}
 use Rattle.answer_reader.specs.declared.tags.Element.the-variants.{Absent, Broken, Held}
-use Rattle.answer_reader.specs.AnswerRead.{Found, NoTag, Unclosed, Content, Reading, Unreadable, SoFar, withCode, withAuthcode, withDate, tagStep, partFound, partStep}
+use Rattle.answer_reader.specs.declared.answer.AnswerRead.{AnswerRead}
+use Rattle.answer_reader.specs.AnswerRead.{Found, NoTag, Unclosed, Content, withCode, withAuthcode, withDate, unreadable, good, Reading, Unreadable, SoFar, tagStep, partFound, partStep}
 
 -- an element by its places in the text s
 abbrev pub foundOf : List ℕ → Element → Found
@@ -51,8 +51,11 @@ filledStep Date c from at = dateStep ((dateRead c) .ok) from at
 filledStep Message c from at = messageStep (length c) at
 
 -- the nineteen bytes that begin at a place
+abbrev pub nineteenOf : List ℕ → List ℕ
+nineteenOf c = cond (eqb (length c) 19) c emptyDate
+
 abbrev pub dateIn : List ℕ → Bool → ℕ → List ℕ
-dateIn s dated from = cond dated (written emptyDate 0 (take 19 (drop from s))) emptyDate
+dateIn s dated from = cond dated (nineteenOf (take 19 (drop from s))) emptyDate
 
 -- the answer x with what an element gives, and the reading
 abbrev pub heldBy : Part → List ℕ → Answer → Step → Answer
@@ -85,9 +88,15 @@ noParts = record { ok = false; code = 0; authorized = false; authcode = 0; dated
 abbrev pub codeAlone : ℕ → ℕ → Parts
 codeAlone code at = record { ok = true; code = code; authorized = false; authcode = 0; dated = false; from = 0; at = at }
 
+abbrev pub answerWith : Parts → List ℕ → Answer
+answerWith p date = record { code = p .code; authorized = p .authorized; authcode = p .authcode; dated = p .dated; date = date }
+
 abbrev pub answerOf : List ℕ → Parts → Answer
-answerOf s p =
-    record { code = p .code; authorized = p .authorized; authcode = p .authcode; dated = p .dated; date = dateIn s (p .dated) (p .from) }
+answerOf s p = answerWith p (dateIn s (p .dated) (p .from))
+
+-- what is read of them
+abbrev pub wholeOf : List ℕ → Parts → AnswerRead
+wholeOf s p = cond (p .ok) (good (answerOf s p)) unreadable
 
 unfoldable pub partsOf : List ℕ → Parts → Reading
 partsOf s p = cond (p .ok) (SoFar (answerOf s p) (drop (p .at) s)) Unreadable

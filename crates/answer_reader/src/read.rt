@@ -6,14 +6,14 @@ use crate::parts::Part;
 use crate::parts::Step;
 use crate::tags;
 use crate::tags::Element;
+use dates::date;
 use payments::Action;
 use payments::Answer;
-use texts::out;
 use texts::scan;
 ghost use mathlib.Core.Path.{_≡_};
 ghost use lib.ListN.{drop};
-ghost use Rattle.answer_reader.specs.AnswerRead.{emptyAnswer, withCode, SoFar, openStep, partsStep, answerRead};
-ghost use Rattle.answer_reader.specs.AnswerParts.{Passes, Takes, Unheld, placed, noParts, codeAlone, moreStep, partsOf, dateIn, answerOf};
+ghost use Rattle.answer_reader.specs.AnswerRead.{emptyAnswer, withCode, good, SoFar, openStep, partsStep, answerRead};
+ghost use Rattle.answer_reader.specs.AnswerParts.{Passes, Takes, Unheld, placed, noParts, codeAlone, moreStep, partsOf, answerWith, wholeOf};
 
 // Where the text goes on behind a tag; `ok` false where it does not stand.
 struct Place {
@@ -148,52 +148,58 @@ fn read_parts(a: Action, s: &[u8], at: usize) -> Parts
     p
 }
 
-// The date that begins at a place of the text, none where the answer has none: it was judged where it was read.
-fn date_in(s: &[u8], dated: bool, from: usize) -> [u8; 19]
-    ensures { λ r. ⌜ r ≡ dateIn (now (s .entry)) dated from ⌝ }
+// The answer of the elements, with these bytes as its date.
+fn answer_with(p: Parts, date: [u8; 19]) -> AnswerRead
+    ensures { λ r. ⌜ r ≡ good (answerWith p date) ⌝ }
 {
-    if dated {
-        let mut d = [0u8; 19];
-        out::put_bytes(scan::first_bytes(tags::rest(s, from), 19), &mut d, 0);
-        d
-    } else {
-        [0u8; 19]
+    AnswerRead {
+        ok: true,
+        answer: Answer {
+            code: p.code,
+            authorized: p.authorized,
+            authcode: p.authcode,
+            dated: p.dated,
+            date,
+        },
     }
 }
 
-// The answer of the elements.
-fn answer_of(s: &[u8], p: Parts) -> Answer
-    ensures { λ r. ⌜ r ≡ answerOf (now (s .entry)) p ⌝ }
-{
-    let date = date_in(s, p.dated, p.from);
-    Answer {
-        code: p.code,
-        authorized: p.authorized,
-        authcode: p.authcode,
-        dated: p.dated,
-        date,
-    }
-}
-
-// An answer to an action, from its bytes.
-pub fn read_answer(a: Action, s: &[u8]) -> AnswerRead
-    ensures { λ r. ⌜ r ≡ answerRead a (now (s .entry)) ⌝ }
+// The elements of a whole response: opened, closed, and nothing behind it.
+fn whole_parts(a: Action, s: &[u8]) -> Parts
+    ensures { λ r. ⌜ wholeOf (now (s .entry)) r ≡ answerRead a (now (s .entry)) ⌝ }
 {
     let opened = open_at(s);
     if !opened.ok {
-        return answer::unreadable();
+        return no_parts();
     }
     let p = read_parts(a, s, opened.at);
     if !p.ok {
-        return answer::unreadable();
+        return no_parts();
     }
     let closed = tag_at(s, p.at, b"</response>");
     if !closed.ok {
-        return answer::unreadable();
+        return no_parts();
     }
     if closed.at < s.len() {
+        return no_parts();
+    }
+    p
+}
+
+// An answer to an action, from its bytes. Its date was judged where it was read; each way out makes an answer of its own, so that no date is copied twice.
+pub fn read_answer(a: Action, s: &[u8]) -> AnswerRead
+    ensures { λ r. ⌜ r ≡ answerRead a (now (s .entry)) ⌝ }
+{
+    let p = whole_parts(a, s);
+    if !p.ok {
         return answer::unreadable();
     }
-    let answer = answer_of(s, p);
-    AnswerRead { ok: true, answer }
+    if !p.dated {
+        return answer_with(p, [0u8; 19]);
+    }
+    let d = scan::first_bytes(tags::rest(s, p.from), 19);
+    if d.len() != 19 {
+        return answer_with(p, [0u8; 19]);
+    }
+    answer_with(p, date::nineteen(d))
 }

@@ -1,9 +1,9 @@
 use borrow.Author.Needs.{needs}
-use Rattle.answer_reader.proofs.AnswerPartLaws.{not-open, not-parts, not-closed, not-ended, answered}
+use Rattle.answer_reader.proofs.AnswerPartLaws.{no-answer, date-none, date-short, date-there}
 use Rattle.answer_reader.proofs.read.read_answer.Statement.{statement}
 use Rattle.answer_reader.proofs.read.read_answer.Tie as tie
 
-ruleset laws = (not-open, not-parts, not-closed, not-ended, answered, needs)
+ruleset laws = (no-answer, date-none, date-short, date-there, needs)
 
 pub read-answer-spec : {M : Type 1} → statement M
 read-answer-spec =
@@ -13,13 +13,11 @@ read-answer-spec =
     (λ c κs. search laws)
     (λ c. search laws)
     (λ c κs. search laws)
-    (λ c κs. search laws)
-    (λ c. search laws)
     (λ c. search laws)
     (λ c κs. search laws)
     (λ c κs. search laws)
-    (λ c. search laws)
     (λ c κs. search laws)
     (λ c. search laws)
+    (λ c κs. search laws)
     (λ c κs. search laws)
     (λ c. search laws))
