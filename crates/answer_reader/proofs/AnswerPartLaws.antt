@@ -28,7 +28,7 @@ use Rattle.answer_reader.specs.declared.parts.Part.{Part}
 use Rattle.answer_reader.specs.declared.parts.Part.the-variants.{Code, Authcode, Date, Message}
 use Rattle.answers.specs.Answer.{xmlLine, responseTag, codeTag, authcodeTag, dateTag, messageTag, opening, closing}
 use Rattle.answer_reader.specs.AnswerRead.{starts, skipBlanks, elementAt, nameOf, takesMore, mayStand, mayLackDate, mayLack, emptyAnswer, withCode, withAuthcode, withDate, unreadable, good, numberHeld, filled, Unreadable, SoFar, readOn, tagStep, partStep, openStep, partsStep, endStep, answerRead}
-use Rattle.answer_reader.specs.AnswerParts.{foundOf, noStep, absentStep, numberStep, dateStep, messageStep, filledStep, nineteenOf, dateIn, heldBy, given, Unheld, Takes, placed, Passes, noParts, codeAlone, answerWith, answerOf, wholeOf, moreStep, partsOf}
+use Rattle.answer_reader.specs.AnswerParts.{foundOf, noStep, absentStep, numberStep, dateStep, messageStep, filledStep, nineteenOf, dateIn, heldBy, given, Unheld, Takes, placed, Passes, noParts, codeAlone, answerWith, answerOf, wholeOf, undated, moreStep, partsOf}
 
 pub none-read : (x : Answer) → x ≡ emptyAnswer → record { ok = false; answer = x } ≡ unreadable
 none-read x none = rw none
@@ -344,3 +344,10 @@ module _ (a : Action) (s : List ℕ) (p : Parts) (ep : wholeOf s p ≡ answerRea
 
       pub date-there : length c ≡ 19 → (d : List ℕ) → d ≡ c → r ≡ good (answerWith p d) → r ≡ answerRead a s
       date-there l d e = with-date d (e ∙ rw (← cut, eq-eqb _ _ l))
+
+  -- without the date's bytes
+  pub undated-none : not (p .ok) ≡ true → r ≡ unreadable → r ≡ undated (answerRead a s)
+  undated-none h q = let w : unreadable ≡ answerRead a s = rw (not-true (p .ok) h) at ep in q ∙ ap undated w
+
+  pub undated-made : not (p .ok) ≡ false → r ≡ good (answerWith p emptyDate) → r ≡ undated (answerRead a s)
+  undated-made h q = let w : good (answerOf s p) ≡ answerRead a s = rw (not-false (p .ok) h) at ep in q ∙ ap undated w

@@ -94,6 +94,12 @@ answerWith p date = record { code = p .code; authorized = p .authorized; authcod
 abbrev pub answerOf : List ℕ → Parts → Answer
 answerOf s p = answerWith p (dateIn s (p .dated) (p .from))
 
+-- an answer without the bytes of its date
+abbrev pub undated : AnswerRead → AnswerRead
+undated x =
+    let y = x .answer in
+    record { ok = x .ok; answer = record { code = y .code; authorized = y .authorized; authcode = y .authcode; dated = y .dated; date = emptyDate } }
+
 -- what is read of them
 abbrev pub wholeOf : List ℕ → Parts → AnswerRead
 wholeOf s p = cond (p .ok) (good (answerOf s p)) unreadable

@@ -13,7 +13,7 @@ use texts::scan;
 ghost use mathlib.Core.Path.{_≡_};
 ghost use lib.ListN.{drop};
 ghost use Rattle.answer_reader.specs.AnswerRead.{emptyAnswer, withCode, good, SoFar, openStep, partsStep, answerRead};
-ghost use Rattle.answer_reader.specs.AnswerParts.{Passes, Takes, Unheld, placed, noParts, codeAlone, moreStep, partsOf, answerWith, wholeOf};
+ghost use Rattle.answer_reader.specs.AnswerParts.{Passes, Takes, Unheld, placed, noParts, codeAlone, moreStep, partsOf, answerWith, wholeOf, undated};
 
 // Where the text goes on behind a tag; `ok` false where it does not stand.
 struct Place {
@@ -202,4 +202,15 @@ pub fn read_answer(a: Action, s: &[u8]) -> AnswerRead
         return answer_with(p, [0u8; 19]);
     }
     answer_with(p, date::nineteen(d))
+}
+
+// The same without the bytes of its date, for those who have no use for them.
+pub fn read_undated(a: Action, s: &[u8]) -> AnswerRead
+    ensures { λ r. ⌜ r ≡ undated (answerRead a (now (s .entry))) ⌝ }
+{
+    let p = whole_parts(a, s);
+    if !p.ok {
+        return answer::unreadable();
+    }
+    answer_with(p, [0u8; 19])
 }

@@ -1,6 +1,6 @@
 -- Laws of an answer that the agent takes: the entry that it leaves, and the ways out of the call.
 use Prim.Native.Nat.{ℕ, _<_}
-use mathlib.Core.Path.{_≡_, ap, _∙_}
+use mathlib.Core.Path.{_≡_, sym, ap, _∙_}
 use mathlib.Core.Bool.{Bool, true, false, not}
 use mathlib.Core.List.{List}
 use borrow.Author.Tests.{not-true, not-false}
@@ -10,6 +10,7 @@ use Rattle.payments.specs.declared.Action.the-variants.{Check}
 use Rattle.payments.specs.declared.Answer.{Answer}
 use Rattle.answer_reader.specs.declared.answer.AnswerRead.{AnswerRead}
 use Rattle.answer_reader.specs.AnswerRead.{answerRead}
+use Rattle.answer_reader.specs.AnswerParts.{undated}
 use Rattle.lists.specs.declared.Found.{Found}
 use Rattle.lists.specs.declared.Found.the-variants.{At, Nothing}
 use Rattle.book.specs.declared.Book.{Book}
@@ -43,11 +44,23 @@ pub answered-is : (m : Meaning) (x : Answer) (e : Entry) (s s′ : State) (n cod
 unfolding answeredEntry
 answered-is m x e s s′ n code credit es et en ec ea = rw (en, et, ea, ec, es)
 
+-- ---- an answer says the same without the bytes of its date
+module _ (a : Action) (text : List ℕ) (x : AnswerRead) (ex : x ≡ undated (answerRead a text)) where
+  ok-is : (answerRead a text) .ok ≡ x .ok
+  ok-is = sym (ap (λ (v : AnswerRead). v .ok) ex)
+
+  code-is : (answerRead a text) .answer .code ≡ x .answer .code
+  code-is = sym (ap (λ (v : AnswerRead). v .answer .code) ex)
+
+  entry-is : (m : Meaning) (e : Entry) → answeredEntry m ((answerRead a text) .answer) e ≡ answeredEntry m (x .answer) e
+  unfolding answeredEntry authcodeAfter
+  entry-is m e = sym (ap (λ (v : AnswerRead). answeredEntry m (v .answer) e) ex)
+
 -- ---- the entry at i
-module _ (b : Book) (t : BookRows) (i : ℕ) (a : Action) (text : List ℕ) (x : AnswerRead) (ex : x ≡ answerRead a text) where
+module _ (b : Book) (t : BookRows) (i : ℕ) (a : Action) (text : List ℕ) (x : AnswerRead) (ex : x ≡ undated (answerRead a text)) where
   pub at-unread : (rows : BookRows) → not (x .ok) ≡ true → rows ≡ t → _≡_ {A = Taking} (record { code = 64; rows = rows }) (takeAt b t a text (At i))
   unfolding takeAt
-  at-unread rows h er = rw (← ex, not-true (x .ok) h, er)
+  at-unread rows h er = rw (ok-is a text x ex, not-true (x .ok) h, er)
 
   module _ (h : not (x .ok) ≡ false) (l : i < b .used) (e : Entry) (ee : e ≡ entryAt t i) (f : Bool) (ef : f ≡ isFrozen b (e .date)) where
     frozen-there : f ≡ isFrozen b ((entryAt t i) .date)
@@ -55,14 +68,14 @@ module _ (b : Book) (t : BookRows) (i : ℕ) (a : Action) (text : List ℕ) (x :
 
     pub at-frozen : (rows : BookRows) → f ≡ true → rows ≡ t → _≡_ {A = Taking} (record { code = 0; rows = rows }) (takeAt b t a text (At i))
     unfolding takeAt
-    at-frozen rows y er = rw (← ex, not-false (x .ok) h, getD-entries t (b .used) i noEntry l, ← frozen-there, y, er)
+    at-frozen rows y er = rw (ok-is a text x ex, not-false (x .ok) h, getD-entries t (b .used) i noEntry l, ← frozen-there, y, er)
 
     pub at-answered : (m : Meaning) (e′ : Entry) (rows : BookRows) → f ≡ false → ReadyBook b t → m ≡ meaning a (x .answer .code) → e′ ≡ answeredEntry m (x .answer) e
         → rows ≡ bookWith t i e′ → _≡_ {A = Taking} (record { code = 0; rows = rows }) (takeAt b t a text (At i))
     unfolding takeAt
     at-answered m e′ rows n ready em ea er =
         let w : e′ ≡ answeredEntry m (x .answer) (entryAt t i) = ea ∙ ap (answeredEntry m (x .answer)) ee in
-        rw (← ex, not-false (x .ok) h, getD-entries t (b .used) i noEntry l, ← frozen-there, n, ← em, ← w, book-set t (b .used) (ready .whole) i e′ l, er)
+        rw (ok-is a text x ex, not-false (x .ok) h, getD-entries t (b .used) i noEntry l, ← frozen-there, n, code-is a text x ex, ← em, entry-is a text x ex m (entryAt t i), ← w, book-set t (b .used) (ready .whole) i e′ l, er)
 
 -- ---- a receipt
 module _ (b : Book) (t : BookRows) (a : Action) (receipt : ℕ) (text : List ℕ) (r : Bool) (er : r ≡ isReceipt receipt) where
@@ -80,14 +93,14 @@ module _ (b : Book) (t : BookRows) (a : Action) (receipt : ℕ) (text : List ℕ
     one-found i k y q = q ∙ rw (← er, not-false r h, ← ep, y)
 
 -- ---- a check
-module _ (text : List ℕ) (x : AnswerRead) (ex : x ≡ answerRead Check text) where
+module _ (text : List ℕ) (x : AnswerRead) (ex : x ≡ undated (answerRead Check text)) where
   pub check-read : x .ok ≡ true → 0 ≡ checkCode text
   unfolding checkCode
-  check-read h = rw (← ex, h)
+  check-read h = rw (ok-is Check text x ex, h)
 
   pub check-unread : x .ok ≡ false → 64 ≡ checkCode text
   unfolding checkCode
-  check-unread h = rw (← ex, h)
+  check-unread h = rw (ok-is Check text x ex, h)
 
 -- ---- the call
 module _ (b : Book) (t : BookRows) (a : Action) (receipt : ℕ) (text : List ℕ) (g : Bool) (eg : g ≡ bookGood b t) where

@@ -63,7 +63,7 @@ pub(crate) fn take_at(
     requires { ⌜ ReadyBook b (lentBook nums numbers dates) × (i < b .used) ⌝ }
     ensures { λ r. ⌜ takingOf r (bookAfter nums numbers dates) ≡ takeAt b (bookBefore nums numbers dates) a (now (text .entry)) (At i) ⌝ }
 {
-    let x = read::read_answer(a, text);
+    let x = read::read_undated(a, text);
     if !x.ok {
         return 64;
     }
@@ -116,7 +116,7 @@ pub(crate) fn is_check(a: Action) -> bool
 pub(crate) fn take_check(text: &[u8]) -> u64
     ensures { λ r. ⌜ r ≡ checkCode (now (text .entry)) ⌝ }
 {
-    let x = read::read_answer(Action::Check, text);
+    let x = read::read_undated(Action::Check, text);
     if x.ok { 0 } else { 64 }
 }
 

@@ -21,7 +21,7 @@ returns-3 c =
     let s = x .before .before in
     let t : BookRows = record { nums = s .args .nums .now; numbers = s .args .numbers .now; dates = s .args .dates .now } in
     let t′ : BookRows = record { nums = k .store-entry .last .0; numbers = k .store-entry .last .1 .0; dates = k .store-entry .last .1 .1 .0 } in
-    at-answered (s .args .b) t (s .args .i) (s .args .a) (s .args .text .now) (x .read-answer .result) (x .read-answer .ensures) (o .if1 .left) (s .pre .1) (r .load-entry .result) (r .load-entry .ensures .0)
+    at-answered (s .args .b) t (s .args .i) (s .args .a) (s .args .text .now) (x .read-undated .result) (x .read-undated .ensures) (o .if1 .left) (s .pre .1) (r .load-entry .result) (r .load-entry .ensures .0)
     (f .is-frozen .result) (f .is-frozen .ensures) (m .meaning-of .result) (v .answered-entry .result) t′ (n .if2 .left) (s .pre .0)
     (m .meaning-of .ensures)
     (v .answered-entry .ensures)
