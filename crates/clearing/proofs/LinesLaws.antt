@@ -10,7 +10,6 @@ use mir.Syntax.{w64}
 use mir.Val.{toZ, ofZ}
 use lib.Seq.{drop-append-add, drop-drop}
 use Rattle.lines.specs.declared.line.Line.{Line}
-use Rattle.lists.specs.declared.Found.{Found}
 use Rattle.lists.specs.declared.Found.the-variants.{At, Nothing}
 use Rattle.table.specs.declared.Gate.{Gate}
 use Rattle.table.specs.declared.Record.{Record}
@@ -24,6 +23,7 @@ use Rattle.posting.specs.declared.applying.Due.{Due}
 use Rattle.posting.specs.Steps.{Held, Left, paid, Applied}
 use Rattle.planning.specs.Plan.{Within}
 use Rattle.directory.specs.Directory.{Listed}
+use Rattle.directory.proofs.FindLaws.{listed-used, listed-moved}
 use Rattle.line_rows.specs.Lines.{LineRows, lineAt, linesOf, Read}
 use Rattle.posting.proofs.PostLaws.{line-applied}
 use Rattle.posting.proofs.DueLaws.{due-place, due-balance, due-near, paid-none, paid-at}
@@ -101,53 +101,94 @@ module _ (clock : List ℕ) (u : LineRows) (n : ℕ) (read : Read u n) (t₀ : R
           ap (λ (y : Rows). rowsFrom y (l .records)) (going .rows)
           ∙ from-from t₀ (recordsOf t (g .used)) (l .records) (omega (arith, step .longer, length-records t (g .used)))
 
-pub going-fits : (u : LineRows) (n : ℕ) → Read u n → (i : ℕ) → i < n → i + 1 < 2 ^ 64
-going-fits u n read i h = omega (arith, read .few)
+-- ---- what the loop keeps at line i: beside the settlement, the sizes, the names and the chains
+pub record Kept (clock : List ℕ) (u : LineRows) (n : ℕ) (names keys : List (List ℕ)) (t₀ : Rows) (whole : Ledger) (heads₀ next₀ : List ℕ) (t : Rows) (g : Gate) (heads next : List ℕ) (i : ℕ) : Type 0 where
+  pub most : i ≤ n
+  pub numbers-kept : length (t .numbers) ≡ length (t₀ .numbers)
+  pub dates-kept : length (t .dates) ≡ length (t₀ .dates)
+  pub listed : Listed names keys g
+  pub going : Going clock (linesOf u n) t₀ whole t g i
+  pub heads-kept : length heads ≡ length heads₀
+  pub next-kept : length next ≡ length next₀
+  pub chained : Chained (receiptAt (t .nums)) 0 (g .used) heads next
 
--- a line that is judged and applied, and what is due credited
-module _ (clock : List ℕ) (u : LineRows) (n : ℕ) (read : Read u n) (t₀ : Rows) (whole : Ledger) (t : Rows) (g : Gate) (i : ℕ) (going : Going clock (linesOf u n) t₀ whole t g i)
-    (h : i < n) (names keys : List (List ℕ)) (listed : Listed names keys g) where
-  module _ (f : Found) (within : Within f (length names)) (at : ℕ) (ea : f ≡ At at) where
+-- ---- a turn of the loop: the line at i is read, judged and applied. First what the turn is of, then what is known of it
+pub record Turn : Type 0 where
+  pub of : record { clock : List ℕ; u : LineRows; n : ℕ; names : List (List ℕ); keys : List (List ℕ); t₀ : Rows; whole : Ledger; heads₀ : List ℕ; next₀ : List ℕ; t : Rows; g : Gate; heads : List ℕ; next : List ℕ; i : ℕ; x : Line; v : Verdict; d : Due; t′ : Rows }
+  pub read : Read (of .u) (of .n)
+  pub room : 4096 ≡ length (of .next₀)
+  pub kept : Kept (of .clock) (of .u) (of .n) (of .names) (of .keys) (of .t₀) (of .whole) (of .heads₀) (of .next₀) (of .t) (of .g) (of .heads) (of .next) (of .i)
+  pub more : of .i < of .n
+  pub line : of .x ≡ lineAt (of .u) (of .i)
+  pub judged : of .v ≡ verdictOf (of .g) (recordsOf (of .t) (of .g .used)) (length (of .t .nums)) (of .x)
+  pub applied : Applied (of .names) (of .keys) (of .g .used) (of .t) (of .clock) (of .x) (of .v) (of .d) (of .t′)
+  pub within : Within (of .d .account) (length (of .names))
+  pub numbers-kept : length (of .t′ .numbers) ≡ length (of .t .numbers)
+  pub dates-kept : length (of .t′ .dates) ≡ length (of .t .dates)
+
+module _ (turn : Turn) where
+  open Turn turn using (of, read, room, kept, more, line, judged, applied, within)
+  open record of using (clock, u, n, names, keys, t₀, whole, heads₀, next₀, t, g, heads, next, i, x, v, d, t′)
+  open Kept kept using (listed, going, chained)
+
+  pub turn-fits : i + 1 < 2 ^ 64
+  turn-fits = omega (arith, more, read .few)
+
+  pub turn-small : x .amount < 1000000000
+  turn-small = read-small u n read i more x line
+
+  on : (g′ : Gate) → g′ ≡ paid g d (x .amount) → Going clock (linesOf u n) t₀ whole t′ g′ (i + 1)
+  on g′ eg =
+      going-on clock u n read t₀ whole t g i going more x line g′ t′
+      (line-applied g t clock x (length (t .nums)) v judged g′ t′ (rw eg (applied .left g listed refl)))
+
+  -- the account of what is due
+  module _ (at : ℕ) (ea : d .account ≡ At at) where
     funds : Funds g 10000000000000000
-    funds = going-held clock u n read t₀ whole t g i going h .backed .funds
+    funds = going-held clock u n read t₀ whole t g i going more .backed .funds
 
-    pub going-account : at < 256
-    going-account = due-place names keys g listed f within at ea 10000000000000000 funds
+    pub turn-account : at < 256
+    turn-account = due-place names keys g listed (d .account) within at ea 10000000000000000 funds
 
-    pub going-near : mag (toZ w64 (ofZ w64 (balanceAt g at))) ≤ 10000000000000000
-    going-near = due-near names keys g listed f within at ea 10000000000000000 funds (omega arith)
+    pub turn-near : mag (toZ w64 (ofZ w64 (balanceAt g at))) ≤ 10000000000000000
+    turn-near = due-near names keys g listed (d .account) within at ea 10000000000000000 funds (omega arith)
 
     near : mag (balanceAt g at) ≤ 10000000000000000
-    near = due-balance names keys g listed f within at ea 10000000000000000 funds
+    near = due-balance names keys g listed (d .account) within at ea 10000000000000000 funds
 
-  module _ (x : Line) (ex : x ≡ lineAt u i) (v : Verdict) (ev : v ≡ verdictOf g (recordsOf t (g .used)) (length (t .nums)) x)
-      (t′ : Rows) (d : Due) (done : Applied names keys (g .used) t clock x v d t′) where
-    out : (g′ : Gate) → g′ ≡ paid g d (x .amount) → Going clock (linesOf u n) t₀ whole t′ g′ (i + 1)
-    out g′ eg =
-        going-on clock u n read t₀ whole t g i going h x ex g′ t′
-        (line-applied g t clock x (length (t .nums)) v ev g′ t′ (rw eg (done .left g listed refl)))
+  -- the chains can follow it
+  pub turn-chained : Chained (receiptAt (t′ .nums)) 0 (g .used) heads next × (g .used ≤ d .used) × (d .used ≤ g .used + 1)
+  turn-chained =
+      let left = applied .left g listed refl in
+      let grown = line-used g t clock x _ (going .held) turn-small v judged (paid g d (x .amount)) t′ left in
+      (line-chained g t clock x _ (going .held) turn-small v judged (paid g d (x .amount)) t′ left heads next chained, grown .0, grown .1)
 
-    pub going-none : d .account ≡ Nothing → Going clock (linesOf u n) t₀ whole t′ (withUsed g (d .used)) (i + 1)
-    going-none e = out _ (paid-none g d (x .amount) e)
+  pub turn-room : (d .used ≤ length (t′ .nums)) × (d .used ≤ length next) × (d .used ≤ 4096)
+  turn-room =
+      let backed = on (paid g d (x .amount)) refl .held .backed in
+      let most : d .used ≤ length (t′ .nums) = backed .whole .nums in
+      (most, omega (arith, backed .size, room, kept .next-kept), omega (arith, backed .size))
 
-    pub going-credited : Within (d .account) (length names) → (at : ℕ) → d .account ≡ At at
-        → (z : ℤ) → z ≡ toZ w64 (ofZ w64 (balanceAt g at)) +ℤ pos (x .amount) → mag z < 2 ^ 63
-        → Going clock (linesOf u n) t₀ whole t′ (gateBalance (withUsed g (d .used)) at z) (i + 1)
-    going-credited within at ea z ez fits = out _ (paid-at g d (x .amount) at ea (near (d .account) within at ea) z fits ez)
+  -- and once they have, the next turn is at hand
+  module _ (heads′ next′ : List ℕ) (he : length heads′ ≡ length heads) (ne : length next′ ≡ length next) (follow : Chained (receiptAt (t′ .nums)) 0 (d .used) heads′ next′) where
+    turned : (g′ : Gate) → g′ .used ≡ d .used → Listed names keys g′ → g′ ≡ paid g d (x .amount) → Kept clock u n names keys t₀ whole heads₀ next₀ t′ g′ heads′ next′ (i + 1)
+    turned g′ eu listed′ eg =
+        record {
+          most = omega (arith, more);
+          numbers-kept = turn .numbers-kept ∙ kept .numbers-kept;
+          dates-kept = turn .dates-kept ∙ kept .dates-kept;
+          listed = listed′;
+          going = on g′ eg;
+          heads-kept = he ∙ kept .heads-kept;
+          next-kept = ne ∙ kept .next-kept;
+          chained = rw eu follow;
+        }
 
-    -- the chains follow it
-    module _ (heads next : List ℕ) (c : Chained (receiptAt (t .nums)) 0 (g .used) heads next) (room : 4096 ≡ length next) where
-      few : x .amount < 1000000000
-      few = read-small u n read i h x ex
+    pub turn-none : d .account ≡ Nothing → Kept clock u n names keys t₀ whole heads₀ next₀ t′ (withUsed g (d .used)) heads′ next′ (i + 1)
+    turn-none e = turned _ refl (listed-used names keys g listed (d .used)) (paid-none g d (x .amount) e)
 
-      pub going-chained : Chained (receiptAt (t′ .nums)) 0 (g .used) heads next × (g .used ≤ d .used) × (d .used ≤ g .used + 1)
-      going-chained =
-          let left = done .left g listed refl in
-          let more = line-used g t clock x _ (going .held) few v ev (paid g d (x .amount)) t′ left in
-          (line-chained g t clock x _ (going .held) few v ev (paid g d (x .amount)) t′ left heads next c, more .0, more .1)
-
-      pub going-room : (d .used ≤ length (t′ .nums)) × (d .used ≤ length next) × (d .used ≤ 4096)
-      going-room =
-          let on : Going clock (linesOf u n) t₀ whole t′ (paid g d (x .amount)) (i + 1) = out (paid g d (x .amount)) refl in
-          let most : d .used ≤ length (t′ .nums) = on .held .backed .whole .nums in
-          (most, omega (arith, on .held .backed .size), omega (arith, on .held .backed .size))
+    -- what is due credited
+    pub turn-credited : (at : ℕ) → d .account ≡ At at → (z : ℤ) → z ≡ toZ w64 (ofZ w64 (balanceAt g at)) +ℤ pos (x .amount) → mag z < 2 ^ 63
+        → Kept clock u n names keys t₀ whole heads₀ next₀ t′ (gateBalance (withUsed g (d .used)) at z) heads′ next′ (i + 1)
+    turn-credited at ea z ez fits =
+        turned _ refl (listed-moved _ _ _ (listed-used names keys g listed (d .used)) _ _) (paid-at g d (x .amount) at ea (near at ea) z fits ez)

@@ -20,14 +20,13 @@ use Rattle.posting.proofs.LookupLaws.{match-receipt}
 use Rattle.posting.proofs.PostLaws.{at-nums, at-numbers, at-dates, found-within}
 use Rattle.posting.proofs.DueLaws.{due-place, due-balance, due-near}
 use Rattle.directory.specs.Directory.{holdersOf, Listed}
-use Rattle.directory.proofs.FindLaws.{listed-find}
+use Rattle.directory.proofs.FindLaws.{listed-find, listed-moved}
 use Rattle.line_rows.proofs.ReadLaws.{length-lines, getD-lines}
 use Rattle.index.specs.Index.{slotOf, Chained}
 use Rattle.index.proofs.ChainLaws.{slot-below, chained-same}
 use Rattle.index.proofs.WalkLaws.{Walk, walk-from, walk-hit, walk-next, walk-none, found-any}
 use Rattle.lists.specs.Lists.{firstFrom, isFound}
 use borrow.Author.Tests.{eq-eqb, ne-eqb, not-true, not-false}
-use Rattle.fields.specs.declared.number.Number.{Number}
 use Rattle.lists.specs.declared.Found.{Found}
 use Rattle.lists.specs.declared.Found.the-variants.{At, Nothing}
 use Rattle.days.specs.declared.calendar.Day.{Day}
@@ -37,7 +36,7 @@ use Rattle.lines.specs.declared.line.Line.{Line}
 use Rattle.table.specs.declared.Gate.{Gate}
 use Rattle.table.specs.declared.Record.{Record}
 use Rattle.table.specs.Table.{Rows, recordAt, recordsOf, rowsFrom, rowsWith, noRecord}
-use Rattle.table.specs.Accounts.{findAccount, balanceAt, gateBalance}
+use Rattle.table.specs.Accounts.{findAccount, balanceAt, gateBalance, Funds}
 use Rattle.ledger.specs.Change.{revoked, debitedAt}
 use Rattle.texts.proofs.Tests.{cond-elim}
 use Rattle.posting.specs.Posting.{matches, Ledger, ledgerOf}
@@ -113,7 +112,7 @@ sweeping-start clock day xs t g held =
       used = refl;
     }
 
-module _ (clock : List ℕ) (day : Day) (xs : List Line) (t₀ : Rows) (g₀ : Gate) (t : Rows) (g : Gate) (i : ℕ) (going : Sweeping clock day xs t₀ g₀ t g i) where
+module _ {clock : List ℕ} {day : Day} {xs : List Line} {t₀ : Rows} {g₀ : Gate} {t : Rows} {g : Gate} {i : ℕ} (going : Sweeping clock day xs t₀ g₀ t g i) where
   pub sweeping-last : i ≤ g₀ .used → Held g t 16000000000000
   sweeping-last h =
       held-more g t (11000000000000 + i * 1000000000) 16000000000000 (going .held) (omega (arith, going .used, going .held .backed .whole .nums, going .held .backed .size))
@@ -124,9 +123,6 @@ module _ (clock : List ℕ) (day : Day) (xs : List Line) (t₀ : Rows) (g₀ : G
   sweeping-place : i < g₀ .used → i < g .used
   sweeping-place h = omega (arith, going .used)
 
-  pub sweeping-fits : i < g₀ .used → i + 1 < 2 ^ 64
-  sweeping-fits h = omega (arith, going .used, going .held .backed .whole .nums, going .held .backed .size)
-
   pub sweeping-nums : i < g₀ .used → i < length (t .nums)
   sweeping-nums h = at-nums t (g .used) (going .held .backed .whole) i (sweeping-place h)
 
@@ -135,18 +131,6 @@ module _ (clock : List ℕ) (day : Day) (xs : List Line) (t₀ : Rows) (g₀ : G
 
   pub sweeping-dates : i < g₀ .used → i < length (t .dates)
   sweeping-dates h = at-dates t (g .used) (going .held .backed .whole) i (sweeping-place h)
-
-  -- the account of a record that is cancelled
-  module _ (h : i < g₀ .used) (names keys : List (List ℕ)) (listed : Listed names keys g) (n : Number) (k : ℕ) (f : Found) (ef : f ≡ findAccount n k (holdersOf names keys))
-      (at : ℕ) (e : f ≡ At at) where
-    pub sweeping-account : at < 256
-    sweeping-account = due-place names keys g listed f (found-within names keys n k f ef) at e _ (going .held .backed .funds)
-
-    pub sweeping-near : mag (toZ w64 (ofZ w64 (balanceAt g at))) ≤ 10000000000000000
-    sweeping-near = due-near names keys g listed f (found-within names keys n k f ef) at e 10000000000000000 (sweeping-held h .backed .funds) (omega arith)
-
-    balance-near : mag (balanceAt g at) ≤ 10000000000000000
-    balance-near = due-balance names keys g listed f (found-within names keys n k f ef) at e 10000000000000000 (sweeping-held h .backed .funds)
 
   pub sweeping-end : g₀ .used ≤ i → Left t₀ (swept clock day xs (ledgerOf g₀ t₀)) g t
   unfolding swept sweepGates
@@ -165,85 +149,130 @@ module _ (clock : List ℕ) (day : Day) (xs : List Line) (t₀ : Rows) (g₀ : G
       let k : recordsOf t (g .used) ≡ map (sweptRecord clock day xs) rs = going .records ∙ partly-all (sweptRecord clock day xs) rs i n in
       ap (λ (y : Gate). record { gate = y; records = map (sweptRecord clock day xs) rs }) e ∙ ap (λ (y : List Record). record { gate = g; records = y }) (sym k)
 
-  -- the record at i is passed: what becomes of it is what the sweep says
-  module _ (h : i < g₀ .used) (r : Record) (er : r ≡ recordAt t i) where
-    below : i < length (recordsOf t₀ (g₀ .used))
-    below = omega (arith, length-records t₀ (g₀ .used))
+-- ---- what the loop keeps at record i: beside the sweep, the sizes and the names
+pub record Kept (clock : List ℕ) (day : Day) (xs : List Line) (names keys : List (List ℕ)) (t₀ : Rows) (g₀ : Gate) (t : Rows) (g : Gate) (i : ℕ) : Type 0 where
+  pub most : i ≤ g₀ .used
+  pub nums-kept : length (t .nums) ≡ length (t₀ .nums)
+  pub numbers-kept : length (t .numbers) ≡ length (t₀ .numbers)
+  pub dates-kept : length (t .dates) ≡ length (t₀ .dates)
+  pub listed : Listed names keys g
+  pub sweeping : Sweeping clock day xs t₀ g₀ t g i
 
-    there : getD (recordsOf t₀ (g₀ .used)) i noRecord ≡ r
-    there =
-        sym (ap (λ (y : List Record). getD y i noRecord) (going .records) ∙ partly-get (sweptRecord clock day xs) (recordsOf t₀ (g₀ .used)) i noRecord below)
-        ∙ getD-records t (g .used) i noRecord (sweeping-place h) ∙ sym er
+-- ---- a turn of the loop: the record at i is read, and it is told whether it is a stray. First what the turn is of, then what is known of it
+pub record Turn : Type 0 where
+  pub of : record { clock : List ℕ; day : Day; xs : List Line; names : List (List ℕ); keys : List (List ℕ); t₀ : Rows; g₀ : Gate; t : Rows; g : Gate; i : ℕ; r : Record; s : Bool }
+  pub kept : Kept (of .clock) (of .day) (of .xs) (of .names) (of .keys) (of .t₀) (of .g₀) (of .t) (of .g) (of .i)
+  pub more : of .i < of .g₀ .used
+  pub read : of .r ≡ recordAt (of .t) (of .i)
+  pub stray : of .s ≡ isStray (of .day) (of .xs) (of .r)
 
-    pub sweeping-small : r .amount < 1000000000
-    sweeping-small = let a : r .amount ≡ (recordAt t i) .amount = ap (λ (q : Record). q .amount) er in omega (arith, going .held .small i (sweeping-place h))
+module _ (turn : Turn) where
+  open Turn turn using (of, kept, more, read, stray)
+  open record of using (clock, day, xs, names, keys, t₀, g₀, t, g, i, r, s)
+  open Kept kept using (listed, sweeping)
 
-    gates-on : (g′ : Gate) → g′ ≡ sweptGate day xs r g → sweepGates day xs (recordsOf t₀ (g₀ .used)) g₀ ≡ sweepGates day xs (drop (i + 1) (recordsOf t₀ (g₀ .used))) g′
-    unfolding sweepGates
-    gates-on g′ e =
-        let rs₀ : List Record = recordsOf t₀ (g₀ .used) in
-        let next : drop i rs₀ ≡ r ∷ drop (i + 1) rs₀ = drop-cons rs₀ i noRecord below ∙ rw (there, add-one i) in
-        going .gates ∙ ap (λ (y : List Record). sweepGates day xs y g) next ∙ ap (sweepGates day xs (drop (i + 1) rs₀)) (sym e)
+  place : i < g .used
+  place = sweeping-place sweeping more
 
-    records-on : (rs : List Record) → rs ≡ set (recordsOf t (g .used)) i (sweptRecord clock day xs r)
-        → rs ≡ map (sweptRecord clock day xs) (take (i + 1) (recordsOf t₀ (g₀ .used))) ++ drop (i + 1) (recordsOf t₀ (g₀ .used))
-    records-on rs e =
-        let rs₀ : List Record = recordsOf t₀ (g₀ .used) in
-        let f : Record → Record = sweptRecord clock day xs in
-        e ∙ ap (λ (y : List Record). set y i (f r)) (going .records) ∙ ap (λ (q : Record). set (map f (take i rs₀) ++ drop i rs₀) i (f q)) (sym there) ∙ partly-turn f rs₀ i noRecord below
+  pub turn-fits : i + 1 < 2 ^ 64
+  turn-fits = omega (arith, more, sweeping .used, sweeping .held .backed .whole .nums, sweeping .held .backed .size)
 
-    module _ (s : Bool) (es : s ≡ isStray day xs r) where
-      pub sweeping-skip : not s ≡ true → Sweeping clock day xs t₀ g₀ t g (i + 1)
-      unfolding sweptRecord sweptGate
-      sweeping-skip e =
-          let n : isStray day xs r ≡ false = sym es ∙ not-true s e in
-          let own : getD (recordsOf t (g .used)) i noRecord ≡ r = getD-records t (g .used) i noRecord (sweeping-place h) ∙ sym er in
-          let kept : recordsOf t (g .used) ≡ set (recordsOf t (g .used)) i r = sym (rw (← own) (set-same (recordsOf t (g .used)) i noRecord)) in
+  below : i < length (recordsOf t₀ (g₀ .used))
+  below = omega (arith, more, length-records t₀ (g₀ .used))
+
+  there : getD (recordsOf t₀ (g₀ .used)) i noRecord ≡ r
+  there =
+      sym (ap (λ (y : List Record). getD y i noRecord) (sweeping .records) ∙ partly-get (sweptRecord clock day xs) (recordsOf t₀ (g₀ .used)) i noRecord below)
+      ∙ getD-records t (g .used) i noRecord place ∙ sym read
+
+  pub turn-small : r .amount < 1000000000
+  turn-small = let a : r .amount ≡ (recordAt t i) .amount = ap (λ (q : Record). q .amount) read in omega (arith, sweeping .held .small i place)
+
+  gates-on : (g′ : Gate) → g′ ≡ sweptGate day xs r g → sweepGates day xs (recordsOf t₀ (g₀ .used)) g₀ ≡ sweepGates day xs (drop (i + 1) (recordsOf t₀ (g₀ .used))) g′
+  unfolding sweepGates
+  gates-on g′ e =
+      let rs₀ : List Record = recordsOf t₀ (g₀ .used) in
+      let next : drop i rs₀ ≡ r ∷ drop (i + 1) rs₀ = drop-cons rs₀ i noRecord below ∙ rw (there, add-one i) in
+      sweeping .gates ∙ ap (λ (y : List Record). sweepGates day xs y g) next ∙ ap (sweepGates day xs (drop (i + 1) rs₀)) (sym e)
+
+  records-on : (rs : List Record) → rs ≡ set (recordsOf t (g .used)) i (sweptRecord clock day xs r)
+      → rs ≡ map (sweptRecord clock day xs) (take (i + 1) (recordsOf t₀ (g₀ .used))) ++ drop (i + 1) (recordsOf t₀ (g₀ .used))
+  records-on rs e =
+      let rs₀ : List Record = recordsOf t₀ (g₀ .used) in
+      let f : Record → Record = sweptRecord clock day xs in
+      e ∙ ap (λ (y : List Record). set y i (f r)) (sweeping .records) ∙ ap (λ (q : Record). set (map f (take i rs₀) ++ drop i rs₀) i (f q)) (sym there) ∙ partly-turn f rs₀ i noRecord below
+
+  skip : not s ≡ true → Sweeping clock day xs t₀ g₀ t g (i + 1)
+  unfolding sweptRecord sweptGate
+  skip e =
+      let n : isStray day xs r ≡ false = sym stray ∙ not-true s e in
+      let own : getD (recordsOf t (g .used)) i noRecord ≡ r = getD-records t (g .used) i noRecord place ∙ sym read in
+      let same : recordsOf t (g .used) ≡ set (recordsOf t (g .used)) i r = sym (set-same (recordsOf t (g .used)) i noRecord) ∙ ap (set (recordsOf t (g .used)) i) own in
+      record {
+        gates = gates-on g (rw n);
+        records = records-on (recordsOf t (g .used)) (rw n same);
+        rows = sweeping .rows;
+        held = held-more g t (11000000000000 + i * 1000000000) (11000000000000 + (i + 1) * 1000000000) (sweeping .held) (omega arith);
+        used = sweeping .used;
+      }
+
+  on : not s ≡ false → (g′ : Gate) (t′ : Rows) → Left t (revokedAt clock r i (ledgerOf g t)) g′ t′ → Sweeping clock day xs t₀ g₀ t′ g′ (i + 1)
+  unfolding sweptRecord sweptGate revokedAt
+  on e g′ t′ left =
+      let y : isStray day xs r ≡ true = sym stray ∙ not-false s e in
+      let rs : List Record = recordsOf t (g .used) in
+      let b : ℕ = 11000000000000 + i * 1000000000 in
+      let l : Ledger = revokedAt clock r i (ledgerOf g t) in
+      let step : Step t (g .used) (b + 1000000000) l = revoke-step g t b (sweeping .held) clock r i place turn-small in
+      let same : recordsOf t′ (g′ .used) ≡ set rs i (revoked clock r) = left-records t (g .used) (b + 1000000000) l step g′ t′ left in
+      let size : length (set rs i (revoked clock r)) ≡ length rs = length-set rs i (revoked clock r) in
+      let used : g′ .used ≡ length (set rs i (revoked clock r)) = ap (λ (y : Gate). y .used) (left .gates) ∙ step .used in
+      record {
+        gates = gates-on g′ (left .gates ∙ rw y);
+        records = records-on (recordsOf t′ (g′ .used)) (same ∙ rw y);
+        rows = left .left ∙ ap (λ (y : Rows). rowsFrom y (set rs i (revoked clock r))) (sweeping .rows)
+            ∙ from-from t₀ rs (set rs i (revoked clock r)) (omega arith) ∙ ap (rowsFrom t₀) (sym same);
+        held = held-more g′ t′ (b + 1000000000) (11000000000000 + (i + 1) * 1000000000)
+            (left-held t (g .used) (b + 1000000000) l step g′ t′ left g b (sweeping .held)) (omega arith);
+        used = omega (arith, length-records t (g .used), sweeping .used);
+      }
+
+  pub turn-skip : not s ≡ true → Kept clock day xs names keys t₀ g₀ t g (i + 1)
+  turn-skip e = record { most = omega (arith, more); nums-kept = kept .nums-kept; numbers-kept = kept .numbers-kept; dates-kept = kept .dates-kept; listed = listed; sweeping = skip e }
+
+  -- what is cancelled is debited, where its account is known
+  module _ (f : Found) (ef : f ≡ findAccount (r .number) (r .kind) (holdersOf names keys)) where
+    module _ (at : ℕ) (ea : f ≡ At at) where
+      funds : Funds g 10000000000000000
+      funds = sweeping-held sweeping more .backed .funds
+
+      pub turn-account : at < 256
+      turn-account = due-place names keys g listed f (found-within names keys (r .number) (r .kind) f ef) at ea 10000000000000000 funds
+
+      pub turn-near : mag (toZ w64 (ofZ w64 (balanceAt g at))) ≤ 10000000000000000
+      turn-near = due-near names keys g listed f (found-within names keys (r .number) (r .kind) f ef) at ea 10000000000000000 funds (omega arith)
+
+      near : mag (balanceAt g at) ≤ 10000000000000000
+      near = due-balance names keys g listed f (found-within names keys (r .number) (r .kind) f ef) at ea 10000000000000000 funds
+
+    module _ (e : not s ≡ false) (t′ : Rows) (et : t′ ≡ rowsWith t i (revoked clock r)) where
+      cancelled : (g′ : Gate) → Listed names keys g′ → g′ ≡ debitedAt g f (r .amount) → Kept clock day xs names keys t₀ g₀ t′ g′ (i + 1)
+      cancelled g′ listed′ eg =
           record {
-            gates = gates-on g (rw n);
-            records = records-on (recordsOf t (g .used)) (rw n kept);
-            rows = going .rows;
-            held = held-more g t (11000000000000 + i * 1000000000) (11000000000000 + (i + 1) * 1000000000) (going .held) (omega arith);
-            used = going .used;
+            most = omega (arith, more);
+            nums-kept = ap (λ (y : Rows). length (y .nums)) et ∙ length-set (t .nums) i _ ∙ kept .nums-kept;
+            numbers-kept = ap (λ (y : Rows). length (y .numbers)) et ∙ length-set (t .numbers) i _ ∙ kept .numbers-kept;
+            dates-kept = ap (λ (y : Rows). length (y .dates)) et ∙ length-set (t .dates) i _ ∙ kept .dates-kept;
+            listed = listed′;
+            sweeping = on e g′ t′ (revoked-out g t _ (sweeping .held) clock r i place t′ et f (ef ∙ listed-find names keys g listed (r .number) (r .kind)) g′ eg);
           }
 
-      sweeping-on : not s ≡ false → (g′ : Gate) (t′ : Rows) → Left t (revokedAt clock r i (ledgerOf g t)) g′ t′ → Sweeping clock day xs t₀ g₀ t′ g′ (i + 1)
-      unfolding sweptRecord sweptGate revokedAt
-      sweeping-on e g′ t′ left =
-          let y : isStray day xs r ≡ true = sym es ∙ not-false s e in
-          let rs : List Record = recordsOf t (g .used) in
-          let b : ℕ = 11000000000000 + i * 1000000000 in
-          let l : Ledger = revokedAt clock r i (ledgerOf g t) in
-          let step : Step t (g .used) (b + 1000000000) l =
-          revoke-step g t b (going .held) clock r i (sweeping-place h) sweeping-small in
-          let same : recordsOf t′ (g′ .used) ≡ set rs i (revoked clock r) = left-records t (g .used) (b + 1000000000) l step g′ t′ left in
-          let size : length (set rs i (revoked clock r)) ≡ length rs = length-set rs i (revoked clock r) in
-          let used : g′ .used ≡ length (set rs i (revoked clock r)) = ap (λ (y : Gate). y .used) (left .gates) ∙ step .used in
-          record {
-            gates = gates-on g′ (left .gates ∙ rw y);
-            records = records-on (recordsOf t′ (g′ .used)) (same ∙ rw y);
-            rows = left .left ∙ ap (λ (y : Rows). rowsFrom y (set rs i (revoked clock r))) (going .rows)
-                ∙ from-from t₀ rs (set rs i (revoked clock r)) (omega arith) ∙ ap (rowsFrom t₀) (sym same);
-            held = held-more g′ t′ (b + 1000000000) (11000000000000 + (i + 1) * 1000000000)
-                (left-held t (g .used) (b + 1000000000) l step g′ t′ left g b (going .held)) (omega arith);
-            used = omega (arith, length-records t (g .used), going .used);
-          }
+      pub turn-none : f ≡ Nothing → Kept clock day xs names keys t₀ g₀ t′ g (i + 1)
+      turn-none none = cancelled g listed (debited-none g f (r .amount) none)
 
-      -- what is cancelled is debited, where its account is known
-      module _ (e : not s ≡ false) (t′ : Rows) (et : t′ ≡ rowsWith t i (revoked clock r)) (names keys : List (List ℕ)) (listed : Listed names keys g)
-          (f : Found) (ef : f ≡ findAccount (r .number) (r .kind) (holdersOf names keys)) where
-        out : (g′ : Gate) → g′ ≡ debitedAt g f (r .amount) → Sweeping clock day xs t₀ g₀ t′ g′ (i + 1)
-        out g′ eg =
-            sweeping-on e g′ t′
-            (revoked-out g t _ (going .held) clock r i (sweeping-place h) t′ et f (ef ∙ listed-find names keys g listed (r .number) (r .kind)) g′ eg)
-
-        pub sweeping-none : f ≡ Nothing → Sweeping clock day xs t₀ g₀ t′ g (i + 1)
-        sweeping-none none = out g (debited-none g f (r .amount) none)
-
-        pub sweeping-debited : (at : ℕ) → f ≡ At at → (z : ℤ) → z ≡ toZ w64 (ofZ w64 (balanceAt g at)) -ℤ pos (r .amount) → mag z < 2 ^ 63
-            → Sweeping clock day xs t₀ g₀ t′ (gateBalance g at z) (i + 1)
-        sweeping-debited at ea z ez fits =
-            out _ (debited-at g f (r .amount) at ea (balance-near h names keys listed (r .number) (r .kind) f ef at ea) z fits ez)
+      pub turn-debited : (at : ℕ) → f ≡ At at → (z : ℤ) → z ≡ toZ w64 (ofZ w64 (balanceAt g at)) -ℤ pos (r .amount) → mag z < 2 ^ 63
+          → Kept clock day xs names keys t₀ g₀ t′ (gateBalance g at z) (i + 1)
+      turn-debited at ea z ez fits = cancelled _ (listed-moved names keys g listed at z) (debited-at g f (r .amount) at ea (near at ea) z fits ez)
 
 -- ---- a sweep keeps the receipts, and so the chains
 swept-receipt : (clock : List ℕ) (day : Day) (xs : List Line) (r : Record) → (sweptRecord clock day xs r) .receipt ≡ r .receipt
