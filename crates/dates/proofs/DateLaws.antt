@@ -2,23 +2,23 @@
 use Prim.Native.Nat.{ℕ, _+_, _-_, _*_, _≤_, _<_}
 use native.Mathlib.Nat.{add-assoc, le-trans}
 use native.Mathlib.Omega.{arith}
-use mathlib.Core.Path.{_≡_, refl, sym, _∙_}
-use mathlib.Core.Bool.{Bool, true, false, cond, _&&_, and-false}
+use mathlib.Core.Path.{_≡_, refl, sym, ap, _∙_}
+use mathlib.Core.Bool.{Bool, true, false, cond, not, _&&_, and-false}
 use mathlib.Core.List.{List, append-nil}
 use mir.Syntax.{w8}
 use mir.Val.{Fits}
 use lib.Dec.{eqb, leb}
 use lib.ListN.{getD, length, drop, drop-of-length-le}
-use borrow.Author.Tests.{le-leb, lt-leb, eq-eqb, ne-eqb, leb-true, eqb-true}
+use borrow.Author.Tests.{le-leb, lt-leb, eq-eqb, ne-eqb, leb-true, eqb-true, not-true, not-false}
 use Rattle.days.specs.declared.calendar.Day.{Day}
 use Rattle.days.specs.declared.calendar.DayRead.{DayRead}
 use Rattle.days.specs.declared.calendar.DayRead.the-variants.{Good, NoDate}
 use Rattle.dates.specs.declared.date.DateRead.{DateRead}
 use Rattle.texts.specs.Lists.{every, written}
 use Rattle.texts.specs.Digits.{isDigit}
-use Rattle.days.specs.Calendar.{isDate, dayOf, isDay, sameDay, onDay, twoDigits, twoAt, dayWith, dayPart}
+use Rattle.days.specs.Calendar.{isDate, dayOf, isDay, sameDay, dayBefore, onDay, upTo, twoDigits, twoAt, dayWith, dayPart}
 use Rattle.dates.specs.Date.{clockTime, dateDay, found, isWritten, emptyDate, noDate, dateRead, dateReadOn, dateIf}
-use Rattle.texts.proofs.Tests.{both, cond-elim}
+use Rattle.texts.proofs.Tests.{both, cond-elim, no-claim}
 use Rattle.texts.proofs.ListLaws.{every-step, every-all}
 use Rattle.texts.proofs.OutLaws.{written-over}
 use Rattle.days.proofs.CalendarLaws.{two-good, part-with}
@@ -64,6 +64,16 @@ module _ (s : List ℕ) where
     unfolding dateDay
     date-good f l c y m d r ec ey em ed e =
         let ten : 10 ≤ length s = omega arith in part-with s c y m d r ten ec ey em ed e ∙ rw (← test, f, eq-eqb _ _ l)
+
+    -- the same of a day that it is compared with
+    pub on-no-time : t ≡ false → (day : Day) → false ≡ onDay day (dateDay s)
+    on-no-time f day = ap (onDay day) (date-no-time f)
+
+    pub on-good : t ≡ true → length s ≡ 19 → (day : Day) (c y m d : ℕ) (r : Bool)
+        → c ≡ twoDigits (getD s 0 0) (getD s 1 0) → y ≡ twoDigits (getD s 2 0) (getD s 3 0)
+        → m ≡ twoDigits (getD s 5 0) (getD s 6 0) → d ≡ twoDigits (getD s 8 0) (getD s 9 0)
+        → r ≡ onDay day (dayWith (getD s 4 0) (getD s 7 0) c y m d) → r ≡ onDay day (dateDay s)
+    on-good f l day c y m d r ec ey em ed e = e ∙ ap (onDay day) (date-good f l c y m d _ ec ey em ed refl)
 
   module _ (x : DayRead) (ex : x ≡ dateDay s) where
     pub written-is : (y : Day) → x ≡ Good y → true ≡ isWritten s
@@ -267,6 +277,20 @@ module _ (s : List ℕ) (h : isWritten s ≡ true) where
       let part = part-tests s (x .day) (date-tests s (x .day) (x .is) .1) in
       let own = read-good (isDate (2000 + twoAt s 2) (twoAt s 5) (twoAt s 8)) _ (part .1) .1 in
       x .is ∙ sym own ∙ rw (← ey, ← em, ← ed)
+
+module _ (s : List ℕ) (t : Bool) (et : t ≡ isWritten s) where
+  pub known-written : not t ≡ false → isWritten s ≡ true
+  known-written n = sym et ∙ not-false t n
+
+  pub until-none : not t ≡ true → (last : Day) → true ≡ upTo last (dateDay s)
+  until-none n last = go (dateDay s) (sym et ∙ not-true t n)
+    where
+      go : (x : DayRead) → found x ≡ false → true ≡ upTo last x
+      go (Good y) e = no-claim (sym e)
+      go NoDate e = refl
+
+pub until-written : (s : List ℕ) (last own : Day) → dateDay s ≡ Good own → (r : Bool) → r ≡ dayBefore last own → not r ≡ upTo last (dateDay s)
+until-written s last own e r q = ap not q ∙ rw e
 
 pub same-on : (s : List ℕ) (day own : Day) → dateDay s ≡ Good own → (r : Bool) → r ≡ sameDay own day → r ≡ onDay day (dateDay s)
 same-on s day own e r q = q ∙ rw e

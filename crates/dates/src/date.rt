@@ -103,14 +103,25 @@ pub fn written_on(day: Day, d: [u8; 19]) -> bool
 pub fn is_on(day: Day, d: [u8; 19]) -> bool
     ensures { λ r. ⌜ r ≡ onDay day (dateDay d) ⌝ }
 {
-    calendar::is_this(day, day_of_date(d))
+    if has_time(d) {
+        let century = calendar::two(d[0], d[1]);
+        let y = calendar::two(d[2], d[3]);
+        let month = calendar::two(d[5], d[6]);
+        let own = calendar::two(d[8], d[9]);
+        day.is_with(d[4], d[7], century, y, month, own)
+    } else {
+        false
+    }
 }
 
-// Whether a written date is on or before the last of some days.
+// Whether a written date is on or before the last of some days; what is none is before all.
 pub fn is_up_to(last: Day, d: [u8; 19]) -> bool
     ensures { λ r. ⌜ r ≡ upTo last (dateDay d) ⌝ }
 {
-    calendar::is_until(last, day_of_date(d))
+    if !is_written(d) {
+        return true;
+    }
+    !last.before(written_day(d))
 }
 
 // What a field that is no written date reads as.

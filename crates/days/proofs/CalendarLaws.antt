@@ -2,7 +2,7 @@
 use Prim.Native.Nat.{ℕ, _+_, _-_, _*_, _%_, _≤_, _<_}
 use native.Mathlib.Omega.{arith}
 use mathlib.Core.Path.{_≡_, refl, sym, _∙_}
-use mathlib.Core.Bool.{Bool, true, false, not, and-false}
+use mathlib.Core.Bool.{Bool, true, false, cond, _&&_, and-false}
 use mathlib.Core.Logic.{_⊎_, inl, inr}
 use mathlib.Core.List.{List}
 use mir.Syntax.{w16}
@@ -13,8 +13,8 @@ use borrow.Author.Tests.{le-leb, lt-leb, lt-ltb, le-ltb, eq-eqb, ne-eqb, leb-tru
 use Rattle.days.specs.declared.calendar.Day.{Day}
 use Rattle.days.specs.declared.calendar.DayRead.{DayRead}
 use Rattle.days.specs.declared.calendar.DayRead.the-variants.{Good, NoDate}
-use Rattle.days.specs.Calendar.{leapYear, daysIn, isDate, dayOf, nextDay, dayKey, dayBefore, sameDay, onDay, upTo, twoDigits, dayWith, dayPart, dayRead}
-use Rattle.texts.proofs.Tests.{and-left, and-right}
+use Rattle.days.specs.Calendar.{leapYear, daysIn, isDate, dayOf, isDay, nextDay, dayKey, dayBefore, sameDay, onDay, twoDigits, dayWith, dayPart, dayRead}
+use Rattle.texts.proofs.Tests.{and-left, and-right, by-test}
 
 module _ (y : ℕ) where
   pub leap-not-4 : (y % 4 ≡ 0 → ⊥) → false ≡ leapYear y
@@ -167,6 +167,65 @@ module _ (a b c y m d : ℕ) where
   pub with-good : (r : DayRead) → a ≡ 45 → b ≡ 45 → c ≡ 20 → y ≤ 99 → r ≡ dayOf (2000 + y) m d → r ≡ dayWith a b c y m d
   with-good r ea eb ec l e = e ∙ simp (eq-eqb _ _ ea, eq-eqb _ _ eb, eq-eqb _ _ ec, le-leb _ _ l)
 
+-- ---- the day of dashes and digits, and another
+module _ (day : Day) (a b c y m d : ℕ) where
+  abbrev made : Day
+  made = record { year = 2000 + y; month = m; day = d }
+
+  on-with : onDay day (dayWith a b c y m d) ≡ (eqb a 45 && (eqb b 45 && (eqb c 20 && leb y 99))) && (isDate (2000 + y) m d && sameDay made day)
+  unfolding dayOf
+  on-with = go (eqb a 45 && (eqb b 45 && (eqb c 20 && leb y 99))) (isDate (2000 + y) m d)
+    where
+      go : (p q : Bool) → onDay day (cond p (cond q (Good made) NoDate) NoDate) ≡ p && (q && sameDay made day)
+      go true true = refl
+      go true false = refl
+      go false q = refl
+
+  pub on-dash : (a ≡ 45 → ⊥) → false ≡ onDay day (dayWith a b c y m d)
+  on-dash n = sym (on-with ∙ simp (ne-eqb _ _ n))
+
+  pub on-other : (b ≡ 45 → ⊥) → false ≡ onDay day (dayWith a b c y m d)
+  on-other n = sym (on-with ∙ simp (ne-eqb _ _ n, and-false))
+
+  pub on-century : (c ≡ 20 → ⊥) → false ≡ onDay day (dayWith a b c y m d)
+  on-century n = sym (on-with ∙ simp (ne-eqb _ _ n, and-false))
+
+  unlike : sameDay made day ≡ false → false ≡ onDay day (dayWith a b c y m d)
+  unlike e = sym (on-with ∙ simp (e, and-false))
+
+  pub on-year : (2000 + y ≡ day .year → ⊥) → false ≡ onDay day (dayWith a b c y m d)
+  unfolding sameDay
+  on-year n = unlike (simp (ne-eqb _ _ n))
+
+  pub on-month : (m ≡ day .month → ⊥) → false ≡ onDay day (dayWith a b c y m d)
+  unfolding sameDay
+  on-month n = unlike (simp (ne-eqb _ _ n, and-false))
+
+  pub on-day : (d ≡ day .day → ⊥) → false ≡ onDay day (dayWith a b c y m d)
+  unfolding sameDay
+  on-day n = unlike (simp (ne-eqb _ _ n, and-false))
+
+  pub on-all : a ≡ 45 → b ≡ 45 → c ≡ 20 → 2000 + y ≡ day .year → m ≡ day .month → d ≡ day .day
+      → (r : Bool) → r ≡ isDay day → r ≡ onDay day (dayWith a b c y m d)
+  unfolding sameDay isDate
+  on-all ea eb ec ey em ed r er = er ∙ by-test (isDay day) real unreal ∙ sym whole
+    where
+      short : Bool
+      short = leb y 99 && (isDay day && true)
+
+      whole : onDay day (dayWith a b c y m d) ≡ short
+      whole = on-with ∙ rw (eq-eqb _ _ ea, eq-eqb _ _ eb, eq-eqb _ _ ec, eq-eqb _ _ ey, eq-eqb _ _ em, eq-eqb _ _ ed, ey, em, ed)
+
+      real : isDay day ≡ true → isDay day ≡ short
+      real h =
+          let high : Bool = leb (day .year) 2099 in
+          let l : day .year ≤ 2099 = leb-true (day .year) 2099 (and-left high _ (and-right (leb 2000 (day .year)) _ h)) in
+          let k : y ≤ 99 = omega arith in
+          rw (h, le-leb y 99 k)
+
+      unreal : isDay day ≡ false → isDay day ≡ short
+      unreal h = rw h (sym (and-false (leb y 99)))
+
 module _ (s : List ℕ) where
   pub part-short : length s < 10 → NoDate ≡ dayPart s
   unfolding dayPart
@@ -195,15 +254,6 @@ module _ (day : Day) (x : DayRead) where
   pub this-day : (y : Day) → x ≡ Good y → (b : Bool) → b ≡ sameDay y day → b ≡ onDay day x
   this-day y e b eb = rw (e, eb)
 
-  pub until-none : x ≡ NoDate → true ≡ upTo day x
-  until-none e = rw e
-
-  pub until-day : (y : Day) → x ≡ Good y → (b : Bool) → b ≡ dayBefore day y → not b ≡ upTo day x
-  until-day y e b eb = rw (e, eb)
-
 module _ (day : Day) (x d : DayRead) (ex : x ≡ d) (b : Bool) where
   pub this-of : b ≡ onDay day x → b ≡ onDay day d
   this-of e = e ∙ rw ex
-
-  pub until-of : b ≡ upTo day x → b ≡ upTo day d
-  until-of e = e ∙ rw ex

@@ -1,6 +1,6 @@
 // Days of the Gregorian calendar from 2000 to 2099.
 ghost use mathlib.Core.Path.{_≡_};
-ghost use Rattle.days.specs.Calendar.{twoDigits, dayWith, leapYear, daysIn, isDate, isDay, dayOf, nextDay, dayBefore, sameDay, onDay, upTo, dayPart, dayRead};
+ghost use Rattle.days.specs.Calendar.{twoDigits, dayWith, leapYear, daysIn, isDate, isDay, dayOf, nextDay, dayBefore, sameDay, onDay, dayPart, dayRead};
 
 #[repr(C)]
 pub struct Day {
@@ -118,6 +118,39 @@ impl Day {
         self.day == other.day
     }
 
+    // Whether two dashes and four pairs of digits are this day: no other day is made to be compared.
+    pub fn is_with(
+        self,
+        dash: u8,
+        other: u8,
+        century: u8,
+        y: u8,
+        month: u8,
+        day: u8,
+    ) -> bool
+        ensures { λ r. ⌜ r ≡ onDay self (dayWith dash other century y month day) ⌝ }
+    {
+        if dash != b'-' {
+            return false;
+        }
+        if other != b'-' {
+            return false;
+        }
+        if century != 20 {
+            return false;
+        }
+        if 2000 + y as u16 != self.year {
+            return false;
+        }
+        if month != self.month {
+            return false;
+        }
+        if day != self.day {
+            return false;
+        }
+        self.is_valid()
+    }
+
     // Whether this day comes right after another.
     pub fn follows(self, last: Day) -> bool
         ensures { λ r. ⌜ r ≡ onDay self (nextDay last) ⌝ }
@@ -127,22 +160,12 @@ impl Day {
 }
 
 // Whether what was read is this day.
-pub fn is_this(day: Day, x: DayRead) -> bool
+fn is_this(day: Day, x: DayRead) -> bool
     ensures { λ r. ⌜ r ≡ onDay day x ⌝ }
 {
     match x {
         DayRead::NoDate => false,
         DayRead::Good(own) => own.same(day),
-    }
-}
-
-// Whether what was read is this day or before it.
-pub fn is_until(last: Day, x: DayRead) -> bool
-    ensures { λ r. ⌜ r ≡ upTo last x ⌝ }
-{
-    match x {
-        DayRead::NoDate => true,
-        DayRead::Good(own) => !last.before(own),
     }
 }
 
