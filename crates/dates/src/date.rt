@@ -121,7 +121,8 @@ pub fn is_up_to(last: Day, d: [u8; 19]) -> bool
     if !is_written(d) {
         return true;
     }
-    !last.before(written_day(d))
+    let own = written_day(d);
+    !last.before(own)
 }
 
 // What a field that is no written date reads as.

@@ -2,6 +2,9 @@
 ghost use mathlib.Core.Path.{_≡_};
 ghost use Rattle.days.specs.Calendar.{twoDigits, dayWith, leapYear, daysIn, isDate, isDay, dayOf, nextDay, dayBefore, sameDay, onDay, dayPart, dayRead};
 
+// The first two digits of a year.
+const CENTURY: u8 = 20;
+
 #[repr(C)]
 pub struct Day {
     pub year: u16,
@@ -119,15 +122,7 @@ impl Day {
     }
 
     // Whether two dashes and four pairs of digits are this day: no other day is made to be compared.
-    pub fn is_with(
-        self,
-        dash: u8,
-        other: u8,
-        century: u8,
-        y: u8,
-        month: u8,
-        day: u8,
-    ) -> bool
+    pub fn is_with(self, dash: u8, other: u8, century: u8, y: u8, month: u8, day: u8) -> bool
         ensures { λ r. ⌜ r ≡ onDay self (dayWith dash other century y month day) ⌝ }
     {
         if dash != b'-' {
@@ -136,7 +131,7 @@ impl Day {
         if other != b'-' {
             return false;
         }
-        if century != 20 {
+        if century != CENTURY {
             return false;
         }
         if 2000 + y as u16 != self.year {
@@ -198,7 +193,7 @@ pub fn day_with(dash: u8, other: u8, century: u8, y: u8, month: u8, day: u8) -> 
     if other != b'-' {
         return DayRead::NoDate;
     }
-    if century != 20 {
+    if century != CENTURY {
         return DayRead::NoDate;
     }
     if 99 < y {
