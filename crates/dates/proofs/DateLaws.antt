@@ -3,7 +3,7 @@ use Prim.Native.Nat.{ℕ, _+_, _-_, _*_, _≤_, _<_}
 use native.Mathlib.Nat.{add-assoc, le-trans}
 use native.Mathlib.Omega.{arith}
 use mathlib.Core.Path.{_≡_, refl, sym, ap, _∙_}
-use mathlib.Core.Bool.{Bool, true, false, cond, not, _&&_, and-false}
+use mathlib.Core.Bool.{Bool, true, false, not, _&&_, and-false}
 use mathlib.Core.List.{List, append-nil}
 use mir.Syntax.{w8}
 use mir.Val.{Fits}
@@ -17,7 +17,7 @@ use Rattle.dates.specs.declared.date.DateRead.{DateRead}
 use Rattle.texts.specs.Lists.{every, written}
 use Rattle.texts.specs.Digits.{isDigit}
 use Rattle.days.specs.Calendar.{isDate, dayOf, isDay, sameDay, dayBefore, onDay, upTo, twoDigits, twoAt, dayWith, dayPart}
-use Rattle.dates.specs.Date.{clockTime, dateDay, found, isWritten, emptyDate, noDate, dateRead, dateReadOn, dateIf}
+use Rattle.dates.specs.Date.{clockTime, dateDay, found, isWritten, emptyDate, noDate, dateRead}
 use Rattle.texts.proofs.Tests.{both, cond-elim, no-claim}
 use Rattle.texts.proofs.ListLaws.{every-step, every-all}
 use Rattle.texts.proofs.OutLaws.{written-over}
@@ -84,26 +84,9 @@ module _ (s : List ℕ) where
 
 -- ---- a field that holds one
 module _ (s : List ℕ) where
-  pub date-kept : (t : Bool) → t ≡ true → record { ok = true; date = s } ≡ dateIf t s
-  date-kept t e = rw e
-
   pub date-size : (r : DateRead) → r ≡ noDate → (length s ≡ 19 → ⊥) → r ≡ dateRead s
   unfolding dateRead dateDay
   date-size r q n = q ∙ simp (ne-eqb _ _ n)
-
-  -- what is no date is on no day
-  read-on : (day : Day) → dateReadOn day s ≡ dateIf (onDay day (dateDay s)) s
-  unfolding dateRead dateReadOn
-  read-on day = go (dateDay s) refl
-    where
-      go : (x : DayRead) → dateDay s ≡ x
-          → cond ((dateIf (found x) s) .ok && onDay day (dateDay ((dateIf (found x) s) .date))) (dateIf (found x) s) noDate ≡ dateIf (onDay day x) s
-      go (Good y) e = rw e
-      go NoDate e = refl
-
-  pub date-size-on : (day : Day) (r : DateRead) → r ≡ noDate → (length s ≡ 19 → ⊥) → r ≡ dateReadOn day s
-  unfolding dateReadOn
-  date-size-on day r q n = q ∙ rw (← date-size noDate refl n)
 
   pub date-whole : length s ≡ 19 → (d : List ℕ) → d ≡ written emptyDate 0 s → d ≡ s
   date-whole l d e =
@@ -111,13 +94,30 @@ module _ (s : List ℕ) where
       let past : length emptyDate ≤ 0 + length s = omega arith in
       e ∙ sym (written-over emptyDate 0 s fit) ∙ rw (drop-of-length-le emptyDate past) (append-nil s)
 
-  module _ (d : List ℕ) (same : d ≡ s) (t : Bool) (r : DateRead) (picked : r ≡ dateIf t d) where
-    pub date-field : t ≡ isWritten d → r ≡ dateRead s
+  module _ (d : List ℕ) (same : d ≡ s) (t : Bool) (judged : t ≡ isWritten d) where
+    pub date-held : t ≡ true → record { ok = true; date = d } ≡ dateRead s
     unfolding dateRead
-    date-field e = picked ∙ rw (e, same)
+    date-held y = rw (← same, ← judged, y)
 
-    pub date-field-on : (day : Day) → t ≡ onDay day (dateDay d) → r ≡ dateReadOn day s
-    date-field-on day e = picked ∙ rw (e, same) (sym (read-on day))
+    pub date-not : t ≡ false → (r : DateRead) → r ≡ noDate → r ≡ dateRead s
+    unfolding dateRead
+    date-not n r q = q ∙ rw (← same, ← judged, n)
+
+  -- what is no date is on no day
+  module _ (day : Day) where
+    pub size-on : (length s ≡ 19 → ⊥) → false ≡ onDay day (dateDay s)
+    unfolding dateDay
+    size-on n = simp (ne-eqb _ _ n)
+
+    pub text-on : (d : List ℕ) → d ≡ s → (t : Bool) → t ≡ onDay day (dateDay d) → t ≡ onDay day (dateDay s)
+    text-on d same t e = e ∙ rw same
+
+    pub on-written : onDay day (dateDay s) ≡ true → isWritten s ≡ true
+    on-written = go (dateDay s)
+      where
+        go : (x : DayRead) → onDay day x ≡ true → found x ≡ true
+        go (Good y) h = refl
+        go NoDate h = h
 
   -- a written date is read back
   pub date-again : isWritten s ≡ true → dateRead s ≡ record { ok = true; date = s }

@@ -4,11 +4,10 @@ use mathlib.Core.List.{List}
 use mathlib.Core.Bool.{Bool, true, false, cond, _&&_}
 use lib.ListN.{getD, length, replicate}
 use lib.Dec.{leb, eqb}
-use Rattle.days.specs.declared.calendar.Day.{Day}
 use Rattle.days.specs.declared.calendar.DayRead.{DayRead}
 use Rattle.days.specs.declared.calendar.DayRead.the-variants.{Good, NoDate}
 use Rattle.dates.specs.declared.date.DateRead.{DateRead}
-use Rattle.days.specs.Calendar.{twoAt, dayPart, onDay}
+use Rattle.days.specs.Calendar.{twoAt, dayPart}
 
 -- hh:mm:ss from the twelfth byte on, behind a T
 unfoldable pub clockTime : List ℕ → Bool
@@ -38,14 +37,6 @@ noDate = record { ok = false; date = emptyDate }
 -- a field that holds a written date
 unfoldable pub dateRead : List ℕ → DateRead
 dateRead s = cond (isWritten s) (record { ok = true; date = s }) noDate
-
--- the written date of a field, where it is on the day
-unfoldable pub dateReadOn : Day → List ℕ → DateRead
-dateReadOn day s = cond ((dateRead s) .ok && onDay day (dateDay ((dateRead s) .date))) (dateRead s) noDate
-
--- bytes that passed a test of a date, or not
-abbrev pub dateIf : Bool → List ℕ → DateRead
-dateIf good s = cond good (record { ok = true; date = s }) noDate
 
 -- its number where it is none
 abbrev pub dateFault : DateRead → ℕ

@@ -10,7 +10,7 @@ ghost use Prim.Native.Nat.{_<_, _≤_};
 ghost use lib.ListN.{length};
 ghost use Rattle.days.specs.Calendar.{onDay, upTo, twoDigits};
 ghost use Rattle.days.specs.declared.calendar.DayRead.the-variants.{Good};
-ghost use Rattle.dates.specs.Date.{clockTime, dateDay, isWritten, emptyDate, noDate, dateIf, dateRead, dateReadOn};
+ghost use Rattle.dates.specs.Date.{clockTime, dateDay, isWritten, emptyDate, noDate, dateRead};
 ghost use Rattle.texts.specs.Lists.{eqList, written, cursorAfter};
 
 // A written date, or `ok` false and nineteen zero bytes.
@@ -145,17 +145,6 @@ pub fn nineteen(s: &[u8]) -> [u8; 19]
     date
 }
 
-// Nineteen bytes that passed a test of a date, or not.
-fn date_if(good: bool, date: [u8; 19]) -> DateRead
-    ensures { λ r. ⌜ r ≡ dateIf good date ⌝ }
-{
-    if good {
-        DateRead { ok: true, date }
-    } else {
-        no_date()
-    }
-}
-
 // A written date, from its bytes.
 pub fn read_date(s: &[u8]) -> DateRead
     ensures { λ r. ⌜ r ≡ dateRead (now (s .entry)) ⌝ }
@@ -164,18 +153,21 @@ pub fn read_date(s: &[u8]) -> DateRead
         return no_date();
     }
     let date = nineteen(s);
-    date_if(is_written(date), date)
+    if is_written(date) {
+        DateRead { ok: true, date }
+    } else {
+        no_date()
+    }
 }
 
-// A written date that is on the day, from its bytes.
-pub fn read_on(day: Day, s: &[u8]) -> DateRead
-    ensures { λ r. ⌜ r ≡ dateReadOn day (now (s .entry)) ⌝ }
+// Whether a text is a written date on the day.
+pub fn is_text_on(day: Day, s: &[u8]) -> bool
+    ensures { λ r. ⌜ r ≡ onDay day (dateDay (now (s .entry))) ⌝ }
 {
     if s.len() != 19 {
-        return no_date();
+        return false;
     }
-    let date = nineteen(s);
-    date_if(is_on(day, date), date)
+    is_on(day, nineteen(s))
 }
 
 // Whether two written dates are one.

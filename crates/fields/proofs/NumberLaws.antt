@@ -49,32 +49,44 @@ module _ (s : List ℕ) (i : ℕ) (passed : every numberByte s ≡ every numberB
 
 -- ---- reading one
 module _ (s : List ℕ) where
+  pub text-empty : length s ≡ 0 → false ≡ isNumberText s
+  unfolding isNumberText
+  text-empty e = rw e
+
+  pub text-long : 30 < length s → false ≡ isNumberText s
+  unfolding isNumberText
+  text-long h = simp (lt-leb _ _ h, and-false)
+
+  pub text-judged : (length s ≡ 0 → ⊥) → length s ≤ 30 → (t : Bool) → t ≡ every numberByte s → t ≡ isNumberText s
+  unfolding isNumberText
+  text-judged some most t e = let o : 1 ≤ length s = omega arith in e ∙ simp (le-leb _ _ o, le-leb _ _ most)
+
+  pub number-made : length s ≤ 30 → (d : List ℕ) → d ≡ written (replicate 30 0) 0 s → record { bytes = d; len = length s } ≡ numberOf s
+  number-made most d e =
+      let fit : 0 + length s ≤ 30 = omega arith in
+      let p : d ≡ padded s = e ∙ rw (← written-over (replicate 30 0) 0 s fit) (rw zero-add) in
+      rw p
+
+  module _ (t : Bool) (judged : t ≡ isNumberText s) where
+    pub number-short : t ≡ true → length s ≤ 30
+    unfolding isNumberText
+    number-short y =
+        leb-true (length s) 30 (and-left (leb (length s) 30) (every numberByte s) (and-right (leb 1 (length s)) _ (sym judged ∙ y)))
+
+    pub number-good : t ≡ true → (x : Number) → x ≡ numberOf s → record { ok = true; number = x } ≡ numberRead s
+    unfolding numberRead
+    number-good y x e = rw (← judged, y, e)
+
+    pub number-bad : t ≡ false → (r : NumberRead) → r ≡ noNumber → r ≡ numberRead s
+    unfolding numberRead
+    number-bad n r none = none ∙ rw (← judged, n)
+
   module _ (r : NumberRead) (none : r ≡ noNumber) where
     pub number-empty : length s ≡ 0 → r ≡ numberRead s
-    unfolding numberRead isNumberText
-    number-empty e = none ∙ rw e
+    number-empty e = number-bad false (text-empty e) refl r none
 
     pub number-long : 30 < length s → r ≡ numberRead s
-    unfolding numberRead isNumberText
-    number-long h = none ∙ simp (lt-leb _ _ h, and-false)
-
-    pub number-bad : (t : Bool) → t ≡ every numberByte s → t ≡ false → r ≡ numberRead s
-    unfolding numberRead isNumberText
-    number-bad t e n = none ∙ simp (sym e ∙ n, and-false)
-
-  module _ (some : length s ≡ 0 → ⊥) (most : length s ≤ 30) where
-    pub padded-written : padded s ≡ written (replicate 30 0) 0 s
-    padded-written =
-        let fit : 0 + length s ≤ 30 = omega arith in
-        rw (← written-over (replicate 30 0) 0 s fit) (rw zero-add)
-
-    pub number-good : (d : List ℕ) → d ≡ written (replicate 30 0) 0 s → (t : Bool) → t ≡ every numberByte s → t ≡ true
-        → record { ok = true; number = record { bytes = d; len = length s } } ≡ numberRead s
-    unfolding numberRead isNumberText
-    number-good d e t q y =
-        let p : d ≡ padded s = e ∙ sym padded-written in
-        let o : 1 ≤ length s = omega arith in
-        simp (p, sym q ∙ y, le-leb _ _ o, le-leb _ _ most)
+    number-long h = number-bad false (text-long h) refl r none
 
 -- ---- a lent number
 module _ (x : Number) where
@@ -137,9 +149,7 @@ padded-thirty s l = simp (length-append, length-drop, length-replicate) (omega a
 -- the number of a text that is one
 pub text-number : (s : List ℕ) → isNumberText s ≡ true → isNumber (numberOf s) ≡ true
 unfolding isNumber isNumberText
-text-number s h =
-    let l : length s ≤ 30 = leb-true (length s) 30 (and-left (leb (length s) 30) (every numberByte s) (and-right (leb 1 (length s)) _ h)) in
-    rw (padded-thirty s l, text-of s) h
+text-number s h = rw (padded-thirty s (number-short s true (sym h) refl), text-of s) h
 
 module _ (x : Number) (good : isNumber x ≡ true) where
   -- a number is held in thirty bytes

@@ -2,8 +2,10 @@
 use texts::out;
 use texts::scan;
 ghost use mathlib.Core.Path.{_≡_};
+ghost use Prim.Native.Nat.{_≤_};
+ghost use lib.ListN.{length};
 ghost use Rattle.texts.specs.Lists.{every, written, cursorAfter};
-ghost use Rattle.fields.specs.Number.{numberByte, numberText, isNumber, noNumber, numberRead, sameNumber};
+ghost use Rattle.fields.specs.Number.{numberByte, numberText, isNumber, isNumberText, numberOf, noNumber, numberRead, sameNumber};
 
 // The first `len` bytes count; a number that is read is zero after them.
 #[repr(C)]
@@ -56,25 +58,40 @@ pub fn no_number() -> NumberRead
     }
 }
 
+// Whether a text is a number.
+pub fn is_text(s: &[u8]) -> bool
+    ensures { λ r. ⌜ r ≡ isNumberText (now (s .entry)) ⌝ }
+{
+    if s.len() == 0 {
+        return false;
+    }
+    if 30 < s.len() {
+        return false;
+    }
+    all_number_bytes(s)
+}
+
+// The number of a text.
+pub fn number_of(s: &[u8]) -> Number
+    requires { ⌜ length (now s) ≤ 30 ⌝ }
+    ensures { λ r. ⌜ r ≡ numberOf (now (s .entry)) ⌝ }
+{
+    let mut bytes = [0u8; 30];
+    out::put_bytes(s, &mut bytes, 0);
+    Number {
+        bytes,
+        len: s.len(),
+    }
+}
+
 // A number, from its bytes.
 pub fn read_number(s: &[u8]) -> NumberRead
     ensures { λ r. ⌜ r ≡ numberRead (now (s .entry)) ⌝ }
 {
-    if s.len() == 0 {
-        return no_number();
-    }
-    if 30 < s.len() {
-        return no_number();
-    }
-    if all_number_bytes(s) {
-        let mut bytes = [0u8; 30];
-        out::put_bytes(s, &mut bytes, 0);
+    if is_text(s) {
         NumberRead {
             ok: true,
-            number: Number {
-                bytes,
-                len: s.len(),
-            },
+            number: number_of(s),
         }
     } else {
         no_number()

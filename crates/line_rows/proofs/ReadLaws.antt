@@ -26,7 +26,8 @@ use Rattle.lists.proofs.ListLaws.{length-tab, getD-tab}
 use Rattle.lists.proofs.ColumnLaws.{tab-add}
 use Rattle.lines.specs.declared.line.Line.{Line}
 use Rattle.lines.specs.declared.line.LineRead.{LineRead}
-use Rattle.lines.specs.Line.{field, afterField, noLine, lineOf, lineRead, lineReadOn}
+use Rattle.lines.specs.Line.{field, afterField, noLine, lineOf, lineRead}
+use Rattle.lines.specs.LineText.{lineReadOn}
 use Rattle.lines.proofs.LineLaws.{on-read}
 use Rattle.days.specs.declared.calendar.Day.{Day}
 use Rattle.dates.specs.Date.{dateRead}

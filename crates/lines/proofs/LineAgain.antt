@@ -2,7 +2,7 @@
 use Prim.Native.Nat.{ℕ, _≤_, _<_}
 use native.Mathlib.Numerals.{add-one}
 use native.Mathlib.Omega.{arith}
-use mathlib.Core.Path.{_≡_, refl, sym, _∙_}
+use mathlib.Core.Path.{_≡_, refl, sym}
 use mathlib.Core.List.{List, _∷_, _++_}
 use mathlib.Core.Bool.{Bool, true, not}
 use lib.Dec.{leb, eqb}
@@ -23,12 +23,11 @@ use Rattle.fields.proofs.CodeLaws.{receipt-again, kind-again}
 use Rattle.fields.proofs.AmountLaws.{amount-again, amount-bytes}
 use Rattle.fields.proofs.NumberLaws.{byte-above-blank, text-bytes, number-again}
 use Rattle.texts.proofs.FindLaws.{find-behind}
-use Rattle.dates.specs.Date.{dateRead}
 use Rattle.dates.proofs.DateLaws.{date-again, date-bytes}
 use Rattle.lines.specs.declared.line.Line.{Line}
 use Rattle.lines.specs.declared.line.LineRead.{LineRead}
 use Rattle.lines.specs.Line.{field, afterField, isLine, lineRead, lineBody, lineAgain}
-use Rattle.lines.proofs.LineLaws.{line-with, line-by, line-read}
+use Rattle.lines.proofs.LineLaws.{line-fields}
 use Rattle.lines.proofs.LineParts.{is-line}
 
 -- whether a byte is another than b
@@ -94,10 +93,11 @@ module _ (x : Line) (good : isLine x ≡ true) where
       let fk = decimal-other 9 l (x .kind) in
       let fd = date-other 9 l x good in
       let fa = amount-other 9 l x good in
-      line-read (n ++ (9 ∷ s₁)) ∙ sym (line-by dateRead (n ++ (9 ∷ s₁)) s₁ s₂ n k number (Value (x .kind)) line
+      sym (line-fields (n ++ (9 ∷ s₁)) s₁ s₂ s₃ n k (x .date) a r
+      number (Value (x .kind)) (record { ok = true; date = x .date }) (Value (x .amount)) (Value (x .receipt)) line
       (sym (field-seam n s₁ fn)) (sym (number-again (x .number) (h .number)))
-      (sym (after-seam n s₁ fn)) (sym (field-seam k s₂ fk)) (sym (kind-again (x .kind) (h .kind))) (sym (after-seam k s₂ fk))
-      (line-with dateRead number (Value (x .kind)) s₂ s₃ (x .date) a r (record { ok = true; date = x .date }) (Value (x .amount)) (Value (x .receipt)) line
-      (sym (field-seam (x .date) s₃ fd)) (sym (date-again (x .date) (h .date))) (sym (after-seam (x .date) s₃ fd))
-      (sym (field-seam a r fa)) (sym (amount-again (x .amount) (within-low 1 999999999 (x .amount) (h .amount)) (omega (arith, within-high 1 999999999 (x .amount) (h .amount)))))
-      (sym (after-seam a r fa)) (sym (receipt-again (x .receipt) (h .receipt))) refl))
+      (sym (after-seam n s₁ fn)) (sym (field-seam k s₂ fk)) (sym (kind-again (x .kind) (h .kind)))
+      (sym (after-seam k s₂ fk)) (sym (field-seam (x .date) s₃ fd)) (sym (date-again (x .date) (h .date)))
+      (sym (after-seam (x .date) s₃ fd)) (sym (field-seam a r fa))
+      (sym (amount-again (x .amount) (within-low 1 999999999 (x .amount) (h .amount)) (omega (arith, within-high 1 999999999 (x .amount) (h .amount)))))
+      (sym (after-seam a r fa)) (sym (receipt-again (x .receipt) (h .receipt))) refl)

@@ -17,39 +17,17 @@ use Rattle.fields.specs.declared.number.NumberRead.{NumberRead}
 use Rattle.dates.specs.declared.date.DateRead.{DateRead}
 use Rattle.fields.specs.Amount.{isAmount, amountRead}
 use Rattle.fields.specs.Codes.{isReceipt, receiptRead, isKind, kindRead}
-use Rattle.fields.specs.Number.{isNumber, numberRead}
+use Rattle.fields.specs.declared.number.Number.{Number}
+use Rattle.fields.specs.Number.{isNumber, isNumberText, numberOf, numberRead}
+use Rattle.fields.proofs.NumberLaws.{number-short}
 use Rattle.days.specs.declared.calendar.Day.{Day}
 use Rattle.days.specs.Calendar.{onDay}
-use Rattle.dates.specs.Date.{dateDay, isWritten, noDate, dateRead, dateReadOn}
+use Rattle.dates.specs.Date.{dateDay, isWritten, dateRead}
+use Rattle.dates.proofs.DateLaws.{on-written, written-parts}
 use Rattle.lines.specs.declared.line.Line.{Line}
 use Rattle.lines.specs.declared.line.LineRead.{LineRead}
-use Rattle.lines.specs.Line.{field, afterField, noLine, lineOf, lineRead, lineReadOn, isLine}
-use Rattle.lines.specs.LineText.{lineWith, lineBy}
-
--- ---- five fields that were read
-module _ (n : NumberRead) (k : Digits) (d : DateRead) (a r : Digits) where
-  module _ (x : LineRead) (none : x ≡ noLine) where
-    pub no-kind : k ≡ Malformed → x ≡ lineOf n k d a r
-    no-kind e = none ∙ rw e
-
-    module _ (v : ℕ) (ek : k ≡ Value v) where
-      pub no-amount : a ≡ Malformed → x ≡ lineOf n k d a r
-      no-amount e = none ∙ rw (ek, e)
-
-      module _ (w : ℕ) (ea : a ≡ Value w) where
-        pub no-receipt : r ≡ Malformed → x ≡ lineOf n k d a r
-        no-receipt e = none ∙ rw (ek, ea, e)
-
-        module _ (u : ℕ) (er : r ≡ Value u) where
-          pub no-number : n .ok ≡ false → x ≡ lineOf n k d a r
-          no-number e = none ∙ rw (ek, ea, er, e)
-
-          pub no-date : d .ok ≡ false → x ≡ lineOf n k d a r
-          no-date e = none ∙ rw (ek, ea, er, e) (simp and-false)
-
-  pub line-good : (v : ℕ) → k ≡ Value v → (w : ℕ) → a ≡ Value w → (u : ℕ) → r ≡ Value u → n .ok ≡ true → d .ok ≡ true
-      → record { ok = true; line = record { number = n .number; kind = v; date = d .date; amount = w; receipt = u } } ≡ lineOf n k d a r
-  line-good v ek w ea u er en ed = rw (ek, ea, er, en, ed)
+use Rattle.lines.specs.Line.{field, afterField, noLine, lineOf, lineRead, isLine}
+use Rattle.lines.specs.LineText.{lineKept, lineReadOn, lineWith}
 
 -- the first 09 is at p
 module _ (s t : List ℕ) (p : ℕ) where
@@ -62,51 +40,104 @@ module _ (s t : List ℕ) (p : ℕ) where
 pub behind-fits : (s : List ℕ) (p : ℕ) → p ≡ find 9 s → length s * 1 < 2 ^ 63 → Fits w64 (p + 1)
 behind-fits s p e h = let l : p ≤ length s = rw e (find-le 9 s) in omega arith
 
--- ---- a line whose date `date` reads
-module _ (date : List ℕ → DateRead) where
-  pub line-with : (n : NumberRead) (k : Digits) (s s₁ f f₁ f₂ : List ℕ) (d : DateRead) (a r : Digits) (x : LineRead) → f ≡ field s → d ≡ date f
-      → s₁ ≡ afterField s → f₁ ≡ field s₁ → a ≡ amountRead f₁ → f₂ ≡ afterField s₁ → r ≡ receiptRead f₂ → x ≡ lineOf n k d a r → x ≡ lineWith date n k s
-  unfolding lineWith
-  line-with n k s s₁ f f₁ f₂ d a r x g ed e₁ g₁ ea g₂ er e = e ∙ rw (ed, ea, er, g, g₁, g₂, e₁)
+-- what was judged a number is short
+pub name-short : (f : List ℕ) (t : Bool) → t ≡ isNumberText f → not t ≡ false → length f ≤ 30
+name-short f t e h = number-short f t e (not-false t h)
 
-  pub line-by : (s s₁ s₂ f f₁ : List ℕ) (n : NumberRead) (k : Digits) (x : LineRead) → f ≡ field s → n ≡ numberRead f
-      → s₁ ≡ afterField s → f₁ ≡ field s₁ → k ≡ kindRead f₁ → s₂ ≡ afterField s₁ → x ≡ lineWith date n k s₂ → x ≡ lineBy date s
-  unfolding lineBy
-  line-by s s₁ s₂ f f₁ n k x g en e₁ g₁ ek e₂ e = e ∙ rw (en, ek, g, g₁, e₂, e₁)
+-- ---- a line of five fields
+pub line-fields : (s s₁ s₂ s₃ f₁ f₂ f₃ f₄ f₅ : List ℕ) (n : NumberRead) (k : Digits) (d : DateRead) (a r : Digits) (x : LineRead)
+    → f₁ ≡ field s → n ≡ numberRead f₁ → s₁ ≡ afterField s → f₂ ≡ field s₁ → k ≡ kindRead f₂ → s₂ ≡ afterField s₁ → f₃ ≡ field s₂ → d ≡ dateRead f₃
+    → s₃ ≡ afterField s₂ → f₄ ≡ field s₃ → a ≡ amountRead f₄ → f₅ ≡ afterField s₃ → r ≡ receiptRead f₅ → x ≡ lineOf n k d a r → x ≡ lineRead s
+unfolding lineRead
+line-fields s s₁ s₂ s₃ f₁ f₂ f₃ f₄ f₅ n k d a r x g₁ en e₁ g₂ ek e₂ g₃ ed e₃ g₄ ea g₅ er e =
+    e ∙ rw (en, ek, ed, ea, er, g₁, g₂, g₃, g₄, g₅, e₃, e₂, e₁)
 
-pub line-read : (s : List ℕ) → lineRead s ≡ lineBy dateRead s
-unfolding lineRead lineBy lineWith
-line-read s = refl
+-- a field that is malformed
+of-none : (n : NumberRead) (k : Digits) (d : DateRead) (a r : Digits) → n .ok ≡ false → lineOf n k d a r ≡ noLine
+of-none n Malformed d a r e = refl
+of-none n (Value k) d Malformed r e = refl
+of-none n (Value k) d (Value a) Malformed e = refl
+of-none n (Value k) d (Value a) (Value r) e = rw e
 
 -- ---- a line of the day
 module _ (day : Day) where
-  abbrev lineKept : LineRead → LineRead
-  lineKept x = cond (x .ok && onDay day (dateDay (x .line .date))) x noLine
-
-  abbrev dateKept : DateRead → DateRead
-  dateKept d = cond (d .ok && onDay day (dateDay (d .date))) d noDate
-
-  -- a line is of the day where its date is
-  of-on : (n : NumberRead) (k : Digits) (d : DateRead) (a r : Digits) → lineKept (lineOf n k d a r) ≡ lineOf n k (dateKept d) a r
-  of-on n Malformed d a r = refl
-  of-on n (Value k) d Malformed r = refl
-  of-on n (Value k) d (Value a) Malformed = refl
-  of-on n (Value k) d (Value a) (Value r) = go (n .ok) refl (d .ok) refl (onDay day (dateDay (d .date))) refl
+  -- a date that is not on the day
+  of-off : (n : NumberRead) (k : Digits) (f : List ℕ) (a r : Digits) → onDay day (dateDay f) ≡ false → lineKept day (lineOf n k (dateRead f) a r) ≡ noLine
+  of-off n Malformed f a r o = refl
+  of-off n (Value k) f Malformed r o = refl
+  of-off n (Value k) f (Value a) Malformed o = refl
+  of-off n (Value k) f (Value a) (Value r) o = go (n .ok) refl (isWritten f) refl
     where
-      go : (p : Bool) → n .ok ≡ p → (q : Bool) → d .ok ≡ q → (t : Bool) → onDay day (dateDay (d .date)) ≡ t
-          → lineKept (lineOf n (Value k) d (Value a) (Value r)) ≡ lineOf n (Value k) (dateKept d) (Value a) (Value r)
-      go false en q ed t et = rw en
-      go true en false ed t et = rw (en, ed)
-      go true en true ed false et = rw (en, ed, et)
-      go true en true ed true et = rw (en, ed, et)
+      go : (p : Bool) → n .ok ≡ p → (q : Bool) → isWritten f ≡ q → lineKept day (lineOf n (Value k) (dateRead f) (Value a) (Value r)) ≡ noLine
+      go false en q ew = rw en
+      go true en false ew = unfold dateRead in rw (en, ew)
+      go true en true ew = unfold dateRead in rw (en, ew, o)
 
-  pub line-on : (s : List ℕ) (x : LineRead) → x ≡ lineBy (dateReadOn day) s → x ≡ lineReadOn day s
-  unfolding lineRead lineReadOn lineBy lineWith dateReadOn
-  line-on s x e =
-      let s₁ = afterField s in
-      let s₂ = afterField s₁ in
-      let s₃ = afterField s₂ in
-      e ∙ sym (of-on (numberRead (field s)) (kindRead (field s₁)) (dateRead (field s₂)) (amountRead (field s₃)) (receiptRead (afterField s₃)))
+  -- the text of date, amount and receipt
+  module _ (f : List ℕ) (t : Bool) (judged : t ≡ onDay day (dateDay f)) (held : not t ≡ false) where
+    on-day : onDay day (dateDay f) ≡ true
+    on-day = sym judged ∙ not-false t held
+
+    pub is-nineteen : length f ≡ 19
+    is-nineteen = written-parts f (on-written f day on-day) .size
+
+    pub with-good : (name s s₁ f₁ f₂ : List ℕ) (v : ℕ) → f ≡ field s → s₁ ≡ afterField s
+        → (a : Digits) → f₁ ≡ field s₁ → a ≡ amountRead f₁ → (w : ℕ) → a ≡ Value w
+        → (r : Digits) → f₂ ≡ afterField s₁ → r ≡ receiptRead f₂ → (u : ℕ) → r ≡ Value u
+        → (n : Number) → n ≡ numberOf name → (d : List ℕ) → d ≡ f
+        → record { ok = true; line = record { number = n; kind = v; date = d; amount = w; receipt = u } } ≡ lineWith day name v s
+    unfolding lineWith dateRead
+    with-good name s s₁ f₁ f₂ v g e₁ a g₁ ea w aw r g₂ er u ru n en d ed =
+        let za : amountRead (field (afterField s)) ≡ Value w = rw (← e₁, ← g₁, ← ea) aw in
+        let zr : receiptRead (afterField (afterField s)) ≡ Value u = rw (← e₁, ← g₂, ← er) ru in
+        rw (za, zr, ← g, on-written f day on-day, on-day, en, ed)
+
+  module _ (name s : List ℕ) (v : ℕ) (x : LineRead) (none : x ≡ noLine) where
+    pub with-off : (t : Bool) → not t ≡ true → (f : List ℕ) → t ≡ onDay day (dateDay f) → f ≡ field s → x ≡ lineWith day name v s
+    unfolding lineWith
+    with-off t h f e g =
+        let s₁ = afterField s in
+        none ∙ sym (of-off (record { ok = true; number = numberOf name }) (Value v) (field s) (amountRead (field s₁)) (receiptRead (afterField s₁)) (rw (← g, ← e) (not-true t h)))
+
+    module _ (s₁ : List ℕ) (e₁ : s₁ ≡ afterField s) (f₁ : List ℕ) (g₁ : f₁ ≡ field s₁) (a : Digits) (ea : a ≡ amountRead f₁) where
+      pub with-no-amount : a ≡ Malformed → x ≡ lineWith day name v s
+      unfolding lineWith
+      with-no-amount m =
+          let z : amountRead (field (afterField s)) ≡ Malformed = rw (← e₁, ← g₁, ← ea) m in
+          none ∙ rw z
+
+      pub with-no-receipt : (w : ℕ) → a ≡ Value w → (r : Digits) → r ≡ Malformed → (f₂ : List ℕ) → r ≡ receiptRead f₂ → f₂ ≡ afterField s₁ → x ≡ lineWith day name v s
+      unfolding lineWith
+      with-no-receipt w aw r m f₂ er g₂ =
+          let za : amountRead (field (afterField s)) ≡ Value w = rw (← e₁, ← g₁, ← ea) aw in
+          let zr : receiptRead (afterField (afterField s)) ≡ Malformed = rw (← e₁, ← g₂, ← er) m in
+          none ∙ rw (za, zr)
+
+  -- the whole text
+  module _ (s : List ℕ) (x : LineRead) where
+    pub read-no-number : x ≡ noLine → (t : Bool) → not t ≡ true → (f : List ℕ) → t ≡ isNumberText f → f ≡ field s → x ≡ lineReadOn day s
+    unfolding lineRead lineReadOn numberRead
+    read-no-number none t h f e g =
+        let z : isNumberText (field s) ≡ false = rw (← g, ← e) (not-true t h) in
+        let o : (numberRead (field s)) .ok ≡ false = rw z in
+        let s₁ = afterField s in
+        let s₂ = afterField s₁ in
+        let s₃ = afterField s₂ in
+        none ∙ rw (of-none (numberRead (field s)) (kindRead (field s₁)) (dateRead (field s₂)) (amountRead (field s₃)) (receiptRead (afterField s₃)) o)
+
+    pub read-no-kind : x ≡ noLine → (k : Digits) → k ≡ Malformed → (f₁ : List ℕ) → k ≡ kindRead f₁ → (s₁ : List ℕ) → f₁ ≡ field s₁ → s₁ ≡ afterField s → x ≡ lineReadOn day s
+    unfolding lineRead lineReadOn
+    read-no-kind none k m f₁ ek s₁ g₁ e₁ =
+        let z : kindRead (field (afterField s)) ≡ Malformed = rw (← e₁, ← g₁, ← ek) m in
+        none ∙ rw z
+
+    pub read-with : (f s₁ f₁ s₂ : List ℕ) (v : ℕ) → x ≡ lineWith day f v s₂ → f ≡ field s → s₁ ≡ afterField s → s₂ ≡ afterField s₁ → f₁ ≡ field s₁
+        → (k : Digits) → k ≡ kindRead f₁ → k ≡ Value v → (t : Bool) → t ≡ isNumberText f → not t ≡ false → x ≡ lineReadOn day s
+    unfolding lineRead lineReadOn lineWith numberRead
+    read-with f s₁ f₁ s₂ v e g e₁ e₂ g₁ k ek kv t et h =
+        let zk : kindRead (field (afterField s)) ≡ Value v = rw (← e₁, ← g₁, ← ek) kv in
+        let zn : isNumberText (field s) ≡ true = rw (← g, ← et) (not-false t h) in
+        e ∙ rw (zk, zn, e₂, e₁, g)
 
   module _ (l : List ℕ) (x : LineRead) (read : x ≡ lineReadOn day l) where
     pub on-ok : x .ok ≡ (lineRead l) .ok && onDay day (dateDay ((lineRead l) .line .date))

@@ -6,15 +6,13 @@ use lib.ListN.{take, drop, replicate}
 use Rattle.texts.specs.declared.digits.Digits.{Digits}
 use Rattle.texts.specs.declared.digits.Digits.the-variants.{Value, Malformed}
 use Rattle.fields.specs.declared.number.NumberRead.{NumberRead}
-use Rattle.days.specs.declared.calendar.Day.{Day}
 use Rattle.dates.specs.declared.date.DateRead.{DateRead}
 use Rattle.texts.specs.Lists.{find}
 use Rattle.texts.specs.Digits.{decimal}
 use Rattle.fields.specs.Amount.{isAmount, amountRead, amountBytes}
 use Rattle.fields.specs.Codes.{isReceipt, receiptRead, isKind, kindRead}
 use Rattle.fields.specs.Number.{isNumber, numberText, numberOf, numberRead}
-use Rattle.days.specs.Calendar.{onDay}
-use Rattle.dates.specs.Date.{dateDay, isWritten, dateRead, emptyDate}
+use Rattle.dates.specs.Date.{isWritten, dateRead, emptyDate}
 use Rattle.lines.specs.declared.line.Line.{Line}
 use Rattle.lines.specs.declared.line.LineRead.{LineRead}
 
@@ -47,10 +45,6 @@ lineRead s =
     let s₂ = afterField s₁ in
     let s₃ = afterField s₂ in
     lineOf (numberRead (field s)) (kindRead (field s₁)) (dateRead (field s₂)) (amountRead (field s₃)) (receiptRead (afterField s₃))
-
--- the line that is read, where its date is on the day
-unfoldable pub lineReadOn : Day → List ℕ → LineRead
-lineReadOn day s = cond ((lineRead s) .ok && onDay day (dateDay ((lineRead s) .line .date))) (lineRead s) noLine
 
 -- ---- writing one
 unfoldable pub isLine : Line → Bool

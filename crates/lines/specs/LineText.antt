@@ -1,25 +1,32 @@
 -- How the code puts a line together and takes it apart. Cited by inner contracts only: it needs no belief.
 use Prim.Native.Nat.{ℕ}
 use mathlib.Core.List.{List, _∷_, _++_}
+use mathlib.Core.Bool.{true, cond, _&&_}
 use lib.ListN.{replicate}
-use Rattle.texts.specs.declared.digits.Digits.{Digits}
-use Rattle.fields.specs.declared.number.NumberRead.{NumberRead}
+use Rattle.texts.specs.declared.digits.Digits.the-variants.{Value}
 use Rattle.texts.specs.Digits.{decimal}
-use Rattle.fields.specs.Number.{numberText, numberRead}
+use Rattle.fields.specs.Number.{numberText, numberOf}
 use Rattle.fields.specs.Amount.{amountRead}
-use Rattle.fields.specs.Codes.{receiptRead, kindRead}
-use Rattle.dates.specs.declared.date.DateRead.{DateRead}
+use Rattle.fields.specs.Codes.{receiptRead}
+use Rattle.days.specs.declared.calendar.Day.{Day}
+use Rattle.days.specs.Calendar.{onDay}
+use Rattle.dates.specs.Date.{dateDay, dateRead}
 use Rattle.lines.specs.declared.line.Line.{Line}
 use Rattle.lines.specs.declared.line.LineRead.{LineRead}
-use Rattle.lines.specs.Line.{field, afterField, lineOf}
+use Rattle.lines.specs.Line.{field, afterField, noLine, lineOf, lineRead}
 
--- the line of a number and a type that were read, and of the text of date, amount and receipt; `date` reads the first of them
-unfoldable pub lineWith : (List ℕ → DateRead) → NumberRead → Digits → List ℕ → LineRead
-lineWith date n k s = lineOf n k (date (field s)) (amountRead (field (afterField s))) (receiptRead (afterField (afterField s)))
+-- a line that was read, where its date is on the day
+abbrev pub lineKept : Day → LineRead → LineRead
+lineKept day x = cond (x .ok && onDay day (dateDay (x .line .date))) x noLine
 
--- the line of a text
-unfoldable pub lineBy : (List ℕ → DateRead) → List ℕ → LineRead
-lineBy date s = lineWith date (numberRead (field s)) (kindRead (field (afterField s))) (afterField (afterField s))
+unfoldable pub lineReadOn : Day → List ℕ → LineRead
+lineReadOn day s = lineKept day (lineRead s)
+
+-- the line of the day of a number's text and a type, and of the text of date, amount and receipt
+unfoldable pub lineWith : Day → List ℕ → ℕ → List ℕ → LineRead
+lineWith day name k s =
+    lineKept day
+    (lineOf (record { ok = true; number = numberOf name }) (Value k) (dateRead (field s)) (amountRead (field (afterField s))) (receiptRead (afterField (afterField s))))
 
 -- the row that a line is put together in
 abbrev pub rowOf9 : List ℕ

@@ -1,22 +1,21 @@
 // One line of a registry: number, type, date, amount and receipt, split by 09.
 use dates::date;
-use dates::date::DateRead;
 use days::calendar::Day;
 use fields::amount;
 use fields::codes;
 use fields::number;
 use fields::number::Number;
-use fields::number::NumberRead;
 use texts::digits;
 use texts::digits::Digits;
 use texts::out;
 use texts::scan;
 ghost use mathlib.Core.Path.{_≡_};
 ghost use mathlib.Core.Bool.{true};
+ghost use Prim.Native.Nat.{_≤_};
+ghost use lib.ListN.{length};
 ghost use Rattle.texts.specs.Lists.{written, cursorAfter};
-ghost use Rattle.dates.specs.Date.{dateReadOn};
-ghost use Rattle.lines.specs.LineText.{lineWith, rowOf9, accountPart};
-ghost use Rattle.lines.specs.Line.{lineReadOn, lineOf, noLine, isLine, lineBytes, lineText};
+ghost use Rattle.lines.specs.LineText.{lineReadOn, lineWith, rowOf9, accountPart};
+ghost use Rattle.lines.specs.Line.{noLine, isLine, lineBytes, lineText};
 
 pub struct Line {
     pub number: Number,
@@ -51,51 +50,35 @@ fn no_line() -> LineRead
     }
 }
 
-// The line of five fields that were read.
-pub(crate) fn line_of(n: NumberRead, k: Digits, d: DateRead, a: Digits, r: Digits) -> LineRead
-    ensures { λ x. ⌜ x ≡ lineOf n k d a r ⌝ }
-{
-    let Digits::Value(kind) = k else {
-        return no_line();
-    };
-    let Digits::Value(amount) = a else {
-        return no_line();
-    };
-    let Digits::Value(receipt) = r else {
-        return no_line();
-    };
-    if n.ok {
-        if d.ok {
-            let number = n.number;
-            let date = d.date;
-            LineRead {
-                ok: true,
-                line: Line {
-                    number,
-                    kind,
-                    date,
-                    amount,
-                    receipt,
-                },
-            }
-        } else {
-            no_line()
-        }
-    } else {
-        no_line()
-    }
-}
-
-// The line of a number and a type that were read, and of the text of the three other fields, its date on the day.
-pub(crate) fn line_with(day: Day, n: NumberRead, k: Digits, s: &[u8]) -> LineRead
-    ensures { λ x. ⌜ x ≡ lineWith (dateReadOn day) n k (now (s .entry)) ⌝ }
+// The line of a number's text and a type, and of the text of the three other fields, its date on the day. Number and date are made
+// once, where every field is known to be well formed.
+pub(crate) fn line_with(day: Day, name: &[u8], kind: u64, s: &[u8]) -> LineRead
+    requires { ⌜ length (now name) ≤ 30 ⌝ }
+    ensures { λ x. ⌜ x ≡ lineWith day (now (name .entry)) kind (now (s .entry)) ⌝ }
 {
     let p = scan::find_byte(s, b'\t');
-    let d = date::read_on(day, scan::first_bytes(s, p));
+    let d = scan::first_bytes(s, p);
+    if !date::is_text_on(day, d) {
+        return no_line();
+    }
     let s1 = scan::bytes_from(s, p + 1);
     let q = scan::find_byte(s1, b'\t');
-    let a = amount::read_amount(scan::first_bytes(s1, q));
-    line_of(n, k, d, a, codes::read_receipt(scan::bytes_from(s1, q + 1)))
+    let Digits::Value(amount) = amount::read_amount(scan::first_bytes(s1, q)) else {
+        return no_line();
+    };
+    let Digits::Value(receipt) = codes::read_receipt(scan::bytes_from(s1, q + 1)) else {
+        return no_line();
+    };
+    LineRead {
+        ok: true,
+        line: Line {
+            number: number::number_of(name),
+            kind,
+            date: date::nineteen(d),
+            amount,
+            receipt,
+        },
+    }
 }
 
 // A line of the day, without its end.
@@ -103,11 +86,16 @@ pub fn read_line(day: Day, s: &[u8]) -> LineRead
     ensures { λ r. ⌜ r ≡ lineReadOn day (now (s .entry)) ⌝ }
 {
     let p = scan::find_byte(s, b'\t');
-    let n = number::read_number(scan::first_bytes(s, p));
+    let name = scan::first_bytes(s, p);
+    if !number::is_text(name) {
+        return no_line();
+    }
     let s1 = scan::bytes_from(s, p + 1);
     let q = scan::find_byte(s1, b'\t');
-    let k = codes::read_kind(scan::first_bytes(s1, q));
-    line_with(day, n, k, scan::bytes_from(s1, q + 1))
+    let Digits::Value(kind) = codes::read_kind(scan::first_bytes(s1, q)) else {
+        return no_line();
+    };
+    line_with(day, name, kind, scan::bytes_from(s1, q + 1))
 }
 
 impl Line {

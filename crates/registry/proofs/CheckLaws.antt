@@ -10,7 +10,8 @@ use lib.Seq.{drop-drop}
 use borrow.Author.Tests.{le-leb, lt-leb, ltb-true, ltb-false}
 use Rattle.days.specs.declared.calendar.Day.{Day}
 use Rattle.lines.specs.declared.line.LineRead.{LineRead}
-use Rattle.lines.specs.Line.{lineRead, lineReadOn}
+use Rattle.lines.specs.Line.{lineRead}
+use Rattle.lines.specs.LineText.{lineReadOn}
 use Rattle.lines.proofs.LineLaws.{on-ok}
 use Rattle.registry.specs.Registry.{lineEnd, splitLines, countOf, lineCount, goodLine, goodLines, heldLines, registryLines, rising, registryFault}
 use Rattle.registry.proofs.SplitLaws.{end-room, count-line, count-rest, good-line, good-rest, held-line}

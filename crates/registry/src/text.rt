@@ -8,7 +8,7 @@ ghost use mathlib.Core.Path.{_≡_};
 ghost use mathlib.Core.Bool.{_&&_, cond};
 ghost use lib.Dec.{ltb, leb, eqb};
 ghost use lib.ListN.{take, drop};
-ghost use Rattle.lines.specs.Line.{lineReadOn};
+ghost use Rattle.lines.specs.LineText.{lineReadOn};
 ghost use Rattle.registry.specs.Registry.{lineEnd, lineCount};
 
 // How many lines a registry has at most.
