@@ -4,13 +4,19 @@ use native.Mathlib.Numerals.{add-one}
 use native.Mathlib.Omega.{arith}
 use mir.Syntax.{w64}
 use mir.Val.{Fits}
-use lib.ListN.{length, take, drop}
+use lib.ListN.{length, getD, take, drop, take-append-drop}
+use lib.Seq.{length-take-le}
+use lib.Dec.{eqb, leb}
 use Rattle.texts.specs.Lists.{find}
+use Rattle.texts.specs.Digits.{isDigit}
+use Rattle.texts.proofs.Tests.{and-left, by-test, no-claim}
+use Rattle.texts.proofs.ListLaws.{drop-next}
+use Rattle.texts.proofs.FindLaws.{find-behind}
 use Rattle.texts.proofs.ScanLaws.{find-le}
 use mathlib.Core.Path.{_≡_, refl, sym, ap, _∙_}
-use mathlib.Core.List.{List}
+use mathlib.Core.List.{List, _∷_, _++_}
 use mathlib.Core.Bool.{Bool, true, false, cond, not, _&&_, and-false}
-use borrow.Author.Tests.{not-true, not-false}
+use borrow.Author.Tests.{ne-eqb, leb-true, not-true, not-false}
 use Rattle.texts.specs.declared.digits.Digits.{Digits}
 use Rattle.texts.specs.declared.digits.Digits.the-variants.{Value, Malformed}
 use Rattle.fields.specs.declared.number.NumberRead.{NumberRead}
@@ -21,13 +27,15 @@ use Rattle.fields.specs.declared.number.Number.{Number}
 use Rattle.fields.specs.Number.{isNumber, isNumberText, numberOf, numberRead}
 use Rattle.fields.proofs.NumberLaws.{number-short}
 use Rattle.days.specs.declared.calendar.Day.{Day}
+use Rattle.days.specs.declared.calendar.DayRead.{DayRead}
+use Rattle.days.specs.declared.calendar.DayRead.the-variants.{Good, NoDate}
 use Rattle.days.specs.Calendar.{onDay}
-use Rattle.dates.specs.Date.{dateDay, isWritten, dateRead}
-use Rattle.dates.proofs.DateLaws.{on-written, written-parts}
+use Rattle.dates.specs.Date.{dateDay, found, isWritten, dateRead}
+use Rattle.dates.proofs.DateLaws.{on-written, written-parts, date-bytes}
 use Rattle.lines.specs.declared.line.Line.{Line}
 use Rattle.lines.specs.declared.line.LineRead.{LineRead}
 use Rattle.lines.specs.Line.{field, afterField, noLine, lineOf, lineRead, isLine}
-use Rattle.lines.specs.LineText.{lineKept, lineReadOn, lineWith}
+use Rattle.lines.specs.LineText.{EndsDate, lineKept, lineReadOn, lineWith}
 
 -- the first 09 is at p
 module _ (s t : List ℕ) (p : ℕ) where
@@ -39,6 +47,55 @@ module _ (s t : List ℕ) (p : ℕ) where
 
 pub behind-fits : (s : List ℕ) (p : ℕ) → p ≡ find 9 s → length s * 1 < 2 ^ 63 → Fits w64 (p + 1)
 behind-fits s p e h = let l : p ≤ length s = rw e (find-le 9 s) in omega arith
+
+-- ---- where the date ends
+none-written : (x : DayRead) → found x ≡ false → x ≡ NoDate
+none-written (Good y) e = no-claim (sym e)
+none-written NoDate e = refl
+
+untabbed : (b : ℕ) → isDigit b ≡ true → not (eqb b 9) ≡ true
+untabbed b h = ap not (ne-eqb b 9 (λ e. omega (arith, e, leb-true 48 b (and-left (leb 48 b) (leb b 57) h))))
+
+module _ (s : List ℕ) where
+  pub ends-found : (p : ℕ) → p ≡ find 9 s → EndsDate s p
+  ends-found p e = (rw e, λ _. e, rw e (find-le 9 s))
+
+  module _ (l : 20 ≤ length s) (t : getD s 19 0 ≡ 9) where
+    cut : take 19 s ++ (9 ∷ drop 20 s) ≡ s
+    cut = ap (λ (u : List ℕ). take 19 s ++ u) (sym (drop-next s 19 l ∙ ap (λ (b : ℕ). b ∷ drop 20 s) t)) ∙ take-append-drop 19 s
+
+    -- no byte of a date is 09
+    written-end : isWritten (take 19 s) ≡ true → 19 ≡ find 9 s
+    written-end h =
+        let every-other = date-bytes (λ b. not (eqb b 9)) (take 19 s) untabbed refl refl refl h in
+        let k : length (take 19 s) ≡ 19 = written-parts (take 19 s) h .size in
+        sym (ap (find 9) (sym cut) ∙ find-behind (λ b. not (eqb b 9)) 9 (take 19 s) (drop 20 s) refl every-other ∙ k)
+
+    field-end : isWritten (field s) ≡ true → 19 ≡ find 9 s
+    field-end h = sym (sym (length-take-le (find 9 s) s (find-le 9 s)) ∙ written-parts (field s) h .size)
+
+    same-date : dateDay (take 19 s) ≡ dateDay (field s)
+    same-date =
+        by-test (isWritten (take 19 s))
+        (λ y. ap (λ (n : ℕ). dateDay (take n s)) (written-end y))
+        (λ n.
+        by-test (isWritten (field s))
+        (λ y. ap (λ (k : ℕ). dateDay (take k s)) (field-end y))
+        (λ m. none-written (dateDay (take 19 s)) n ∙ sym (none-written (dateDay (field s)) m)))
+
+    pub ends-nineteen : EndsDate s 19
+    ends-nineteen = (same-date, written-end, omega arith)
+
+-- a date that was found on the day ends where its field does
+module _ (day : Day) (s f : List ℕ) (p : ℕ) (ends : EndsDate s p) (ef : f ≡ take p s) (t : Bool) (judged : t ≡ onDay day (dateDay f)) where
+  pub end-known : not t ≡ false → p ≡ find 9 s
+  end-known h = ends .1 (ap isWritten (sym ef) ∙ on-written f day (sym judged ∙ not-false t h))
+
+  pub end-off : t ≡ onDay day (dateDay (field s))
+  end-off = judged ∙ ap (onDay day) (ap dateDay ef ∙ ends .0)
+
+pub end-fits : (s : List ℕ) (p : ℕ) → EndsDate s p → length s * 1 < 2 ^ 63 → Fits w64 (p + 1)
+end-fits s p ends h = omega (arith, ends .2)
 
 -- what was judged a number is short
 pub name-short : (f : List ℕ) (t : Bool) → t ≡ isNumberText f → not t ≡ false → length f ≤ 30
@@ -93,11 +150,11 @@ module _ (day : Day) where
         rw (za, zr, ← g, on-written f day on-day, on-day, en, ed)
 
   module _ (name s : List ℕ) (v : ℕ) (x : LineRead) (none : x ≡ noLine) where
-    pub with-off : (t : Bool) → not t ≡ true → (f : List ℕ) → t ≡ onDay day (dateDay f) → f ≡ field s → x ≡ lineWith day name v s
+    pub with-off : (t : Bool) → not t ≡ true → t ≡ onDay day (dateDay (field s)) → x ≡ lineWith day name v s
     unfolding lineWith
-    with-off t h f e g =
+    with-off t h e =
         let s₁ = afterField s in
-        none ∙ sym (of-off (record { ok = true; number = numberOf name }) (Value v) (field s) (amountRead (field s₁)) (receiptRead (afterField s₁)) (rw (← g, ← e) (not-true t h)))
+        none ∙ sym (of-off (record { ok = true; number = numberOf name }) (Value v) (field s) (amountRead (field s₁)) (receiptRead (afterField s₁)) (rw (← e) (not-true t h)))
 
     module _ (s₁ : List ℕ) (e₁ : s₁ ≡ afterField s) (f₁ : List ℕ) (g₁ : f₁ ≡ field s₁) (a : Digits) (ea : a ≡ amountRead f₁) where
       pub with-no-amount : a ≡ Malformed → x ≡ lineWith day name v s

@@ -1,19 +1,25 @@
 -- How the code puts a line together and takes it apart. Cited by inner contracts only: it needs no belief.
-use Prim.Native.Nat.{ℕ}
+use Prim.Native.Nat.{ℕ, _≤_}
+use mathlib.Core.Path.{_≡_}
 use mathlib.Core.List.{List, _∷_, _++_}
 use mathlib.Core.Bool.{true, cond, _&&_}
-use lib.ListN.{replicate}
+use lib.ListN.{length, take, replicate}
 use Rattle.texts.specs.declared.digits.Digits.the-variants.{Value}
+use Rattle.texts.specs.Lists.{find}
 use Rattle.texts.specs.Digits.{decimal}
 use Rattle.fields.specs.Number.{numberText, numberOf}
 use Rattle.fields.specs.Amount.{amountRead}
 use Rattle.fields.specs.Codes.{receiptRead}
 use Rattle.days.specs.declared.calendar.Day.{Day}
 use Rattle.days.specs.Calendar.{onDay}
-use Rattle.dates.specs.Date.{dateDay, dateRead}
+use Rattle.dates.specs.Date.{dateDay, isWritten, dateRead}
 use Rattle.lines.specs.declared.line.Line.{Line}
 use Rattle.lines.specs.declared.line.LineRead.{LineRead}
 use Rattle.lines.specs.Line.{field, afterField, noLine, lineOf, lineRead}
+
+-- p is the end of the field that s begins with, or there is no date up to either; and it is within s
+abbrev pub EndsDate : List ℕ → ℕ → Type 0
+EndsDate s p = (dateDay (take p s) ≡ dateDay (field s)) × (isWritten (take p s) ≡ true → p ≡ find 9 s) × (p ≤ length s)
 
 -- a line that was read, where its date is on the day
 abbrev pub lineKept : Day → LineRead → LineRead

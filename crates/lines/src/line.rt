@@ -14,7 +14,7 @@ ghost use mathlib.Core.Bool.{true};
 ghost use Prim.Native.Nat.{_≤_};
 ghost use lib.ListN.{length};
 ghost use Rattle.texts.specs.Lists.{written, cursorAfter};
-ghost use Rattle.lines.specs.LineText.{lineReadOn, lineWith, rowOf9, accountPart};
+ghost use Rattle.lines.specs.LineText.{EndsDate, lineReadOn, lineWith, rowOf9, accountPart};
 ghost use Rattle.lines.specs.Line.{noLine, isLine, lineBytes, lineText};
 
 pub struct Line {
@@ -50,13 +50,26 @@ fn no_line() -> LineRead
     }
 }
 
+// Where the date that a text begins with ends: it has nineteen bytes, so a 09 behind these is looked for first.
+fn date_end(s: &[u8]) -> usize
+    ensures { λ r. ⌜ EndsDate (now (s .entry)) r ⌝ }
+{
+    if s.len() < 20 {
+        return scan::find_byte(s, b'\t');
+    }
+    if s[19] == b'\t' {
+        return 19;
+    }
+    scan::find_byte(s, b'\t')
+}
+
 // The line of a number's text and a type, and of the text of the three other fields, its date on the day. Number and date are made
 // once, where every field is known to be well formed.
 pub(crate) fn line_with(day: Day, name: &[u8], kind: u64, s: &[u8]) -> LineRead
     requires { ⌜ length (now name) ≤ 30 ⌝ }
     ensures { λ x. ⌜ x ≡ lineWith day (now (name .entry)) kind (now (s .entry)) ⌝ }
 {
-    let p = scan::find_byte(s, b'\t');
+    let p = date_end(s);
     let d = scan::first_bytes(s, p);
     if !date::is_text_on(day, d) {
         return no_line();

@@ -1,16 +1,17 @@
 use borrow.Author.Needs.{needs}
-use Rattle.lines.proofs.LineLaws.{field-at, after-at, behind-fits, is-nineteen, with-off, with-no-amount, with-no-receipt, with-good}
+use Rattle.lines.proofs.LineLaws.{field-at, after-at, behind-fits, end-known, end-off, end-fits, is-nineteen, with-off, with-no-amount, with-no-receipt, with-good}
 use Rattle.lines.proofs.line.line_with.Statement.{statement}
 use Rattle.lines.proofs.line.line_with.Tie as tie
 
-ruleset laws = (field-at, behind-fits, with-off, needs)
+ruleset laws = (behind-fits, end-off, end-fits, with-off, needs)
 
 no-amount : tie.Need-returns-2
 no-amount c =
     let a = c .before .before .before in
     let s = a .before .before .before in
-    let p = s .before .before .before .before .find-byte .ensures in
-    let q = a .before .before .find-byte2 .ensures in
+    let d = s .before .before in
+    let p = end-known _ _ _ _ (d .before .before .date-end .ensures) (d .before .first-bytes .ensures) _ (d .is-text-on .ensures) (s .before .if1 .left) in
+    let q = a .before .before .find-byte .ensures in
     with-no-amount _ _ _ _ _ (c .no-line2 .ensures) _ (after-at _ _ _ (s .bytes-from .ensures) p) _ (field-at _ _ _ (a .before .first-bytes2 .ensures) q) _ (a .read-amount .ensures)
     (c .before .enum-told .given .1)
 
@@ -20,8 +21,9 @@ no-receipt c =
     let w = r .before .before .before in
     let a = w .before .before in
     let s = a .before .before .before in
-    let p = s .before .before .before .before .find-byte .ensures in
-    let q = a .before .before .find-byte2 .ensures in
+    let d = s .before .before in
+    let p = end-known _ _ _ _ (d .before .before .date-end .ensures) (d .before .first-bytes .ensures) _ (d .is-text-on .ensures) (s .before .if1 .left) in
+    let q = a .before .before .find-byte .ensures in
     with-no-receipt _ _ _ _ _ (c .no-line3 .ensures) _ (after-at _ _ _ (s .bytes-from .ensures) p) _ (field-at _ _ _ (a .before .first-bytes2 .ensures) q) _ (a .read-amount .ensures)
     _ (w .amount .given .1) _ (c .before .enum-told2 .given .1) _ (r .read-receipt .ensures) (after-at _ _ _ (r .before .bytes-from2 .ensures) q)
 
@@ -38,8 +40,8 @@ good c =
     let a = w .before .before in
     let s = a .before .before .before in
     let d = s .before .before in
-    let p = d .before .before .find-byte .ensures in
-    let q = a .before .before .find-byte2 .ensures in
+    let p = end-known _ _ _ _ (d .before .before .date-end .ensures) (d .before .first-bytes .ensures) _ (d .is-text-on .ensures) (s .before .if1 .left) in
+    let q = a .before .before .find-byte .ensures in
     with-good _ _ _ (d .is-text-on .ensures) (s .before .if1 .left) _ _ _ _ _ _ (field-at _ _ _ (d .before .first-bytes .ensures) p) (after-at _ _ _ (s .bytes-from .ensures) p)
     _ (field-at _ _ _ (a .before .first-bytes2 .ensures) q) (a .read-amount .ensures) _ (w .amount .given .1)
     _ (after-at _ _ _ (r .before .bytes-from2 .ensures) q) (r .read-receipt .ensures) _ (u .receipt .given .1)
