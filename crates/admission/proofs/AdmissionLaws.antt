@@ -9,6 +9,9 @@ use lib.ListN.{length}
 use borrow.Author.Tests.{le-leb, lt-leb, leb-true, not-true, not-false}
 use Rattle.dates.specs.Date.{isWritten}
 use Rattle.table.specs.declared.Gate.{Gate}
+use Rattle.table.specs.declared.Head.{Head}
+use Rattle.table.specs.Columns.{Columns, gateOf, headOf}
+use Rattle.table.proofs.ColumnLaws.{in-columns}
 use Rattle.table.specs.Table.{Rows}
 use Rattle.validity.specs.Valid.{tableGood, Ready}
 use Rattle.admission.specs.Delivery.{Delivery, undelivered, admission, admitted}
@@ -73,3 +76,11 @@ module _ (g : Gate) (t : Rows) (clock : List ℕ) (room : ℕ) (b : Bool) (eb : 
 
 pub admit-ready : (g : Gate) (t : Rows) (b : Bool) → (b ≡ true → Ready g t) → not b ≡ false → Ready g t
 admit-ready g t b ready h = ready (not-false b h)
+
+-- ---- a gate that was put into columns
+module _ (g : Gate) (h : Head) (a : Columns) (unpacked : gateOf (headOf g) a ≡ g) (eh : h ≡ headOf g) (t : Rows) where
+  pub admit-packed : (clock : List ℕ) (room f : ℕ) → f ≡ admission (gateOf h a) t clock room → f ≡ admission g t clock room
+  admit-packed clock room f e = e ∙ ap (λ (x : Gate). admission x t clock room) (in-columns g h a unpacked eh)
+
+  pub ready-packed : Ready (gateOf h a) t → Ready g t
+  ready-packed r = rw (← in-columns g h a unpacked eh) r

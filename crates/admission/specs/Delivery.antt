@@ -8,7 +8,9 @@ use Rattle.dates.specs.Date.{isWritten}
 use Rattle.table.specs.declared.Gate.{Gate}
 use Rattle.table.specs.Table.{Rows}
 use Rattle.validity.specs.Valid.{tableGood}
+use Rattle.table.specs.Columns.{Columns, gateOf}
 use Rattle.ledger.specs.declared.Reply.{Reply}
+use Rattle.ledger.specs.declared.HeadReply.{HeadReply}
 
 -- the code, the gate, the rows and the buffer, whose first `size` bytes are the answer or the report (none where nothing is written)
 pub record Delivery : Type 0 where
@@ -20,6 +22,10 @@ pub record Delivery : Type 0 where
 
 abbrev pub deliveryOf : Reply → Rows → List ℕ → Delivery
 deliveryOf r rows out = record { code = r .code; gate = r .gate; rows = rows; out = out; size = r .size }
+
+-- the same where the accounts are lent in columns
+abbrev pub lentDelivery : HeadReply → Columns → Rows → List ℕ → Delivery
+lentDelivery r a rows out = record { code = r .code; gate = gateOf (r .head) a; rows = rows; out = out; size = r .size }
 
 -- nothing is written, and all is kept
 abbrev pub undelivered : ℕ → Gate → Rows → List ℕ → Delivery

@@ -28,21 +28,30 @@ use Rattle.payments.specs.declared.Answer.{Answer}
 use Rattle.answers.specs.Answer.{answerBytes}
 use Rattle.table.specs.declared.Record.{Record}
 use Rattle.table.specs.declared.Gate.{Gate}
-use Rattle.table.specs.Table.{Rows, recordsOf}
-use Rattle.planning.specs.Plan.{planOf}
-use Rattle.ledger.specs.Change.{executed, Made}
+use Rattle.table.specs.Table.{Rows}
+use Rattle.table.specs.declared.Head.{Head}
+use Rattle.table.proofs.ColumnLaws.{by-columns}
+use Rattle.table.specs.Columns.{Columns, gateOf, headOf}
+use Rattle.ledger.specs.Change.{Executes}
 use Rattle.rules.specs.Answering.{answerOf}
 use Rattle.gate.specs.Deliver.{instructionOf, respond, deliver}
 use Rattle.admission.specs.Delivery.{Delivery, admission}
 use Rattle.admission.proofs.AdmissionLaws.{refused-by, admitted-by}
 
 pub executed-answered : (g : Gate) (t : Rows) (clock : List ℕ) (fault : ℕ) (q : Asked) (out : List ℕ) (i : Instruction) (code : ℕ) (gate : Gate) (subject : Record) (rows : Rows) (x : Answer) (left : List ℕ) (size : ℕ)
-    → i ≡ instructionOf q → code ≡ (planOf g (recordsOf t (g .used)) (length (t .nums)) fault i) .decided .code
-    → Made t (executed g (recordsOf t (g .used)) clock i (planOf g (recordsOf t (g .used)) (length (t .nums)) fault i)) gate subject rows
+    → i ≡ instructionOf q → Executes g t clock fault i code gate subject rows
     → x ≡ answerOf (q .action) code subject clock → size ≡ cursorAfter out 0 (answerBytes x) → left ≡ written out 0 (answerBytes x)
     → _≡_ {A = Delivery} (record { code = code; gate = gate; rows = rows; out = left; size = size }) (respond g t clock fault (instructionOf q) out)
 unfolding respond
-executed-answered g t clock fault q out i code gate subject rows x left size ei ec made ex es el = rw (← ei, el, es, ex, ec, made .subjects, made .gates, made .left, ei)
+executed-answered g t clock fault q out i code gate subject rows x left size ei done ex es el =
+    let made = done .made in rw (← ei, el, es, ex, done .codes, made .subjects, made .gates, made .left, ei)
+
+-- the gate by value is the one that was put into columns
+pub delivered-packed : (g : Gate) (h h′ : Head) (a a′ : Columns) (t t′ : Rows) (clock params out out′ : List ℕ) (code size : ℕ) (gate : Gate) → gateOf (headOf g) a ≡ g → h ≡ headOf g
+    → _≡_ {A = Delivery} (record { code = code; gate = gateOf h′ a′; rows = t′; out = out′; size = size }) (deliver (gateOf h a) t clock params out)
+    → gate ≡ gateOf h′ a′ → _≡_ {A = Delivery} (record { code = code; gate = gate; rows = t′; out = out′; size = size }) (deliver g t clock params out)
+delivered-packed g h h′ a a′ t t′ clock params out out′ code size gate unpacked eh done packed =
+    by-columns (λ (x : Gate). record { code = code; gate = x; rows = t′; out = out′; size = size }) (λ (x : Gate). deliver x t clock params out) g gate h h′ a a′ unpacked eh packed done
 
 -- what a request asks is in its range whatever the wire
 pub instruction-amount : (q : Asked) (i : Instruction) → i ≡ instructionOf q → q .amount < 1000000000 → i .details .amount < 1000000000

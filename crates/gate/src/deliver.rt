@@ -1,5 +1,6 @@
 // A request delivered to the gate.
 use answers::write;
+use ledger::HeadReply;
 use ledger::Reply;
 use ledger::change;
 use message::request;
@@ -9,13 +10,16 @@ use payments::Details;
 use payments::Instruction;
 use rules::answer;
 use table::Gate;
+use table::Head;
+use table::columns;
 ghost use mathlib.Core.Path.{_≡_};
 ghost use mathlib.Core.Bool.{true};
 ghost use Prim.Native.Nat.{_<_};
 ghost use Rattle.table.specs.Lent.{lent, before, after};
+ghost use Rattle.table.specs.Columns.{gateOf, columnsLent, columnsBefore, columnsMoved};
 ghost use Rattle.validity.specs.Valid.{Ready, tableGood};
 ghost use Rattle.gate.specs.Deliver.{instructionOf, respond, deliver};
-ghost use Rattle.admission.specs.Delivery.{deliveryOf};
+ghost use Rattle.admission.specs.Delivery.{deliveryOf, lentDelivery};
 
 // What a request of this wire asks, whatever the wire.
 fn instruction_of(q: Asked) -> Instruction
@@ -39,27 +43,85 @@ fn answer_read(
     nums: &mut [[u64; 6]],
     numbers: &mut [[u8; 30]],
     dates: &mut [[[u8; 19]; 3]],
-    g: Gate,
+    names: &[[u8; 30]; 256],
+    keys: &[[u64; 2]; 256],
+    balances: &mut [i64; 256],
+    head: Head,
     clock: [u8; 19],
     q: RequestRead,
     out: &mut [u8],
-) -> Reply
-    requires { ⌜ Ready g (lent nums numbers dates) ⌝ }
-    requires { ⌜ (tableGood g (lent nums numbers dates) ≡ true) × (q .asked .amount < 1000000000) ⌝ }
-    ensures { λ r. ⌜ deliveryOf r (after nums numbers dates) (now (out .exit)) ≡ respond g (before nums numbers dates) clock (q .fault) (instructionOf (q .asked)) (now (out .entry)) ⌝ }
+) -> HeadReply
+    requires { ⌜ Ready (gateOf head (columnsLent names keys balances)) (lent nums numbers dates) ⌝ }
+    requires { ⌜ (tableGood (gateOf head (columnsLent names keys balances)) (lent nums numbers dates) ≡ true) × (q .asked .amount < 1000000000) ⌝ }
+    ensures { λ r. ⌜ lentDelivery r (columnsMoved names keys balances) (after nums numbers dates) (now (out .exit))
+        ≡ respond (gateOf head (columnsBefore names keys balances)) (before nums numbers dates) clock (q .fault) (instructionOf (q .asked)) (now (out .entry)) ⌝ }
 {
     let asked = q.asked;
     let instruction = instruction_of(asked);
-    let x = change::execute(nums, numbers, dates, g, clock, q.fault, instruction);
+    let x = change::execute(
+        nums,
+        numbers,
+        dates,
+        names,
+        keys,
+        balances,
+        head,
+        clock,
+        q.fault,
+        instruction,
+    );
     let a = asked.action;
     let code = x.code;
     let subject = x.subject;
     let size = write::write_answer(answer::answer_of(a, code, subject, clock), out, 0);
-    let gate = x.gate;
-    Reply { code, gate, size }
+    let mut left = head;
+    left.used = x.used;
+    HeadReply {
+        code,
+        head: left,
+        size,
+    }
 }
 
-// A request delivered to the gate: 68, 50 and 51 keep all; any other code is answered in the buffer.
+// A request delivered to the gate, its accounts lent in columns: 68, 50 and 51 keep all; any other code is answered in the buffer.
+pub fn deliver_lent(
+    nums: &mut [[u64; 6]],
+    numbers: &mut [[u8; 30]],
+    dates: &mut [[[u8; 19]; 3]],
+    names: &[[u8; 30]; 256],
+    keys: &[[u64; 2]; 256],
+    balances: &mut [i64; 256],
+    head: Head,
+    clock: [u8; 19],
+    params: &[u8],
+    out: &mut [u8],
+) -> HeadReply
+    ensures { λ r. ⌜ lentDelivery r (columnsMoved names keys balances) (after nums numbers dates) (now (out .exit))
+        ≡ deliver (gateOf head (columnsBefore names keys balances)) (before nums numbers dates) clock (now (params .entry)) (now (out .entry)) ⌝ }
+{
+    let fault = admission::admit(
+        nums,
+        numbers,
+        dates,
+        names,
+        keys,
+        balances,
+        head,
+        clock,
+        out.len(),
+    );
+    if fault != 0 {
+        return HeadReply {
+            code: fault,
+            head,
+            size: 0,
+        };
+    }
+    let q = request::read_request(params);
+    answer_read(nums, numbers, dates, names, keys, balances, head, clock, q, out)
+}
+
+// The same with the gate by value.
 pub fn deliver(
     nums: &mut [[u64; 6]],
     numbers: &mut [[u8; 30]],
@@ -71,14 +133,26 @@ pub fn deliver(
 ) -> Reply
     ensures { λ r. ⌜ deliveryOf r (after nums numbers dates) (now (out .exit)) ≡ deliver gate (before nums numbers dates) clock (now (params .entry)) (now (out .entry)) ⌝ }
 {
-    let fault = admission::admit(nums, numbers, dates, gate, clock, out.len());
-    if fault != 0 {
-        return Reply {
-            code: fault,
-            gate,
-            size: 0,
-        };
+    let mut names = columns::empty_names();
+    let mut keys = columns::empty_keys();
+    let mut balances = columns::empty_balances();
+    columns::unpack(gate, &mut names, &mut keys, &mut balances);
+    let r = deliver_lent(
+        nums,
+        numbers,
+        dates,
+        &names,
+        &keys,
+        &mut balances,
+        columns::head_of(gate),
+        clock,
+        params,
+        out,
+    );
+    let head = r.head;
+    Reply {
+        code: r.code,
+        gate: columns::pack(head, &names, &keys, &balances),
+        size: r.size,
     }
-    let q = request::read_request(params);
-    answer_read(nums, numbers, dates, gate, clock, q, out)
 }

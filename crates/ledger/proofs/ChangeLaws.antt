@@ -15,6 +15,8 @@ use borrow.Author.Tests.{leb-false}
 use Rattle.payments.specs.declared.Instruction.{Instruction}
 use Rattle.table.specs.declared.Record.{Record}
 use Rattle.table.specs.declared.Gate.{Gate}
+use Rattle.table.specs.declared.Head.{Head}
+use Rattle.table.specs.Columns.{gateOf, usedHead, columnsOf}
 use Rattle.lists.specs.declared.Found.{Found}
 use Rattle.lists.specs.declared.Found.the-variants.{At, Nothing}
 use Rattle.table.specs.Table.{Rows, recordsOf, findRecord, rowsFrom, rowsWith, Whole, SameLengths}
@@ -46,16 +48,20 @@ module _ (b r : ℤ) (n : ℕ) (near : mag b ≤ 10000000000000000) (fits : mag 
   pub rest-back : r ≡ toZ w64 (ofZ w64 b) -ℤ pos n → toZ w64 (ofZ w64 r) ≡ b -ℤ pos n
   rest-back e = back r fits ∙ e ∙ ap (λ (z : ℤ). z -ℤ pos n) (near-back b near)
 
--- ---- the balance of the account that was found
-module _ (g : Gate) (f : Found) (z : ℤ) (n : ℕ) where
-  pub moved-none : f ≡ Nothing → withUsed g n ≡ movedAt g f z n
-  moved-none e = rw e
+-- ---- the balance of the account that was found, among balances that are lent
+module _ (f : Found) (z : ℤ) (l m : List ℤ) where
+  pub moved-none : f ≡ Nothing → m ≡ l → (h : Head) (names keys : List (List ℕ)) (n : ℕ) → gateOf (usedHead h n) (columnsOf names keys m) ≡ movedAt (gateOf h (columnsOf names keys l)) f z n
+  moved-none e q h names keys n = rw (e, q)
 
-  pub moved-there : (a : ℕ) → f ≡ At a → (y : ℤ) → y ≡ z → gateBalance (withUsed g n) a y ≡ movedAt g f z n
-  moved-there a e y q = rw (e, q)
+  pub moved-there : (a : ℕ) → f ≡ At a → (y : ℤ) → y ≡ z → ((h : Head) (names keys : List (List ℕ)) → gateOf h (columnsOf names keys m) ≡ gateBalance (gateOf h (columnsOf names keys l)) a y)
+      → (h : Head) (names keys : List (List ℕ)) (n : ℕ) → gateOf (usedHead h n) (columnsOf names keys m) ≡ movedAt (gateOf h (columnsOf names keys l)) f z n
+  moved-there a e y ey put h names keys n = rw (e, ← ey) (put (usedHead h n) names keys)
 
-pub moved-place : (g : Gate) (f : Found) (a : ℕ) → f ≡ At a → Sound g → Within f (g .count) → a < 256
-moved-place g f a e s w = let h : a < g .count = w .at a e in omega (arith, s .count)
+pub moved-place : (f : Found) (a n : ℕ) → f ≡ At a → Within f n → n ≤ 256 → a < 256
+moved-place f a n e w h = let l : a < n = w .at a e in omega arith
+
+pub within-most : (f : Found) (n : ℕ) → Within f n → n ≤ 256 → Within f 256
+within-most f n w h = record { at = λ a e. moved-place f a n e w h }
 
 -- a balance as it is, and so many records, leave the gate
 pub moved-same : (g : Gate) (f : Found) (z : ℤ) (n : ℕ) → g .used ≡ n → balanceOf g f ≡ z → movedAt g f z n ≡ g

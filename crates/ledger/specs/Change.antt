@@ -3,7 +3,7 @@ use Prim.Native.Nat.{ℕ, _+_}
 use mathlib.Core.Path.{_≡_}
 use mathlib.Core.List.{List, [], _∷_, _++_}
 use lib.IntN.{ℤ}
-use lib.ListN.{set}
+use lib.ListN.{length, set}
 use Rattle.dates.specs.Date.{emptyDate}
 use Rattle.payments.specs.declared.Details.{Details}
 use Rattle.payments.specs.declared.Instruction.{Instruction}
@@ -11,11 +11,12 @@ use Rattle.table.specs.declared.Record.{Record}
 use Rattle.table.specs.declared.Gate.{Gate}
 use Rattle.lists.specs.declared.Found.{Found}
 use Rattle.lists.specs.declared.Found.the-variants.{At, Nothing}
-use Rattle.table.specs.Table.{done, cancelled, Rows, rowsFrom}
+use Rattle.table.specs.Table.{done, cancelled, Rows, recordsOf, rowsFrom}
 use Rattle.table.specs.Accounts.{credited, debited, withUsed, gateBalance}
 use Rattle.rules.specs.declared.decision.Change.{Change}
 use Rattle.rules.specs.declared.decision.Change.the-variants.{Keep, Append, Revoke}
 use Rattle.planning.specs.declared.plan.Plan.{Plan}
+use Rattle.planning.specs.Plan.{planOf}
 
 -- the nth record has authcode n
 unfoldable pub nextAuthcode : Gate → ℕ
@@ -95,3 +96,8 @@ pub record Made (t : Rows) (c : Changed) (gate : Gate) (subject : Record) (rows 
   pub gates : gate ≡ c .gate
   pub subjects : subject ≡ c .subject
   pub left : rows ≡ rowsFrom t (c .records)
+
+-- what an instruction comes to: its decision's code, and the change that it makes
+pub record Executes (g : Gate) (t : Rows) (clock : List ℕ) (fault : ℕ) (q : Instruction) (code : ℕ) (gate : Gate) (subject : Record) (rows : Rows) : Type 0 where
+  pub codes : code ≡ (planOf g (recordsOf t (g .used)) (length (t .nums)) fault q) .decided .code
+  pub made : Made t (executed g (recordsOf t (g .used)) clock q (planOf g (recordsOf t (g .used)) (length (t .nums)) fault q)) gate subject rows

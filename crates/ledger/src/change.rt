@@ -6,27 +6,30 @@ use planning::plan;
 use planning::plan::Plan;
 use rules::decision::Change;
 use table::Gate;
+use table::Head;
 use table::Record;
 use table::accounts;
+use table::columns;
 use table::rows;
 ghost use mathlib.Core.Path.{_≡_};
-ghost use mathlib.Core.List.{[], _∷_, _++_};
+ghost use mathlib.Core.List.{List, [], _∷_, _++_};
 ghost use mathlib.Core.Bool.{true};
-ghost use Prim.Native.Nat.{_+_, _<_, _≤_};
+ghost use Prim.Native.Nat.{ℕ, _+_, _<_, _≤_};
 ghost use lib.ListN.{length};
 ghost use lib.IntN.{ℤ, pos, _+ℤ_, _-ℤ_};
 ghost use lib.Signed.{mag};
 ghost use Rattle.table.specs.Table.{recordsOf, rowsFrom, Whole, SameLengths};
 ghost use Rattle.table.specs.Lent.{lent, before, after};
 ghost use Rattle.table.specs.Accounts.{balanceOf};
-ghost use Rattle.validity.specs.Valid.{Sound, Ready, tableGood};
-ghost use Rattle.planning.specs.Plan.{Within, planOf, Planned};
-ghost use Rattle.ledger.specs.Change.{makeRecord, revoked, replacedAt, executed, movedAt, Made};
+ghost use Rattle.table.specs.Columns.{gateOf, usedHead, columnsOf, columnsLent, columnsBefore, columnsMoved};
+ghost use Rattle.validity.specs.Valid.{Ready, tableGood};
+ghost use Rattle.planning.specs.Plan.{Within, Planned};
+ghost use Rattle.ledger.specs.Change.{makeRecord, revoked, replacedAt, executed, movedAt, Made, Executes};
 
-// What an instruction comes to: the code, the gate, and the record that the answer speaks of.
+// What an instruction comes to: the code, how many records there are then, and the record that the answer speaks of.
 pub struct Execution {
     pub code: u64,
-    pub gate: Gate,
+    pub used: usize,
     pub subject: Record,
 }
 
@@ -67,19 +70,15 @@ pub fn revoke_record(clock: [u8; 19], r: Record) -> Record
     next
 }
 
-// The gate with the balance z at the account that was found, and so many records.
-fn move_balance(g: Gate, f: Found, z: i64, used: usize) -> Gate
-    requires { ⌜ Sound g × Within f (g .count) ⌝ }
-    ensures { λ r. ⌜ r ≡ movedAt g f z used ⌝ }
+// Puts the balance z at the account that was found.
+fn move_balance(balances: &mut [i64], f: Found, z: i64)
+    requires { ⌜ (256 ≡ length (now balances)) × Within f 256 ⌝ }
+    ensures { λ _. ⌜ ((h : Head) (names keys : List (List ℕ)) (n : ℕ) → gateOf (usedHead h n) (columnsOf names keys (now (balances .exit)))
+        ≡ movedAt (gateOf h (columnsOf names keys (now (balances .entry)))) f z n) ⌝ }
 {
-    let mut next = g;
-    next.used = used;
     if let Found::At(i) = f {
-        let mut a = next.accounts[i];
-        a.balance = z;
-        next.accounts[i] = a;
+        columns::put_balance(balances, i, z);
     }
-    next
 }
 
 // Puts a record in the place that was found.
@@ -188,34 +187,35 @@ pub fn execute(
     nums: &mut [[u64; 6]],
     numbers: &mut [[u8; 30]],
     dates: &mut [[[u8; 19]; 3]],
-    g: Gate,
+    names: &[[u8; 30]; 256],
+    keys: &[[u64; 2]; 256],
+    balances: &mut [i64; 256],
+    head: Head,
     clock: [u8; 19],
     fault: u64,
     q: Instruction,
 ) -> Execution
-    requires { ⌜ Ready g (lent nums numbers dates) ⌝ }
-    requires { ⌜ (tableGood g (lent nums numbers dates) ≡ true) × (q .details .amount < 1000000000) ⌝ }
-    ensures { λ x. ⌜ x .code ≡ (planOf g (recordsOf (before nums numbers dates) (g .used)) (length (now (nums .entry))) fault q) .decided .code ⌝ }
-    ensures { λ x. ⌜ Made (before nums numbers dates)
-        (executed g (recordsOf (before nums numbers dates) (g .used)) clock q (planOf g (recordsOf (before nums numbers dates) (g .used)) (length (now (nums .entry))) fault q))
-        (x .gate) (x .subject)
+    requires { ⌜ Ready (gateOf head (columnsLent names keys balances)) (lent nums numbers dates) ⌝ }
+    requires { ⌜ (tableGood (gateOf head (columnsLent names keys balances)) (lent nums numbers dates) ≡ true) × (q .details .amount < 1000000000) ⌝ }
+    ensures { λ x. ⌜ Executes (gateOf head (columnsBefore names keys balances)) (before nums numbers dates) clock fault q
+        (x .code) (gateOf (usedHead head (x .used)) (columnsMoved names keys balances)) (x .subject)
         (after nums numbers dates) ⌝ }
 {
-    let used = g.used;
-    let closed = g.closed;
+    let used = head.used;
+    let closed = head.closed;
     let details = q.details;
     let found = rows::find_record(nums, numbers, dates, used, details.receipt);
     let payment = plan::found_record(nums, numbers, dates, used, found);
-    let h = plan::holding_of(g, q, payment);
+    let h = plan::holding_of(names, keys, balances, head, q, payment);
     let p = plan::make_plan(closed, used, nums.len(), fault, q, found, payment, h);
     let o = make_change(nums, numbers, dates, used, clock, q, p, h.balance);
     let d = p.decided;
     let account = p.account;
-    let gate = move_balance(g, account, o.balance, o.used);
+    move_balance(balances, account, o.balance);
     let subject = o.subject;
     Execution {
         code: d.code,
-        gate,
+        used: o.used,
         subject,
     }
 }

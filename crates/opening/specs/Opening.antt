@@ -15,10 +15,16 @@ use Rattle.lists.specs.Lists.{isFound}
 use Rattle.table.specs.Table.{Rows}
 use Rattle.table.specs.Accounts.{accountsOf, findAccount, balanceAt, debited, opened}
 use Rattle.validity.specs.Valid.{tableGood}
+use Rattle.table.specs.Columns.{Columns, gateOf}
 use Rattle.ledger.specs.declared.Reply.{Reply}
+use Rattle.ledger.specs.declared.HeadReply.{HeadReply}
 
 abbrev pub replies : ℕ → Gate → Reply
 replies code g = record { code = code; gate = g; size = 0 }
+
+-- what a call answers where the accounts are lent in columns
+abbrev pub lentReply : HeadReply → Columns → Reply
+lentReply r a = record { code = r .code; gate = gateOf (r .head) a; size = r .size }
 
 -- malformed 59, known 56, 256 accounts 57
 unfoldable pub openTo : Gate → Number → ℕ → Reply

@@ -2,19 +2,27 @@
 use fields::amount;
 use fields::codes;
 use fields::number::Number;
+use ledger::HeadReply;
 use ledger::Reply;
 use lists::Found;
 use table::Gate;
+use table::Head;
 use table::accounts;
+use table::accounts::Holding;
+use table::columns;
 use validity::valid;
 ghost use mathlib.Core.Path.{_≡_};
 ghost use mathlib.Core.Bool.{_&&_};
+ghost use mathlib.Core.List.{List};
+ghost use Prim.Native.Nat.{ℕ, _≤_};
+ghost use lib.Signed.{mag};
 ghost use Rattle.fields.specs.Codes.{isKind};
 ghost use Rattle.fields.specs.Number.{isNumber};
 ghost use Rattle.table.specs.Lent.{before};
-ghost use Rattle.validity.specs.Valid.{Sound};
+ghost use Rattle.table.specs.Accounts.{balanceOf};
+ghost use Rattle.table.specs.Columns.{Columns, gateOf, columnsOf, columnsBefore, columnsAfter, columnsMoved};
 ghost use Rattle.planning.specs.Plan.{Within};
-ghost use Rattle.opening.specs.Opening.{openTo, openAccount, drawOn, drawFrom, drawFunds};
+ghost use Rattle.opening.specs.Opening.{lentReply, replies, openTo, openAccount, drawOn, drawFunds};
 
 // Whether number and type are well formed.
 fn is_named(n: Number, kind: u64) -> bool
@@ -26,39 +34,65 @@ fn is_named(n: Number, kind: u64) -> bool
     codes::is_kind(kind)
 }
 
-fn open_to(g: Gate, n: Number, kind: u64) -> Reply
-    requires { ⌜ Sound g ⌝ }
-    ensures { λ r. ⌜ r ≡ openTo g n kind ⌝ }
+// A reply that leaves the head as it is.
+fn keep(code: u64, head: Head) -> HeadReply
+    ensures { λ r. ⌜ ((a : Columns) → lentReply r a ≡ replies code (gateOf head a)) ⌝ }
 {
-    if !is_named(n, kind) {
-        return Reply {
-            code: 59,
-            gate: g,
-            size: 0,
-        };
-    }
-    if let Found::At(_) = accounts::find_account(g, n, kind) {
-        return Reply {
-            code: 56,
-            gate: g,
-            size: 0,
-        };
-    }
-    if table::ACCOUNTS_MOST <= g.count {
-        return Reply {
-            code: 57,
-            gate: g,
-            size: 0,
-        };
-    }
-    Reply {
-        code: 0,
-        gate: accounts::add_account(g, n, kind),
+    HeadReply {
+        code,
+        head,
         size: 0,
     }
 }
 
-// Opens an account with a balance of 0.
+fn open_to(
+    names: &mut [[u8; 30]; 256],
+    keys: &mut [[u64; 2]; 256],
+    balances: &mut [i64; 256],
+    head: Head,
+    n: Number,
+    kind: u64,
+) -> HeadReply
+    requires { ⌜ head .count ≤ 256 ⌝ }
+    ensures { λ r. ⌜ lentReply r (columnsAfter names keys balances) ≡ openTo (gateOf head (columnsBefore names keys balances)) n kind ⌝ }
+{
+    if !is_named(n, kind) {
+        return keep(59, head);
+    }
+    if let Found::At(_) = columns::find_account(names, keys, balances, head, n, kind) {
+        return keep(56, head);
+    }
+    let at = head.count;
+    if table::ACCOUNTS_MOST <= at {
+        return keep(57, head);
+    }
+    columns::put_account(names, keys, balances, at, n, kind);
+    let mut next = head;
+    next.count = at + 1;
+    keep(0, next)
+}
+
+// Opens an account with a balance of 0, among accounts that are lent in columns.
+pub fn open_lent(
+    nums: &[[u64; 6]],
+    numbers: &[[u8; 30]],
+    dates: &[[[u8; 19]; 3]],
+    names: &mut [[u8; 30]; 256],
+    keys: &mut [[u64; 2]; 256],
+    balances: &mut [i64; 256],
+    head: Head,
+    number: Number,
+    kind: u64,
+) -> HeadReply
+    ensures { λ r. ⌜ lentReply r (columnsAfter names keys balances) ≡ openAccount (gateOf head (columnsBefore names keys balances)) (before nums numbers dates) number kind ⌝ }
+{
+    if !valid::table_good(nums, numbers, dates, names, keys, balances, head) {
+        return keep(68, head);
+    }
+    open_to(names, keys, balances, head, number, kind)
+}
+
+// The same with the gate by value.
 pub fn open_account(
     nums: &[[u64; 6]],
     numbers: &[[u8; 30]],
@@ -69,63 +103,76 @@ pub fn open_account(
 ) -> Reply
     ensures { λ r. ⌜ r ≡ openAccount gate (before nums numbers dates) number kind ⌝ }
 {
-    if !valid::table_good(nums, numbers, dates, gate) {
-        return Reply {
-            code: 68,
-            gate,
-            size: 0,
-        };
+    let mut names = columns::empty_names();
+    let mut keys = columns::empty_keys();
+    let mut balances = columns::empty_balances();
+    columns::unpack(gate, &mut names, &mut keys, &mut balances);
+    let h = columns::head_of(gate);
+    let r = open_lent(
+        nums,
+        numbers,
+        dates,
+        &mut names,
+        &mut keys,
+        &mut balances,
+        h,
+        number,
+        kind,
+    );
+    let head = r.head;
+    Reply {
+        code: r.code,
+        gate: columns::pack(head, &names, &keys, &balances),
+        size: r.size,
     }
-    open_to(gate, number, kind)
 }
 
-fn draw_on(g: Gate, f: Found, kopecks: u64) -> Reply
-    requires { ⌜ Sound g × Within f (g .count) ⌝ }
-    ensures { λ r. ⌜ r ≡ drawOn g f kopecks ⌝ }
+// A draw from the account that was looked up.
+fn draw_on(balances: &mut [i64; 256], head: Head, h: Holding, kopecks: u64) -> HeadReply
+    requires { ⌜ Within (h .at) 256 × (mag (h .balance) ≤ 10000000000000000) ⌝ }
+    ensures { λ r. ⌜ ((names keys : List (List ℕ)) → h .balance ≡ balanceOf (gateOf head (columnsOf names keys (now (balances .entry)))) (h .at)
+        → lentReply r (columnsOf names keys (now (balances .exit))) ≡ drawOn (gateOf head (columnsOf names keys (now (balances .entry)))) (h .at) kopecks) ⌝ }
 {
+    let f = h.at;
     let Found::At(a) = f else {
-        return Reply {
-            code: 59,
-            gate: g,
-            size: 0,
-        };
+        return keep(59, head);
     };
     if !amount::is_amount(kopecks) {
-        return Reply {
-            code: 58,
-            gate: g,
-            size: 0,
-        };
+        return keep(58, head);
     }
-    if accounts::below(g, a, kopecks) {
-        return Reply {
-            code: 58,
-            gate: g,
-            size: 0,
-        };
+    if accounts::is_less(h.balance, kopecks) {
+        return keep(58, head);
     }
-    Reply {
-        code: 0,
-        gate: accounts::debit(g, a, kopecks),
-        size: 0,
-    }
+    columns::put_balance(balances, a, accounts::minus(h.balance, kopecks));
+    keep(0, head)
 }
 
-fn draw_from(g: Gate, n: Number, kind: u64, kopecks: u64) -> Reply
-    requires { ⌜ Sound g ⌝ }
-    ensures { λ r. ⌜ r ≡ drawFrom g n kind kopecks ⌝ }
+// Draws kopecks from an account, as a print job does; the accounts are lent in columns.
+pub fn draw_lent(
+    nums: &[[u64; 6]],
+    numbers: &[[u8; 30]],
+    dates: &[[[u8; 19]; 3]],
+    names: &[[u8; 30]; 256],
+    keys: &[[u64; 2]; 256],
+    balances: &mut [i64; 256],
+    head: Head,
+    number: Number,
+    kind: u64,
+    kopecks: u64,
+) -> HeadReply
+    ensures { λ r. ⌜ lentReply r (columnsMoved names keys balances) ≡ drawFunds (gateOf head (columnsBefore names keys balances)) (before nums numbers dates) number kind kopecks ⌝ }
 {
-    if !is_named(n, kind) {
-        return Reply {
-            code: 59,
-            gate: g,
-            size: 0,
-        };
+    if !valid::table_good(nums, numbers, dates, names, keys, balances, head) {
+        return keep(68, head);
     }
-    draw_on(g, accounts::find_account(g, n, kind), kopecks)
+    if !is_named(number, kind) {
+        return keep(59, head);
+    }
+    let h = columns::look_up(names, keys, balances, head, number, kind);
+    draw_on(balances, head, h, kopecks)
 }
 
-// Draws kopecks from an account, as a print job does.
+// The same with the gate by value.
 pub fn draw_funds(
     nums: &[[u64; 6]],
     numbers: &[[u8; 30]],
@@ -137,12 +184,27 @@ pub fn draw_funds(
 ) -> Reply
     ensures { λ r. ⌜ r ≡ drawFunds gate (before nums numbers dates) number kind kopecks ⌝ }
 {
-    if !valid::table_good(nums, numbers, dates, gate) {
-        return Reply {
-            code: 68,
-            gate,
-            size: 0,
-        };
+    let mut names = columns::empty_names();
+    let mut keys = columns::empty_keys();
+    let mut balances = columns::empty_balances();
+    columns::unpack(gate, &mut names, &mut keys, &mut balances);
+    let h = columns::head_of(gate);
+    let r = draw_lent(
+        nums,
+        numbers,
+        dates,
+        &names,
+        &keys,
+        &mut balances,
+        h,
+        number,
+        kind,
+        kopecks,
+    );
+    let head = r.head;
+    Reply {
+        code: r.code,
+        gate: columns::pack(head, &names, &keys, &balances),
+        size: r.size,
     }
-    draw_from(gate, number, kind, kopecks)
 }

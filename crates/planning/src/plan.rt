@@ -10,9 +10,11 @@ use rules::decision::Decided;
 use rules::decision::Standing;
 use rules::decision::View;
 use table::Gate;
+use table::Head;
 use table::Record;
 use table::accounts;
 use table::accounts::Holding;
+use table::columns;
 use table::rows;
 ghost use mathlib.Core.Path.{_≡_};
 ghost use Prim.Native.Nat.{_≤_, _<_};
@@ -22,6 +24,7 @@ ghost use Rattle.table.specs.Lent.{lent, before};
 ghost use Rattle.planning.specs.Plan.{Within, recordFound, standingOf, accountOf, dateOf, isShort, viewOf, planWith};
 ghost use Rattle.table.specs.Table.{noRecord};
 ghost use Rattle.table.specs.Accounts.{balanceOf, holdingOf};
+ghost use Rattle.table.specs.Columns.{gateOf, columnsBefore};
 
 // The decision, with the record and the account that it concerns.
 pub struct Plan {
@@ -68,18 +71,25 @@ pub fn standing(found: Found, r: Record) -> Standing
 }
 
 // The account that a request concerns, with its balance: a cancel's is its record's.
-pub fn holding_of(g: Gate, q: Instruction, r: Record) -> Holding
-    requires { ⌜ g .count ≤ 256 ⌝ }
-    ensures { λ h. ⌜ h ≡ holdingOf g (accountOf g q r) ⌝ }
+pub fn holding_of(
+    names: &[[u8; 30]; 256],
+    keys: &[[u64; 2]; 256],
+    balances: &[i64; 256],
+    head: Head,
+    q: Instruction,
+    r: Record,
+) -> Holding
+    requires { ⌜ head .count ≤ 256 ⌝ }
+    ensures { λ h. ⌜ h ≡ holdingOf (gateOf head (columnsBefore names keys balances)) (accountOf (gateOf head (columnsBefore names keys balances)) q r) ⌝ }
 {
     let a = q.action;
     if answer::is_cancel(a) {
         let n = r.number;
-        return accounts::look_up(g, n, r.kind);
+        return columns::look_up(names, keys, balances, head, n, r.kind);
     }
     let d = q.details;
     let n = d.number;
-    accounts::look_up(g, n, d.kind)
+    columns::look_up(names, keys, balances, head, n, d.kind)
 }
 
 // The date that a request concerns: a cancel's is its record's.

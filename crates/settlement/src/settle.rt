@@ -124,7 +124,7 @@ pub fn settle(
 ) -> Reply
     ensures { λ r. ⌜ deliveryOf r (after nums numbers dates) (now (out .exit)) ≡ settle gate (before nums numbers dates) clock day (now (bytes .entry)) (now (out .entry)) ⌝ }
 {
-    let refusal = admission::admit(nums, numbers, dates, gate, clock, out.len());
+    let refusal = admission::admit_gate(nums, numbers, dates, gate, clock, out.len());
     if refusal != 0 {
         return Reply {
             code: refusal,

@@ -1,3 +1,4 @@
 pub mod TableLaws
 pub mod SignedLaws
 pub mod AccountLaws
+pub mod ColumnLaws

@@ -1,5 +1,6 @@
 // The gate's state: accounts, and the payment table in three lent rows.
 pub mod accounts;
+pub mod columns;
 pub mod rows;
 
 use days::calendar::Day;
@@ -37,6 +38,14 @@ pub struct Account {
 #[repr(C)]
 pub struct Gate {
     pub accounts: [Account; 256],
+    pub count: usize,
+    pub closed: Day,
+    pub used: usize,
+}
+
+// A gate without its accounts, which are lent in columns.
+#[repr(C)]
+pub struct Head {
     pub count: usize,
     pub closed: Day,
     pub used: usize,

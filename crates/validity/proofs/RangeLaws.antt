@@ -1,6 +1,7 @@
 -- Row 68: the ranges of an account, of the gate and of a record, test by test.
 use mathlib.Core.Path.{_≡_, sym, ap, _∙_}
 use mathlib.Core.Bool.{Bool, true, false, not, _&&_, and-false}
+use mathlib.Core.List.{List}
 use Prim.Native.Nat.{ℕ, _+_, _<_, _≤_}
 use native.Mathlib.Omega.{arith}
 use lib.Dec.{leb}
@@ -20,6 +21,8 @@ use Rattle.fields.specs.Number.{isNumber}
 use Rattle.texts.proofs.Tests.{and-right, no-claim}
 use Rattle.table.specs.declared.Account.{Account}
 use Rattle.table.specs.declared.Gate.{Gate}
+use Rattle.table.specs.declared.Head.{Head}
+use Rattle.table.specs.Columns.{Columns, accountsIn, gateOf}
 use Rattle.table.specs.declared.Record.{Record}
 use Rattle.lists.specs.Lists.{allFrom}
 use Rattle.table.specs.Accounts.{accountsOf, noAccount, balanceAt}
@@ -27,6 +30,7 @@ use Rattle.validity.specs.Valid.{near, accountGood, gateGood, stateGood,
 use Rattle.lists.proofs.ListLaws.{all-more, all-not, all-end, all-at}
 use Rattle.table.proofs.SignedLaws.{back}
 use Rattle.table.proofs.AccountLaws.{in-use}
+use Rattle.table.proofs.ColumnLaws.{size-in}
 
 -- ---- the range of a balance
 near-over : (z : ℤ) → ltZ (pos 10000000000000) z ≡ true → near z ≡ false
@@ -82,21 +86,26 @@ near-of a h =
     (and-right (isNumber (a .number)) (isKind (a .kind) && near (a .balance)) h)
 
 -- ---- the accounts in use: a loop that has passed i of them
-module _ (g : Gate) (i : ℕ) (size : length (g .accounts) ≡ 256) (few : g .count ≤ 256)
-    (passed : allFrom (λ i a. accountGood a) 0 (accountsOf g) ≡ allFrom (λ i a. accountGood a) i (drop i (accountsOf g))) where
-  module _ (t : Bool) (e : t ≡ accountGood (getD (g .accounts) i noAccount)) (h : i < g .count) where
-    pub accounts-step : not t ≡ false → allFrom (λ i a. accountGood a) 0 (accountsOf g) ≡ allFrom (λ i a. accountGood a) (i + 1) (drop (i + 1) (accountsOf g))
-    accounts-step y =
-        passed ∙ all-more (λ i a. accountGood a) i (accountsOf g) noAccount (omega (arith, in-use g size few))
-        (ap accountGood (getD-take (g .count) (g .accounts) i noAccount h) ∙ sym e ∙ not-false t y)
+module _ (a : Columns) (h : Head) (i : ℕ) (few : h .count ≤ 256)
+    (passed : allFrom (λ i a. accountGood a) 0 (accountsOf (gateOf h a)) ≡ allFrom (λ i a. accountGood a) i (drop i (accountsOf (gateOf h a)))) where
+  abbrev pub l : List Account
+  l = accountsOf (gateOf h a)
 
-    pub accounts-fail : not t ≡ true → false ≡ allFrom (λ i a. accountGood a) 0 (accountsOf g)
-    accounts-fail y =
-        sym (passed ∙ all-not (λ i a. accountGood a) i (accountsOf g) noAccount (omega (arith, in-use g size few))
-        (ap accountGood (getD-take (g .count) (g .accounts) i noAccount h) ∙ sym e ∙ not-true t y))
+  size : length l ≡ h .count
+  size = in-use (gateOf h a) (size-in a) few
 
-  pub accounts-end : g .count ≤ i → true ≡ allFrom (λ i a. accountGood a) 0 (accountsOf g)
-  accounts-end h = sym (passed ∙ all-end (λ i a. accountGood a) i (accountsOf g) noAccount (omega (arith, in-use g size few)))
+  module _ (x : Account) (ex : x ≡ getD (accountsIn a) i noAccount) (t : Bool) (et : t ≡ accountGood x) (b : i < h .count) where
+    good : accountGood (getD l i noAccount) ≡ t
+    good = ap accountGood (getD-take (h .count) (accountsIn a) i noAccount b ∙ sym ex) ∙ sym et
+
+    pub accounts-step : not t ≡ false → allFrom (λ i a. accountGood a) 0 l ≡ allFrom (λ i a. accountGood a) (i + 1) (drop (i + 1) l)
+    accounts-step y = passed ∙ all-more (λ i a. accountGood a) i l noAccount (omega (arith, size)) (good ∙ not-false t y)
+
+    pub accounts-fail : not t ≡ true → false ≡ allFrom (λ i a. accountGood a) 0 l
+    accounts-fail y = sym (passed ∙ all-not (λ i a. accountGood a) i l noAccount (omega (arith, size)) (good ∙ not-true t y))
+
+  pub accounts-end : h .count ≤ i → true ≡ allFrom (λ i a. accountGood a) 0 l
+  accounts-end b = sym (passed ∙ all-end (λ i a. accountGood a) i l noAccount (omega (arith, size)))
 
 -- ---- the gate
 module _ (g : Gate) where

@@ -83,11 +83,12 @@ module _ (g : Gate) (t : Rows) (i : ℕ) (passed : allFrom (recordGood g) 0 (rec
       pub record-own : not own ≡ true → false ≡ allFrom (recordGood g) 0 (recordsOf t (g .used))
       record-own n = record-fails (good-own g i (recordAt t i) (sym (own-at t i own o) ∙ not-true own n))
 
-      pub record-guessed : not own ≡ false → Sound g → (at : ℕ) (s : Bool)
-          → s ≡ ltb at (g .count) && isAccount (recordAt t i .number) (recordAt t i .kind) (getD (g .accounts) at noAccount) → s ≡ true
+      pub record-guessed : not own ≡ false → Sound g → (at : ℕ) (x : Account) → x ≡ getD (g .accounts) at noAccount
+          → (s : Bool) → s ≡ ltb at (g .count) && isAccount (recordAt t i .number) (recordAt t i .kind) x → s ≡ true
           → allFrom (recordGood g) 0 (recordsOf t (g .used)) ≡ allFrom (recordGood g) (i + 1) (drop (i + 1) (recordsOf t (g .used)))
-      record-guessed n sound at s q y =
-          record-step (good-both g i (recordAt t i) (sym (own-at t i own o) ∙ not-false own n) (guess-known g (recordAt t i) at (sound .places) (sound .count) (sym q ∙ y)))
+      record-guessed n sound at x ex s q y =
+          record-step (good-both g i (recordAt t i) (sym (own-at t i own o) ∙ not-false own n) (guess-known g (recordAt t i) at (sound .places) (sound .count)
+          (ap (λ (z : Account). ltb at (g .count) && isAccount (recordAt t i .number) (recordAt t i .kind) z) (sym ex) ∙ sym q ∙ y)))
 
       module _ (known : Bool) (k : known ≡ isFound (findAccount (recordAt t i .number) (recordAt t i .kind) (accountsOf g))) where
         pub record-stranger : not known ≡ true → false ≡ allFrom (recordGood g) 0 (recordsOf t (g .used))

@@ -4,7 +4,8 @@ use dates::date;
 use fields::amount;
 use fields::codes;
 use table::Account;
-use table::Gate;
+use table::Head;
+use table::columns;
 ghost use mathlib.Core.Bool.{true, _&&_};
 ghost use mathlib.Core.Path.{_≡_};
 ghost use mathlib.Core.List.{[]};
@@ -12,6 +13,7 @@ ghost use Prim.Native.Nat.{_<_, _≤_};
 ghost use lib.ListN.{length};
 ghost use Rattle.lists.specs.Lists.{allFrom};
 ghost use Rattle.table.specs.Accounts.{accountsOf};
+ghost use Rattle.table.specs.Columns.{gateOf, columnsBefore};
 ghost use Rattle.table.specs.Table.{recordFrom};
 ghost use Rattle.validity.specs.Valid.{near, accountGood, gateGood, stateGood, rangesGood, authcodeGood, Sound};
 
@@ -49,15 +51,20 @@ fn account_good(a: Account) -> bool
 }
 
 // Whether each account in use is in its ranges; its place is the hint of its slot.
-fn accounts_good(g: Gate, hints: &mut [u8; 8192]) -> bool
-    requires { ⌜ g .count ≤ 256 ⌝ }
-    ensures { λ r. ⌜ r ≡ allFrom (λ i a. accountGood a) 0 (accountsOf g) ⌝ }
-    ensures { λ r. ⌜ length (g .accounts) ≡ 256 ⌝ }
+fn accounts_good(
+    names: &[[u8; 30]; 256],
+    keys: &[[u64; 2]; 256],
+    balances: &[i64; 256],
+    h: Head,
+    hints: &mut [u8; 4096],
+) -> bool
+    requires { ⌜ h .count ≤ 256 ⌝ }
+    ensures { λ r. ⌜ r ≡ allFrom (λ i a. accountGood a) 0 (accountsOf (gateOf h (columnsBefore names keys balances))) ⌝ }
 {
-    let count = g.count;
+    let count = h.count;
     let mut i: usize = 0;
     while i < count {
-        let a = g.accounts[i];
+        let a = columns::account_at(names, keys, balances, i);
         if !account_good(a) {
             return false;
         }
@@ -69,17 +76,23 @@ fn accounts_good(g: Gate, hints: &mut [u8; 8192]) -> bool
 }
 
 // Whether the gate is in its ranges; the hints of its accounts are written.
-pub(crate) fn gate_good(g: Gate, hints: &mut [u8; 8192]) -> bool
-    ensures { λ r. ⌜ (r ≡ gateGood g) × (r ≡ true → Sound g) ⌝ }
+pub(crate) fn gate_good(
+    names: &[[u8; 30]; 256],
+    keys: &[[u64; 2]; 256],
+    balances: &[i64; 256],
+    h: Head,
+    hints: &mut [u8; 4096],
+) -> bool
+    ensures { λ r. ⌜ (r ≡ gateGood (gateOf h (columnsBefore names keys balances))) × (r ≡ true → Sound (gateOf h (columnsBefore names keys balances))) ⌝ }
 {
-    if 256 < g.count {
+    if 256 < h.count {
         return false;
     }
-    let closed = g.closed;
+    let closed = h.closed;
     if !closed.is_valid() {
         return false;
     }
-    accounts_good(g, hints)
+    accounts_good(names, keys, balances, h, hints)
 }
 
 // Whether a record is done and has no cancel date, or cancelled and has one.

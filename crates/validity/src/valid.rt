@@ -3,8 +3,9 @@ use crate::ranges;
 use crate::slots;
 use fields::number::Number;
 use table::Account;
-use table::Gate;
+use table::Head;
 use table::accounts;
+use table::columns;
 ghost use mathlib.Core.Bool.{true, _&&_};
 ghost use mathlib.Core.Path.{_≡_};
 ghost use Prim.Native.Nat.{_<_, _≤_};
@@ -14,6 +15,7 @@ ghost use Rattle.lists.specs.Lists.{isFound, allFrom};
 ghost use Rattle.table.specs.Table.{recordsOf, Whole};
 ghost use Rattle.table.specs.Lent.{before};
 ghost use Rattle.table.specs.Accounts.{isAccount, accountsOf, findAccount};
+ghost use Rattle.table.specs.Columns.{gateOf, columnsLent, columnsBefore};
 ghost use Rattle.validity.specs.Valid.{recordGood, tableGood, Sound, Ready};
 
 // Whether the guessed account at `at` is in use and the one that is looked for.
@@ -27,11 +29,18 @@ fn guess_fits(at: usize, count: usize, n: Number, kind: u64, a: Account) -> bool
 }
 
 // Whether the account of a number and a type is known.
-fn is_known(g: Gate, n: Number, kind: u64) -> bool
-    requires { ⌜ g .count ≤ 256 ⌝ }
-    ensures { λ b. ⌜ b ≡ isFound (findAccount n kind (accountsOf g)) ⌝ }
+fn is_known(
+    names: &[[u8; 30]; 256],
+    keys: &[[u64; 2]; 256],
+    balances: &[i64; 256],
+    h: Head,
+    n: Number,
+    kind: u64,
+) -> bool
+    requires { ⌜ h .count ≤ 256 ⌝ }
+    ensures { λ b. ⌜ b ≡ isFound (findAccount n kind (accountsOf (gateOf h (columnsBefore names keys balances)))) ⌝ }
 {
-    lists::is_found(accounts::find_account(g, n, kind))
+    lists::is_found(columns::find_account(names, keys, balances, h, n, kind))
 }
 
 // Whether each record in use is in its ranges. Its account is looked up only where the hint fails.
@@ -39,16 +48,19 @@ fn records_good(
     nums: &[[u64; 6]],
     numbers: &[[u8; 30]],
     dates: &[[[u8; 19]; 3]],
-    g: Gate,
-    hints: &[u8; 8192],
+    names: &[[u8; 30]; 256],
+    keys: &[[u64; 2]; 256],
+    balances: &[i64; 256],
+    h: Head,
+    hints: &[u8; 4096],
 ) -> bool
-    requires { ⌜ (g .used ≤ length (now nums)) × (g .used ≤ length (now numbers)) × (g .used ≤ length (now dates)) ⌝ }
-    requires { ⌜ Sound g × (g .used ≤ 4096) ⌝ }
-    ensures { λ b. ⌜ b ≡ allFrom (recordGood g) 0 (recordsOf (before nums numbers dates) (g .used)) ⌝ }
-    ensures { λ b. ⌜ (b ≡ true → Whole (before nums numbers dates) (g .used)) ⌝ }
+    requires { ⌜ (h .used ≤ length (now nums)) × (h .used ≤ length (now numbers)) × (h .used ≤ length (now dates)) ⌝ }
+    requires { ⌜ Sound (gateOf h (columnsLent names keys balances)) × (h .used ≤ 4096) ⌝ }
+    ensures { λ b. ⌜ b ≡ allFrom (recordGood (gateOf h (columnsBefore names keys balances))) 0 (recordsOf (before nums numbers dates) (h .used)) ⌝ }
+    ensures { λ b. ⌜ (b ≡ true → Whole (before nums numbers dates) (h .used)) ⌝ }
 {
-    let used = g.used;
-    let count = g.count;
+    let used = h.used;
+    let count = h.count;
     let mut i: usize = 0;
     while i < used {
         let w = nums[i];
@@ -61,12 +73,12 @@ fn records_good(
             len: w[1] as usize,
         };
         let at = slots::wide(hints[slots::slot(n, w[2])]);
-        let a = g.accounts[at];
+        let a = columns::account_at(names, keys, balances, at);
         if guess_fits(at, count, n, w[2], a) {
             i += 1;
             continue;
         }
-        if !is_known(g, n, w[2]) {
+        if !is_known(names, keys, balances, h, n, w[2]) {
             return false;
         }
         i += 1;
@@ -74,17 +86,25 @@ fn records_good(
     true
 }
 
-// Whether a lent gate and table are in their ranges.
-pub fn table_good(nums: &[[u64; 6]], numbers: &[[u8; 30]], dates: &[[[u8; 19]; 3]], g: Gate) -> bool
-    ensures { λ b. ⌜ b ≡ tableGood g (before nums numbers dates) ⌝ }
-    ensures { λ b. ⌜ (b ≡ true → Ready g (before nums numbers dates)) ⌝ }
+// Whether a gate, its accounts lent in columns, and its table are in their ranges.
+pub fn table_good(
+    nums: &[[u64; 6]],
+    numbers: &[[u8; 30]],
+    dates: &[[[u8; 19]; 3]],
+    names: &[[u8; 30]; 256],
+    keys: &[[u64; 2]; 256],
+    balances: &[i64; 256],
+    h: Head,
+) -> bool
+    ensures { λ b. ⌜ b ≡ tableGood (gateOf h (columnsBefore names keys balances)) (before nums numbers dates) ⌝ }
+    ensures { λ b. ⌜ (b ≡ true → Ready (gateOf h (columnsBefore names keys balances)) (before nums numbers dates)) ⌝ }
 {
-    if !lists::is_lent(g.used, nums.len(), numbers.len(), dates.len()) {
+    if !lists::is_lent(h.used, nums.len(), numbers.len(), dates.len()) {
         return false;
     }
-    let mut hints = [0u8; 8192];
-    if !ranges::gate_good(g, &mut hints) {
+    let mut hints = [0u8; 4096];
+    if !ranges::gate_good(names, keys, balances, h, &mut hints) {
         return false;
     }
-    records_good(nums, numbers, dates, g, &hints)
+    records_good(nums, numbers, dates, names, keys, balances, h, &hints)
 }

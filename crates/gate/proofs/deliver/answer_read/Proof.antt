@@ -5,11 +5,18 @@ use Rattle.gate.proofs.deliver.answer_read.Tie as tie
 
 execute-requires : tie.Need-execute-requires
 execute-requires c κs =
-    let m = c .before .before .before in
+    let m = c .before .before .before .before in
     let s = m .before .before .before in
     (s .pre .0, (s .pre .1 .0, instruction-amount (s .args .q .asked) (m .instruction-of .result) (m .instruction-of .ensures) (s .pre .1 .1)))
 
-ruleset laws = (executed-answered, needs)
+returns : tie.Need-returns
+returns c =
+    let w = c .before .before in
+    let a = w .before .before in
+    let x = a .before .before .before .before .before in
+    let m = x .before .before .before .before .before in
+    let s = m .before .before .before in
+    executed-answered _ _ _ _ (s .args .q .asked) _ _ _ _ _ _ _ _ _ (m .instruction-of .ensures) (x .execute .ensures) (a .answer-of .ensures) (w .write-answer .ensures .0) (w .write-answer .ensures .1)
 
 pub answer-read-spec : {M : Type 1} → statement M
 answer-read-spec =
@@ -23,4 +30,4 @@ answer-read-spec =
     (λ c. search needs)
     (λ c. search needs)
     (λ c. search needs)
-    (λ c. search laws))
+    returns)

@@ -9,7 +9,7 @@ settle-text-requires c κs =
     let e = c .before .before .before .before in
     let k = e .before in
     let z = e .if1 .left in
-    (held-ready _ _ (k .admit .ensures .1 z) (admitted-good _ _ _ _ _ (k .admit .ensures .0) z), admitted-room _ _ _ _ _ (k .admit .ensures .0) z)
+    (held-ready _ _ (k .admit-gate .ensures .1 z) (admitted-good _ _ _ _ _ (k .admit-gate .ensures .0) z), admitted-room _ _ _ _ _ (k .admit-gate .ensures .0) z)
 
 ruleset laws = (not-admitted, settle-read, needs)
 

@@ -4,7 +4,7 @@ use Rattle.validity.proofs.slots.slot.Statement.{statement}
 use Rattle.validity.proofs.slots.slot.Tie as tie
 
 abbrev Inv-loop : tie.InvT-loop
-Inv-loop kind n len h₀ i₀ h i = (i ≤ 15) × (h < 8192)
+Inv-loop kind n len h₀ i₀ h i = (i ≤ 15) × (h < 4096)
 
 abbrev μ-loop : tie.MeasureT-loop
 μ-loop kind n len h₀ i₀ h i = 15 - i

@@ -1,7 +1,7 @@
 use borrow.Author.Needs.{needs}
 use Rattle.table.proofs.AccountLaws.{held-place}
-use Rattle.table.proofs.accounts.find_account.Statement.{statement}
-use Rattle.table.proofs.accounts.find_account.Tie as tie
+use Rattle.table.proofs.columns.find_account.Statement.{statement}
+use Rattle.table.proofs.columns.find_account.Tie as tie
 
 ruleset laws = (held-place, needs)
 
