@@ -57,5 +57,15 @@ pub fn admit_gate(
     let mut balances = columns::empty_balances();
     columns::unpack(gate, &mut names, &mut keys, &mut balances);
     let head = columns::head_of(gate);
-    admit(nums, numbers, dates, &names, &keys, &balances, head, clock, room)
+    admit(
+        nums,
+        numbers,
+        dates,
+        &names,
+        &keys,
+        &balances,
+        head,
+        clock,
+        room,
+    )
 }

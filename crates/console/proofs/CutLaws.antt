@@ -26,7 +26,7 @@ use Rattle.message.specs.Request.{refused, requestRead}
 use Rattle.table.specs.declared.Gate.{Gate}
 use Rattle.table.specs.Table.{Rows}
 use Rattle.gate.specs.Deliver.{deliver}
-use Rattle.orders.specs.declared.Console.{Console}
+use Rattle.orders.specs.Order.{Console}
 use Rattle.orders.specs.Order.{startTurn, openTurn, drawOf, drawTurn, askTurn, orderTurn, lineTurn}
 use Rattle.line_fields.specs.LineFields.{fieldCount, fieldAt, hasLetter, afterSpace, paramsIn}
 

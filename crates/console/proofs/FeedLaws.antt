@@ -15,11 +15,11 @@ use Rattle.coding.specs.Params.{splitAt}
 use Rattle.coding.proofs.ParamLaws.{split-append, split-last}
 use Rattle.texts.proofs.FindLaws.{find-both}
 use Rattle.table.specs.Table.{Rows}
-use Rattle.gathering.specs.declared.Held.{Held}
+use Rattle.gathering.specs.Held.{Held}
 use Rattle.orders.specs.Order.{Turn, lineTurn, turnText}
 use Rattle.gathering.specs.Held.{heldText, pushed, inParams, absorbed, absorbAll, emptied}
 use Rattle.console.specs.Feed.{Fed, ended, fedByte, fed, finished}
-use Rattle.gathering.specs.declared.Gathered.{Gathered}
+use Rattle.gathering.specs.Gather.{Gathered}
 use Rattle.gathering.specs.Gather.{gathered}
 use Rattle.gathering.specs.Held.{newHeld}
 use Rattle.console.specs.Session.{linesIn, linesText, newFed, sessionText}

@@ -10,8 +10,8 @@ use lib.ListN.{length, getD, set, take, length-set}
 use lib.Seq.{take-suc-set, take-nil, getD-set-same, getD-set-other}
 use borrow.Author.Tests.{lt-ltb, le-ltb, le-leb, lt-leb, ne-eqb, eqb-true}
 use Rattle.table.specs.Table.{Rows}
-use Rattle.orders.specs.declared.Console.{Console}
-use Rattle.gathering.specs.declared.Held.{Held}
+use Rattle.orders.specs.Order.{Console}
+use Rattle.gathering.specs.Held.{Held}
 use Rattle.orders.specs.Order.{lineTurn}
 use Rattle.gathering.specs.Held.{heldText, pushed, inParams, absorbed, absorbAll, emptied}
 use Rattle.console.proofs.CutLaws.{kept, joined, cut, cut-turn}

@@ -2,5 +2,4 @@ pub mod SummableLaws
 pub mod CutLaws
 pub mod HeldLaws
 pub mod FeedLaws
-pub mod StartLaws
 pub mod PartLaws

@@ -6,23 +6,30 @@ use mathlib.Core.Path.{_≡_, refl, sym, ap, subst, _∙_}
 use mathlib.Core.List.{List, [], _∷_, _++_, append-assoc, append-nil}
 use mathlib.Core.Bool.{Bool, true, false, cond, not}
 use lib.Dec.{eqb, ltb}
-use lib.ListN.{length, take, drop, length-append, drop-of-length-le}
+use lib.IntN.{ℤ, pos}
+use lib.ListN.{length, take, drop, replicate, length-append, drop-of-length-le}
 use lib.Seq.{take-at, length-take-le}
 use borrow.Author.Tests.{lt-ltb, le-ltb, lt-leb, le-leb, not-true, not-false}
 use Rattle.texts.specs.Lists.{over, written, cursorAfter}
 use Rattle.texts.proofs.OutLaws.{over-none, over-length, over-over, cursor-moves, written-over}
+use Rattle.table.specs.declared.Account.{Account}
 use Rattle.table.specs.Table.{Rows}
-use Rattle.orders.specs.declared.Console.{Console}
-use Rattle.gathering.specs.declared.Held.{Held}
-use Rattle.gathering.specs.declared.Gathered.{Gathered}
-use Rattle.orders.specs.Order.{Turn, lineTurn, turnText}
+use Rattle.table.specs.Accounts.{withAccounts}
+use Rattle.table.specs.Columns.{columnsOf}
+use Rattle.table.proofs.ColumnLaws.{empty-in}
+use Rattle.orders.specs.Order.{Console}
+use Rattle.gathering.specs.Held.{Held}
+use Rattle.gathering.specs.Gather.{Gathered}
+use Rattle.orders.specs.declared.ConsoleHead.{ConsoleHead}
+use Rattle.orders.specs.Order.{consoleOf, Turn, lineTurn, turnText}
 use Rattle.figures.specs.Figures.{printed}
 use Rattle.figures.specs.Sums.{Summable}
-use Rattle.gathering.specs.Held.{heldText, absorbed, emptied}
+use Rattle.gathering.specs.declared.Mark.{Mark}
+use Rattle.gathering.specs.Held.{heldOf, newMark, heldText, absorbed, emptied}
 use Rattle.console.specs.Feed.{Fed, ended, fedByte, fed, finished}
 use Rattle.gathering.specs.Gather.{gathered}
 use Rattle.gathering.specs.Held.{newHeld}
-use Rattle.console.specs.Session.{emptyGate, newConsole, newFed, sessionText}
+use Rattle.console.specs.Session.{emptyGate, newConsole, newHead, newFed, sessionText}
 use Rattle.console.specs.Parts.{Part, before, printedAt, feedPart, lastPart, Run, runAll, EndedAt}
 use Rattle.console.proofs.SummableLaws.{turn-summable, none-summable}
 use Rattle.figures.proofs.PrintLaws.{printed-length}
@@ -40,19 +47,16 @@ module _ (x : Console) (t : Rows) (h : Held) (l : List ℕ) (el : l ≡ take (h 
   text-is : printed code (y .gate) ≡ turnText (lineTurn x t (heldText h))
   text-is = ap turnText is-turn
 
-  pub ended-at : (d : List ℕ) (at : ℕ) → at + 64 ≤ length d → (hd : Held) → hd ≡ emptied h
-      → (o : List ℕ) → o ≡ written d at (printed code (y .gate))
-      → (r : ℕ) → r ≡ cursorAfter d at (printed code (y .gate))
-      → EndedAt x h t d at y hd t′ o r
-  ended-at d at room hd eh o eo r er =
+  pub ended-at : (d : List ℕ) (at : ℕ) → at + 64 ≤ length d → (p : List ℕ) → p ≡ printed code (y .gate)
+      → (o : List ℕ) → o ≡ written d at p → (r : ℕ) → r ≡ cursorAfter d at p → EndedAt x h t d at y t′ o r
+  ended-at d at room p ep o eo r er =
       let text : List ℕ = turnText (lineTurn x t (heldText h)) in
       let fit : at + length text ≤ length d = omega (arith, printed-length ((lineTurn x t (heldText h)) .code) ((lineTurn x t (heldText h)) .console .gate)) in
       record {
         consoles = ap (λ (q : Turn). q .console) is-turn;
-        helds = eh;
         left = ap (λ (q : Turn). q .rows) is-turn;
-        buffer = eo ∙ ap (written d at) text-is ∙ sym (written-over d at text fit);
-        cursor = er ∙ ap (cursorAfter d at) text-is ∙ sym (cursor-moves d at text fit);
+        buffer = eo ∙ ap (written d at) (ep ∙ text-is) ∙ sym (written-over d at text fit);
+        cursor = er ∙ ap (cursorAfter d at) (ep ∙ text-is) ∙ sym (cursor-moves d at text fit);
       }
 
 -- the text up to the cursor
@@ -94,10 +98,10 @@ module _ (f₀ : Fed) (input out₀ : List ℕ) (room : 64 * length input ≤ le
       pub part-in : g .at ≤ length input
       part-in = gathered-in (going y h t o size) input at g eg (not-false (g .ended) end)
 
-      pub going-on : (y′ : Console) (h′ : Held) (t′ : Rows) (o′ : List ℕ) (size′ : ℕ) → EndedAt y (g .held) t o size y′ h′ t′ o′ size′ → Summable (y′ .gate)
-          → Going f₀ input out₀ t′ o′ y′ h′ size′ (g .at)
+      pub going-on : (y′ : Console) (h′ : Held) → h′ ≡ emptied (g .held) → (t′ : Rows) (o′ : List ℕ) (size′ : ℕ) → EndedAt y (g .held) t o size y′ t′ o′ size′
+          → Summable (y′ .gate) → Going f₀ input out₀ t′ o′ y′ h′ size′ (g .at)
       unfolding ended
-      going-on y′ h′ t′ o′ size′ d s =
+      going-on y′ h′ eh t′ o′ size′ d s =
           let r : Turn = lineTurn y t (heldText (g .held)) in
           let text : List ℕ = turnText r in
           let few : length text ≤ 64 = printed-length (r .code) (r .console .gate) in
@@ -108,7 +112,7 @@ module _ (f₀ : Fed) (input out₀ : List ℕ) (room : 64 * length input ≤ le
           record {
             same =
                 v .same ∙ fed-ended (going y h t o size) input at g eg (not-false (g .ended) end)
-                ∙ ap (λ (f : Fed). fed f (drop (g .at) input)) (rw (d .consoles, d .helds, d .left, now));
+                ∙ ap (λ (f : Fed). fed f (drop (g .at) input)) (rw (d .consoles, eh, d .left, now));
             shown =
                 d .buffer ∙ ap (λ (q : List ℕ). over q size text) (v .shown)
                 ∙ ap (λ (k : ℕ). over (over out₀ 0 (take size o)) k text) (sym (zero-add (length (take size o)) ∙ first))
@@ -146,16 +150,29 @@ module _ (x : Console) (h : Held) (t : Rows) (out : List ℕ) (at : ℕ) where
       (ap (λ (q : List ℕ). record { console = x; held = h; rows = t; out = q; size = at }) (sym (over-none out at))
       ∙ ap (λ (n : ℕ). record { console = x; held = h; rows = t; out = over out at []; size = n }) (sym (add-zero at)))
 
-  pub last-line : (h .len ≡ 0 → ⊥) → (y : Console) (hd : Held) (t′ : Rows) (o : List ℕ) (r : ℕ) → EndedAt x h t out at y hd t′ o r
+  pub last-line : (h .len ≡ 0 → ⊥) → (y : Console) (hd : Held) → hd ≡ emptied h → (t′ : Rows) (o : List ℕ) (r : ℕ) → EndedAt x h t out at y t′ o r
       → _≡_ {A = Part} (record { console = y; held = hd; rows = t′; out = o; size = r }) (lastPart x h t out at)
   unfolding lastPart finished ended
-  last-line n y hd t′ o r d =
+  last-line n y hd eh t′ o r d =
       let some : 0 < h .len = omega arith in
-      rw (lt-ltb 0 (h .len) some, d .consoles, d .helds, d .left, d .buffer, d .cursor)
+      rw (lt-ltb 0 (h .len) some, d .consoles, eh, d .left, d .buffer, d .cursor)
 
 -- ---- a whole session
 pub new-sums : (x : Console) → x ≡ newConsole → Summable (x .gate)
 new-sums x e = subst (λ (c : Console). Summable (c .gate)) (sym e) (none-summable emptyGate refl refl)
+
+-- its console and its held line, as the code makes them
+pub console-new : (x : ConsoleHead) (names keys : List (List ℕ)) (balances : List ℤ) → x ≡ newHead → names ≡ replicate 256 (replicate 30 0) → keys ≡ replicate 256 (replicate 2 0)
+    → balances ≡ replicate 256 (pos 0) → consoleOf x (columnsOf names keys balances) ≡ newConsole
+console-new x names keys balances ex en ek eb =
+    ap (λ (c : ConsoleHead). consoleOf c (columnsOf names keys balances)) ex
+    ∙ ap (λ (l : List Account). record { started = false; gate = withAccounts emptyGate l }) (empty-in names keys balances en ek eb)
+
+pub held-new : (b : List ℕ) (m : Mark) → b ≡ replicate 2177 0 → m ≡ newMark → heldOf b m ≡ newHeld
+held-new b m eb em = ap (λ (x : List ℕ). heldOf x m) eb ∙ ap (heldOf (replicate 2177 0)) em
+
+pub line-new : (b : List ℕ) (m : Mark) → m ≡ newMark → heldOf b m ≡ heldOf b newMark
+line-new b m e = ap (heldOf b) e
 
 -- each line prints at most 64 bytes, and has at least one of the input
 fed-few : (s : List ℕ) (f : Fed) → length ((fed f s) .text) ≤ length (f .text) + 64 * length s

@@ -47,7 +47,7 @@ use Rattle.gate_theorems.proofs.KeepsLaws.{delivered-by}
 use Rattle.validity.proofs.GoodLaws.{Near, near-table}
 use Rattle.gate_theorems.proofs.RowsLaws.{SameNames, names-moved, names-debited}
 use Rattle.gate_theorems.proofs.CallLaws.{near-debited, opened-other, opened-new}
-use Rattle.orders.specs.declared.Console.{Console}
+use Rattle.orders.specs.Order.{Console}
 use Rattle.orders.specs.Order.{Turn, kindIn, drawOf, startOn, startTurn, openTurn, drawTurn, askTurn, orderTurn, lineTurn}
 use Rattle.line_fields.specs.LineFields.{fieldAt, fieldCount, hasLetter, paramsIn}
 use Rattle.figures.specs.Sums.{Summable}

@@ -4,8 +4,8 @@ use mathlib.Core.List.{List, [], _∷_, _++_}
 use mathlib.Core.Bool.{cond}
 use lib.Dec.{eqb, ltb}
 use Rattle.table.specs.Table.{Rows}
-use Rattle.orders.specs.declared.Console.{Console}
-use Rattle.gathering.specs.declared.Held.{Held}
+use Rattle.orders.specs.Order.{Console}
+use Rattle.gathering.specs.Held.{Held}
 use Rattle.gathering.specs.Held.{heldText, absorbed, emptied}
 use Rattle.orders.specs.Order.{lineTurn, turnText}
 

@@ -7,10 +7,11 @@ use lib.Dec.{leb}
 use lib.ListN.{length}
 use Rattle.texts.specs.Lists.{over}
 use Rattle.table.specs.Table.{Rows}
-use Rattle.orders.specs.declared.Console.{Console}
-use Rattle.gathering.specs.declared.Held.{Held}
-use Rattle.orders.specs.Order.{lineTurn, turnText}
-use Rattle.gathering.specs.Held.{heldText, emptied}
+use Rattle.orders.specs.Order.{Console}
+use Rattle.gathering.specs.Held.{Held}
+use Rattle.table.specs.Columns.{Columns}
+use Rattle.orders.specs.Order.{consoleOf, lineTurn, turnText}
+use Rattle.gathering.specs.Held.{heldOf, heldText}
 use Rattle.console.specs.Feed.{Fed, fed, finished}
 use Rattle.console.specs.Session.{newFed, sessionText}
 use Rattle.console.specs.declared.feed.Part.{Part as GivenPart}
@@ -24,8 +25,8 @@ pub record Part : Type 0 where
   pub out : List ℕ
   pub size : ℕ
 
-abbrev pub partOf : GivenPart → Rows → List ℕ → Part
-partOf r rows out = record { console = r .console; held = r .held; rows = rows; out = out; size = r .size }
+abbrev pub partOf : GivenPart → Columns → List ℕ → Rows → List ℕ → Part
+partOf r a bytes rows out = record { console = consoleOf (r .console) a; held = heldOf bytes (r .mark); rows = rows; out = out; size = r .size }
 
 abbrev pub before : Console → Held → Rows → Fed
 before x h t = record { console = x; held = h; rows = t; text = [] }
@@ -57,9 +58,8 @@ runAll t input out =
     (record { ok = false; rows = t; out = out; size = 0 })
 
 -- ---- a line that has ended, printed at the cursor
-pub record EndedAt (x : Console) (h : Held) (t : Rows) (d : List ℕ) (at : ℕ) (console : Console) (held : Held) (rows : Rows) (out : List ℕ) (size : ℕ) : Type 0 where
+pub record EndedAt (x : Console) (h : Held) (t : Rows) (d : List ℕ) (at : ℕ) (console : Console) (rows : Rows) (out : List ℕ) (size : ℕ) : Type 0 where
   pub consoles : console ≡ (lineTurn x t (heldText h)) .console
-  pub helds : held ≡ emptied h
   pub left : rows ≡ (lineTurn x t (heldText h)) .rows
   pub buffer : out ≡ over d at (turnText (lineTurn x t (heldText h)))
   pub cursor : size ≡ at + length (turnText (lineTurn x t (heldText h)))

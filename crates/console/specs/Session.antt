@@ -8,7 +8,8 @@ use Rattle.fields.specs.Number.{noNumber}
 use Rattle.coding.specs.Params.{splitAt}
 use Rattle.table.specs.declared.Gate.{Gate}
 use Rattle.table.specs.Table.{Rows}
-use Rattle.orders.specs.declared.Console.{Console}
+use Rattle.orders.specs.declared.ConsoleHead.{ConsoleHead}
+use Rattle.orders.specs.Order.{Console}
 use Rattle.gathering.specs.Held.{newHeld}
 use Rattle.orders.specs.Order.{lineTurn, turnText}
 use Rattle.console.specs.Feed.{Fed}
@@ -37,6 +38,10 @@ emptyGate =
 
 abbrev pub newConsole : Console
 newConsole = record { started = false; gate = emptyGate }
+
+-- the same without its accounts
+abbrev pub newHead : ConsoleHead
+newHead = record { started = false; head = record { count = 0; closed = record { year = 0; month = 0; day = 0 }; used = 0 } }
 
 unfoldable pub sessionText : Rows → List ℕ → List ℕ
 sessionText t s = linesText newConsole t (linesIn (splitAt 10 s))

@@ -1,21 +1,25 @@
-// A session's input, fed in parts, or whole.
+// A session's input, fed in parts, or whole. Accounts and the bytes of a line that has not ended are lent.
 use crate::start;
 use figures::print;
-use gathering::Held;
-use orders::Console;
+use gathering::Mark;
+use orders::ConsoleHead;
 use orders::turn;
+use table::columns;
 use texts::scan;
 ghost use mathlib.Core.Path.{_≡_};
 ghost use Prim.Native.Nat.{_+_, _*_, _≤_};
 ghost use lib.ListN.{length};
 ghost use Rattle.table.specs.Lent.{before, after};
+ghost use Rattle.table.specs.Columns.{gateOf, columnsLent, columnsBefore, columnsAfter};
 ghost use Rattle.figures.specs.Sums.{Summable};
+ghost use Rattle.gathering.specs.Held.{heldOf};
+ghost use Rattle.orders.specs.Order.{consoleOf};
 ghost use Rattle.console.specs.Parts.{partOf, feedPart, lastPart, runOf, runAll, EndedAt};
 
-// A session between two parts of its input, and how many bytes the last one printed.
+// A session between two parts of its input: its console, where the held line stands, and how many bytes the last part printed.
 pub struct Part {
-    pub console: Console,
-    pub held: Held,
+    pub console: ConsoleHead,
+    pub mark: Mark,
     pub size: usize,
 }
 
@@ -25,32 +29,37 @@ pub struct Run {
     pub size: usize,
 }
 
+// The console after a line, and the cursor behind what it printed.
+pub(crate) struct Printed {
+    pub console: ConsoleHead,
+    pub size: usize,
+}
+
 // The line that is held has ended: it does its turn and prints at the cursor.
 pub(crate) fn end_line(
     nums: &mut [[u64; 6]],
     numbers: &mut [[u8; 30]],
     dates: &mut [[[u8; 19]; 3]],
-    x: Console,
-    h: Held,
+    names: &mut [[u8; 30]; 256],
+    keys: &mut [[u64; 2]; 256],
+    balances: &mut [i64; 256],
+    x: ConsoleHead,
+    bytes: &[u8; 2177],
+    m: Mark,
     out: &mut [u8],
     at: usize,
-) -> Part
-    requires { ⌜ Summable (x .gate) × (at + 64 ≤ length (now out)) ⌝ }
-    ensures { λ r. ⌜ EndedAt x h (before nums numbers dates) (now (out .entry)) at
-        (r .console) (r .held) (after nums numbers dates) (now (out .exit)) (r .size) ⌝ }
-    ensures { λ r. ⌜ Summable (r .console .gate) ⌝ }
+) -> Printed
+    requires { ⌜ Summable (gateOf (x .head) (columnsLent names keys balances)) × (at + 64 ≤ length (now out)) ⌝ }
+    ensures { λ r. ⌜ EndedAt (consoleOf x (columnsBefore names keys balances)) (heldOf (now (bytes .entry)) m) (before nums numbers dates) (now (out .entry)) at
+        (consoleOf (r .console) (columnsAfter names keys balances)) (after nums numbers dates) (now (out .exit)) (r .size) ⌝ }
+    ensures { λ r. ⌜ Summable (gateOf (r .console .head) (columnsAfter names keys balances)) ⌝ }
 {
-    let bytes = h.bytes;
-    let r = turn::line_turn(nums, numbers, dates, x, scan::first_bytes(&bytes, h.len));
+    let line = scan::first_bytes(bytes, m.len);
+    let r = turn::line_turn(nums, numbers, dates, names, keys, balances, x, line);
     let console = r.console;
-    let gate = console.gate;
-    let size = print::write_turn(r.code, gate, out, at);
-    let held = gathering::emptied(h);
-    Part {
-        console,
-        held,
-        size,
-    }
+    let head = console.head;
+    let size = print::write_turn(r.code, balances, head, out, at);
+    Printed { console, size }
 }
 
 // Feeds a part of the input; what its lines print goes to the start of the buffer.
@@ -58,39 +67,55 @@ pub fn feed(
     nums: &mut [[u64; 6]],
     numbers: &mut [[u8; 30]],
     dates: &mut [[[u8; 19]; 3]],
-    x: Console,
-    h: Held,
+    names: &mut [[u8; 30]; 256],
+    keys: &mut [[u64; 2]; 256],
+    balances: &mut [i64; 256],
+    bytes: &mut [u8; 2177],
+    x: ConsoleHead,
+    m: Mark,
     input: &[u8],
     out: &mut [u8],
 ) -> Part
-    requires { ⌜ Summable (x .gate) × (64 * length (now input) ≤ length (now out)) ⌝ }
-    ensures { λ r. ⌜ partOf r (after nums numbers dates) (now (out .exit)) ≡ feedPart x h (before nums numbers dates) (now (input .entry)) (now (out .entry)) ⌝ }
-    ensures { λ r. ⌜ Summable (r .console .gate) ⌝ }
+    requires { ⌜ Summable (gateOf (x .head) (columnsLent names keys balances)) × (64 * length (now input) ≤ length (now out)) ⌝ }
+    ensures { λ r. ⌜ partOf r (columnsAfter names keys balances) (now (bytes .exit)) (after nums numbers dates) (now (out .exit))
+        ≡ feedPart (consoleOf x (columnsBefore names keys balances)) (heldOf (now (bytes .entry)) m) (before nums numbers dates) (now (input .entry)) (now (out .entry)) ⌝ }
+    ensures { λ r. ⌜ Summable (gateOf (r .console .head) (columnsAfter names keys balances)) ⌝ }
 {
     let mut console = x;
-    let mut held = h;
+    let mut mark = m;
     let mut size: usize = 0;
     let mut at: usize = 0;
     while at < input.len() {
-        let g = gathering::gather(held, input, at);
+        let g = gathering::gather(bytes, mark, input, at);
+        let held = g.mark;
         if !g.ended {
-            let rest = g.held;
             return Part {
                 console,
-                held: rest,
+                mark: held,
                 size,
             };
         }
-        let line = g.held;
-        let s = end_line(nums, numbers, dates, console, line, out, size);
+        let s = end_line(
+            nums,
+            numbers,
+            dates,
+            names,
+            keys,
+            balances,
+            console,
+            bytes,
+            held,
+            out,
+            size,
+        );
         console = s.console;
-        held = s.held;
         size = s.size;
+        mark = gathering::new_mark();
         at = g.at;
     }
     Part {
         console,
-        held,
+        mark,
         size,
     }
 }
@@ -100,22 +125,45 @@ pub fn finish(
     nums: &mut [[u64; 6]],
     numbers: &mut [[u8; 30]],
     dates: &mut [[[u8; 19]; 3]],
-    x: Console,
-    h: Held,
+    names: &mut [[u8; 30]; 256],
+    keys: &mut [[u64; 2]; 256],
+    balances: &mut [i64; 256],
+    bytes: &[u8; 2177],
+    x: ConsoleHead,
+    m: Mark,
     out: &mut [u8],
     at: usize,
 ) -> Part
-    requires { ⌜ Summable (x .gate) × (at + 64 ≤ length (now out)) ⌝ }
-    ensures { λ r. ⌜ partOf r (after nums numbers dates) (now (out .exit)) ≡ lastPart x h (before nums numbers dates) (now (out .entry)) at ⌝ }
+    requires { ⌜ Summable (gateOf (x .head) (columnsLent names keys balances)) × (at + 64 ≤ length (now out)) ⌝ }
+    ensures { λ r. ⌜ partOf r (columnsAfter names keys balances) (now (bytes .entry)) (after nums numbers dates) (now (out .exit))
+        ≡ lastPart (consoleOf x (columnsBefore names keys balances)) (heldOf (now (bytes .entry)) m) (before nums numbers dates) (now (out .entry)) at ⌝ }
 {
-    if h.len == 0 {
+    if m.len == 0 {
         return Part {
             console: x,
-            held: h,
+            mark: m,
             size: at,
         };
     }
-    end_line(nums, numbers, dates, x, h, out, at)
+    let s = end_line(
+        nums,
+        numbers,
+        dates,
+        names,
+        keys,
+        balances,
+        x,
+        bytes,
+        m,
+        out,
+        at,
+    );
+    let console = s.console;
+    Part {
+        console,
+        mark: gathering::new_mark(),
+        size: s.size,
+    }
 }
 
 // Runs a whole session; the output has to have room for 64 bytes a line.
@@ -131,12 +179,38 @@ pub fn run_session(
     if out.len() / 64 <= input.len() {
         return Run { ok: false, size: 0 };
     }
-    let x = start::new_console();
-    let h = gathering::new_held();
-    let s = feed(nums, numbers, dates, x, h, input, out);
+    let mut names = columns::empty_names();
+    let mut keys = columns::empty_keys();
+    let mut balances = columns::empty_balances();
+    let mut bytes = gathering::new_bytes();
+    let s = feed(
+        nums,
+        numbers,
+        dates,
+        &mut names,
+        &mut keys,
+        &mut balances,
+        &mut bytes,
+        start::new_console(),
+        gathering::new_mark(),
+        input,
+        out,
+    );
     let console = s.console;
-    let held = s.held;
-    let last = finish(nums, numbers, dates, console, held, out, s.size);
+    let mark = s.mark;
+    let last = finish(
+        nums,
+        numbers,
+        dates,
+        &mut names,
+        &mut keys,
+        &mut balances,
+        &bytes,
+        console,
+        mark,
+        out,
+        s.size,
+    );
     Run {
         ok: true,
         size: last.size,

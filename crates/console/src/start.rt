@@ -1,32 +1,22 @@
 // The state that a session begins with.
 use days::calendar::Day;
-use fields::number::no_number;
-use orders::Console;
-use table::Account;
-use table::Gate;
+use orders::ConsoleHead;
+use table::Head;
 ghost use mathlib.Core.Path.{_≡_};
-ghost use Rattle.console.specs.Session.{newConsole};
+ghost use Rattle.console.specs.Session.{newHead};
 
 // No accounts and no record, not started.
-pub fn new_console() -> Console
-    ensures { λ r. ⌜ r ≡ newConsole ⌝ }
+pub fn new_console() -> ConsoleHead
+    ensures { λ r. ⌜ r ≡ newHead ⌝ }
 {
-    let none = no_number();
-    let number = none.number;
-    let a = Account {
-        number,
-        kind: 0,
-        balance: 0,
-    };
     let closed = Day {
         year: 0,
         month: 0,
         day: 0,
     };
-    Console {
+    ConsoleHead {
         started: false,
-        gate: Gate {
-            accounts: [a; 256],
+        head: Head {
             count: 0,
             closed,
             used: 0,

@@ -25,7 +25,17 @@ pub extern "C" fn roosteryore_open_account_lent(
 ) -> HeadReply
     ensures { λ r. ⌜ lentReply r (columnsAfter names keys balances) ≡ openAccount (gateOf head (columnsBefore names keys balances)) (before nums numbers dates) number kind ⌝ }
 {
-    opening::open_lent(nums, numbers, dates, names, keys, balances, head, number, kind)
+    opening::open_lent(
+        nums,
+        numbers,
+        dates,
+        names,
+        keys,
+        balances,
+        head,
+        number,
+        kind,
+    )
 }
 
 // Draws kopecks from an account.
@@ -44,7 +54,18 @@ pub extern "C" fn roosteryore_draw_funds_lent(
 ) -> HeadReply
     ensures { λ r. ⌜ lentReply r (columnsMoved names keys balances) ≡ drawFunds (gateOf head (columnsBefore names keys balances)) (before nums numbers dates) number kind kopecks ⌝ }
 {
-    opening::draw_lent(nums, numbers, dates, names, keys, balances, head, number, kind, kopecks)
+    opening::draw_lent(
+        nums,
+        numbers,
+        dates,
+        names,
+        keys,
+        balances,
+        head,
+        number,
+        kind,
+        kopecks,
+    )
 }
 
 // Delivers a request; its answer is in the buffer.

@@ -1,6 +1,6 @@
 // What a line prints.
 use crate::sums;
-use table::Gate;
+use table::Head;
 use texts::digits;
 use texts::out;
 use texts::scan;
@@ -12,7 +12,7 @@ ghost use lib.ListN.{length};
 ghost use Rattle.texts.specs.Digits.{decimal};
 ghost use Rattle.texts.specs.Lists.{written, cursorAfter};
 ghost use Rattle.figures.specs.Figures.{signedText, figures, printed};
-ghost use Rattle.figures.specs.Sums.{Summable, countsText};
+ghost use Rattle.figures.specs.Sums.{Summable, nameless, countsText};
 
 // How far a number is from 0; the least of 64 bits has no opposite among them.
 fn size_of(z: i64) -> u64
@@ -53,27 +53,27 @@ fn put_counts(code: u64, used: u64, row: &mut [u8]) -> usize
 }
 
 // Puts code, records used and sum of balances into such a row.
-fn put_figures(code: u64, g: Gate, row: &mut [u8]) -> usize
-    requires { ⌜ Summable g ⌝ }
+fn put_figures(code: u64, balances: &[i64; 256], h: Head, row: &mut [u8]) -> usize
+    requires { ⌜ Summable (nameless h (now balances)) ⌝ }
     requires { ⌜ 64 ≤ length (now row) ⌝ }
-    ensures { λ r. ⌜ (r ≡ cursorAfter (now (row .entry)) 0 (figures code g)) × (now (row .exit) ≡ written (now (row .entry)) 0 (figures code g)) ⌝ }
+    ensures { λ r. ⌜ (r ≡ cursorAfter (now (row .entry)) 0 (figures code (nameless h (now (balances .entry))))) × (now (row .exit) ≡ written (now (row .entry)) 0 (figures code (nameless h (now (balances .entry))))) ⌝ }
 {
-    let sum = sums::sum_balances(g);
-    let used = g.used as u64;
+    let sum = sums::sum_balances(balances, h);
+    let used = h.used as u64;
     let a = put_counts(code, used, row);
     let b = write_signed(sum, row, a);
     out::put_bytes(b"\n", row, b)
 }
 
-// Writes what a line prints at the cursor, where it has room.
-pub fn write_turn(code: u64, g: Gate, dst: &mut [u8], at: usize) -> usize
-    requires { ⌜ Summable g ⌝ }
-    ensures { λ r. ⌜ (r ≡ cursorAfter (now (dst .entry)) at (printed code g)) × (now (dst .exit) ≡ written (now (dst .entry)) at (printed code g)) ⌝ }
+// Writes what a line prints at the cursor, where it has room. Names of accounts are not printed.
+pub fn write_turn(code: u64, balances: &[i64; 256], h: Head, dst: &mut [u8], at: usize) -> usize
+    requires { ⌜ Summable (nameless h (now balances)) ⌝ }
+    ensures { λ r. ⌜ (r ≡ cursorAfter (now (dst .entry)) at (printed code (nameless h (now (balances .entry))))) × (now (dst .exit) ≡ written (now (dst .entry)) at (printed code (nameless h (now (balances .entry))))) ⌝ }
 {
     if code == 99 {
         return out::put_bytes(b"99\n", dst, at);
     }
     let mut row = [0u8; 64];
-    let n = put_figures(code, g, &mut row);
+    let n = put_figures(code, balances, h, &mut row);
     out::put_bytes(scan::first_bytes(&row, n), dst, at)
 }

@@ -1,12 +1,12 @@
 // The sum of a gate's balances.
-use table::Gate;
+use table::Head;
 ghost use mathlib.Core.Path.{_≡_};
 ghost use Prim.Native.Nat.{_+_, _≤_};
 ghost use lib.IntN.{_+ℤ_};
 ghost use lib.Signed.{mag};
 ghost use Rattle.table.specs.Accounts.{accountsOf};
 ghost use Rattle.figures.specs.Figures.{sumBalances};
-ghost use Rattle.figures.specs.Sums.{Summable};
+ghost use Rattle.figures.specs.Sums.{Summable, nameless};
 
 // a + b
 fn plus(a: i64, b: i64) -> i64
@@ -17,16 +17,15 @@ fn plus(a: i64, b: i64) -> i64
 }
 
 // The sum of the balances in use, from the last to the first.
-pub(crate) fn sum_balances(g: Gate) -> i64
-    requires { ⌜ Summable g ⌝ }
-    ensures { λ r. ⌜ (r ≡ sumBalances (accountsOf g)) × (mag r ≤ 6000000000000000) ⌝ }
+pub(crate) fn sum_balances(balances: &[i64; 256], h: Head) -> i64
+    requires { ⌜ Summable (nameless h (now balances)) ⌝ }
+    ensures { λ r. ⌜ (r ≡ sumBalances (accountsOf (nameless h (now (balances .entry))))) × (mag r ≤ 6000000000000000) ⌝ }
 {
     let mut sum: i64 = 0;
-    let mut i = g.count;
+    let mut i = h.count;
     while 0 < i {
         i -= 1;
-        let a = g.accounts[i];
-        sum = plus(a.balance, sum);
+        sum = plus(balances[i], sum);
     }
     sum
 }

@@ -118,7 +118,18 @@ pub fn deliver_lent(
         };
     }
     let q = request::read_request(params);
-    answer_read(nums, numbers, dates, names, keys, balances, head, clock, q, out)
+    answer_read(
+        nums,
+        numbers,
+        dates,
+        names,
+        keys,
+        balances,
+        head,
+        clock,
+        q,
+        out,
+    )
 }
 
 // The same with the gate by value.

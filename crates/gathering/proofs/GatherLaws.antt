@@ -13,11 +13,9 @@ use borrow.Author.Tests.{lt-ltb, le-ltb, eq-eqb, ne-eqb, ltb-true}
 use Rattle.texts.specs.Lists.{find}
 use Rattle.texts.proofs.Tests.{by-test}
 use Rattle.texts.proofs.ListLaws.{drop-next}
-use Rattle.gathering.specs.declared.Held.{Held}
 use Rattle.gathering.specs.declared.Step.{Step}
-use Rattle.gathering.specs.declared.Gathered.{Gathered}
-use Rattle.gathering.specs.Held.{pushed, inParams, absorbed, absorbAll}
-use Rattle.gathering.specs.Gather.{taken, passed, asksAt, stepOf, gathered}
+use Rattle.gathering.specs.Held.{Held, pushed, inParams, absorbed, absorbAll}
+use Rattle.gathering.specs.Gather.{taken, passed, asksAt, stepOf, Gathered, gathered}
 
 -- ---- one byte
 module _ (first k : ℕ) where
@@ -139,22 +137,23 @@ module _ (first len k n b : ℕ) (r : Step) (e : r ≡ stepOf first len k n b) (
 module _ (h : Held) (s : List ℕ) (at : ℕ) (bytes : List ℕ) (len k n i : ℕ)
     (left : gathered h (drop at s) at ≡ gathered (record { bytes = bytes; len = len; spaces = k; run = n }) (drop i s) i)
   where
-    module _ (x : Held) (ex : x ≡ record { bytes = bytes; len = len; spaces = k; run = n }) where
-      pub gather-out : length s ≤ i → _≡_ {A = Gathered} (record { held = x; at = i; ended = false }) (gathered h (drop at s) at)
-      gather-out l = sym (left ∙ rw (drop-of-length-le s l, ← ex) (gathered-none x i))
+    abbrev line : Held
+    line = record { bytes = bytes; len = len; spaces = k; run = n }
 
-      pub gather-end : i < length s → getD s i 0 ≡ 10 → _≡_ {A = Gathered} (record { held = x; at = i + 1; ended = true }) (gathered h (drop at s) at)
-      gather-end inside e = sym (left ∙ rw (drop-next s i inside, ← ex) (gathered-end x (getD s i 0) (drop (i + 1) s) i e))
+    pub gather-out : length s ≤ i → _≡_ {A = Gathered} (record { held = line; at = i; ended = false }) (gathered h (drop at s) at)
+    gather-out l = sym (left ∙ rw (drop-of-length-le s l) (gathered-none line i))
+
+    pub gather-end : i < length s → getD s i 0 ≡ 10 → _≡_ {A = Gathered} (record { held = line; at = i + 1; ended = true }) (gathered h (drop at s) at)
+    gather-end inside e = sym (left ∙ rw (drop-next s i inside) (gathered-end line (getD s i 0) (drop (i + 1) s) i e))
 
     module _ (inside : i < length s) (other : getD s i 0 ≡ 10 → ⊥) where
       gather-turn : gathered h (drop at s) at
-          ≡ gathered (after (record { bytes = bytes; len = len; spaces = k; run = n }) (getD s i 0) (stepOf (getD bytes 0 0) len k n (getD s i 0))) (drop (i + 1) s) (i + 1)
+          ≡ gathered (after line (getD s i 0) (stepFor line (getD s i 0))) (drop (i + 1) s) (i + 1)
       gather-turn =
-          let x : Held = record { bytes = bytes; len = len; spaces = k; run = n } in
           left
-          ∙ ap (λ (u : List ℕ). gathered x u i) (drop-next s i inside)
-          ∙ gathered-byte x (getD s i 0) (drop (i + 1) s) i other
-          ∙ ap (λ (y : Held). gathered y (drop (i + 1) s) (i + 1)) (absorbed-step x (getD s i 0))
+          ∙ ap (λ (u : List ℕ). gathered line u i) (drop-next s i inside)
+          ∙ gathered-byte line (getD s i 0) (drop (i + 1) s) i other
+          ∙ ap (λ (y : Held). gathered y (drop (i + 1) s) (i + 1)) (absorbed-step line (getD s i 0))
 
       module _ (r : Step) (er : r ≡ stepOf (getD bytes 0 0) len k n (getD s i 0)) where
         pub gather-keep : r .keep ≡ true → gathered h (drop at s) at

@@ -5,10 +5,9 @@ use mathlib.Core.Bool.{Bool, true, false, cond, _&&_}
 use lib.Dec.{eqb, leb, ltb}
 use lib.ListN.{length, take}
 use Rattle.texts.specs.Lists.{find}
-use Rattle.gathering.specs.declared.Held.{Held}
 use Rattle.gathering.specs.declared.Step.{Step}
-use Rattle.gathering.specs.declared.Gathered.{Gathered}
-use Rattle.gathering.specs.Held.{absorbAll}
+use Rattle.gathering.specs.declared.Gathered.{Gathered as Given}
+use Rattle.gathering.specs.Held.{Held, heldOf, absorbAll}
 
 -- a byte that is held, with the spaces and the run after it, and one that is not
 abbrev pub taken : ℕ → ℕ → Step
@@ -30,6 +29,16 @@ stepOf first len k n b =
     (cond (ltb k 4) (taken (k + 1) 0) (passed k n))
     (cond (ltb n 31) (taken k (n + 1)) (passed k n))))
     (passed k n)
+
+-- a held line, where the input is read on, and whether the line has ended
+pub record Gathered : Type 0 where
+  pub held : Held
+  pub at : ℕ
+  pub ended : Bool
+
+-- what a call gives, with the bytes that it leaves
+abbrev pub gatheredOf : Given → List ℕ → Gathered
+gatheredOf r bytes = record { held = heldOf bytes (r .mark); at = r .at; ended = r .ended }
 
 -- s is the input from `at` on: its bytes up to the first 0A (10), which is passed over, or all
 unfoldable pub gathered : Held → List ℕ → ℕ → Gathered

@@ -5,7 +5,22 @@ use mathlib.Core.List.{List, [], _∷_}
 use mathlib.Core.Bool.{Bool, cond, _&&_}
 use lib.Dec.{eqb, leb, ltb}
 use lib.ListN.{getD, set, take, replicate}
-use Rattle.gathering.specs.declared.Held.{Held}
+use Rattle.gathering.specs.declared.Mark.{Mark}
+
+-- a row of bytes, how many of its first a line has there, how many spaces of these split fields, and how many of these are of the last field
+pub record Held : Type 0 where
+  pub bytes : List ℕ
+  pub len : ℕ
+  pub spaces : ℕ
+  pub run : ℕ
+
+-- the line that stands so in lent bytes
+abbrev pub heldOf : List ℕ → Mark → Held
+heldOf bytes m = record { bytes = bytes; len = m .len; spaces = m .spaces; run = m .run }
+
+-- where a new line stands
+abbrev pub newMark : Mark
+newMark = record { len = 0; spaces = 0; run = 0 }
 
 -- before anything is held
 abbrev pub newHeld : Held

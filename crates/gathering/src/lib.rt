@@ -1,9 +1,8 @@
 // What is held of a line of the session's input, gathered from parts of any size.
 ghost use mathlib.Core.Path.{_≡_};
-ghost use lib.ListN.{drop};
-ghost use Rattle.gathering.specs.declared.Held.{Held};
-ghost use Rattle.gathering.specs.Held.{emptied, newHeld};
-ghost use Rattle.gathering.specs.Gather.{taken, asksAt, stepOf, gathered};
+ghost use lib.ListN.{drop, replicate};
+ghost use Rattle.gathering.specs.Held.{newMark, heldOf};
+ghost use Rattle.gathering.specs.Gather.{taken, asksAt, stepOf, gathered, gatheredOf};
 
 // How many bytes of a field are held: one more than the longest form of any has.
 const FIELD_HELD: usize = 31;
@@ -17,9 +16,8 @@ const SPACES_HELD: usize = 4;
 // How many bytes of a line are held.
 const LINE_HELD: usize = 2177;
 
-// What is held of a line that has not ended: all of it that its answer depends on. `spaces` are those that split fields, `run` the bytes held of the last field.
-pub struct Held {
-    pub bytes: [u8; 2177],
+// Where a held line stands: how many of its bytes are held, how many spaces that split fields, and how many bytes of the last field. The bytes themselves are lent.
+pub struct Mark {
     pub len: usize,
     pub spaces: usize,
     pub run: usize,
@@ -32,9 +30,9 @@ pub struct Step {
     pub run: usize,
 }
 
-// A held line, where the input is read on, and whether the line has ended.
+// Where a held line stands, where the input is read on, and whether the line has ended.
 pub struct Gathered {
-    pub held: Held,
+    pub mark: Mark,
     pub at: usize,
     pub ended: bool,
 }
@@ -90,32 +88,19 @@ fn step_of(first: u8, len: usize, spaces: usize, run: usize, b: u8) -> Step
     passed
 }
 
-// A held line from its parts.
-fn hold(bytes: [u8; 2177], len: usize, spaces: usize, run: usize) -> Held
-    ensures { λ r. ⌜ _≡_ {A = Held} r (record { bytes = bytes; len = len; spaces = spaces; run = run }) ⌝ }
-{
-    Held {
-        bytes,
-        len,
-        spaces,
-        run,
-    }
-}
-
 // Takes the bytes of the input from `at` on up to the first 0A, which is passed over, or to its end.
-pub fn gather(h: Held, input: &[u8], at: usize) -> Gathered
-    ensures { λ r. ⌜ r ≡ gathered h (drop at (now (input .entry))) at ⌝ }
+pub fn gather(bytes: &mut [u8; 2177], m: Mark, input: &[u8], at: usize) -> Gathered
+    ensures { λ r. ⌜ gatheredOf r (now (bytes .exit)) ≡ gathered (heldOf (now (bytes .entry)) m) (drop at (now (input .entry))) at ⌝ }
 {
-    let mut bytes = h.bytes;
-    let mut len = h.len;
-    let mut spaces = h.spaces;
-    let mut run = h.run;
+    let mut len = m.len;
+    let mut spaces = m.spaces;
+    let mut run = m.run;
     let mut i = at;
     while i < input.len() {
         let b = input[i];
         if b == b'\n' {
             return Gathered {
-                held: hold(bytes, len, spaces, run),
+                mark: Mark { len, spaces, run },
                 at: i + 1,
                 ended: true,
             };
@@ -130,33 +115,26 @@ pub fn gather(h: Held, input: &[u8], at: usize) -> Gathered
         }
     }
     Gathered {
-        held: hold(bytes, len, spaces, run),
+        mark: Mark { len, spaces, run },
         at: i,
         ended: false,
     }
 }
 
-// A line of which nothing is held.
-pub fn new_held() -> Held
-    ensures { λ r. ⌜ r ≡ newHeld ⌝ }
+// A new line: nothing of it is held.
+pub fn new_mark() -> Mark
+    ensures { λ r. ⌜ r ≡ newMark ⌝ }
 {
-    Held {
-        bytes: [0u8; 2177],
+    Mark {
         len: 0,
         spaces: 0,
         run: 0,
     }
 }
 
-// A new line.
-pub fn emptied(h: Held) -> Held
-    ensures { λ r. ⌜ r ≡ emptied h ⌝ }
+// The bytes that lines are held in, before the first.
+pub fn new_bytes() -> [u8; 2177]
+    ensures { λ r. ⌜ r ≡ replicate 2177 0 ⌝ }
 {
-    let bytes = h.bytes;
-    Held {
-        bytes,
-        len: 0,
-        spaces: 0,
-        run: 0,
-    }
+    [0u8; 2177]
 }

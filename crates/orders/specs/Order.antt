@@ -1,7 +1,7 @@
 -- Document 01, the session program: one line of input, and what it does.
 use Prim.Native.Nat.{ℕ}
 use mathlib.Core.List.{List}
-use mathlib.Core.Bool.{true, cond, _&&_}
+use mathlib.Core.Bool.{Bool, true, cond, _&&_}
 use lib.Dec.{eqb, leb}
 use lib.ListN.{replicate}
 use Rattle.days.specs.declared.calendar.DayRead.{DayRead}
@@ -13,7 +13,9 @@ use Rattle.fields.specs.Codes.{kindRead}
 use Rattle.fields.specs.Number.{numberRead}
 use Rattle.days.specs.Calendar.{dayFault, dayRead}
 use Rattle.dates.specs.Date.{dateRead}
+use Rattle.table.specs.declared.Gate.{Gate}
 use Rattle.table.specs.Table.{Rows}
+use Rattle.table.specs.Columns.{Columns, gateOf}
 use Rattle.table.specs.Accounts.{withClosed}
 use Rattle.ledger.specs.declared.Reply.{Reply}
 use Rattle.opening.specs.Opening.{openAccount, drawFunds}
@@ -21,8 +23,16 @@ use Rattle.gate.specs.Deliver.{deliver}
 use Rattle.admission.specs.Delivery.{Delivery}
 use Rattle.line_fields.specs.LineFields.{fieldCount, fieldAt, hasLetter, paramsIn}
 use Rattle.figures.specs.Figures.{printed}
-use Rattle.orders.specs.declared.Console.{Console}
+use Rattle.orders.specs.declared.ConsoleHead.{ConsoleHead}
 use Rattle.orders.specs.declared.turn.Turn.{Turn as Given}
+
+-- the gate of a session, once a closed day has started it; its accounts are lent in columns
+pub record Console : Type 0 where
+  pub started : Bool
+  pub gate : Gate
+
+abbrev pub consoleOf : ConsoleHead → Columns → Console
+consoleOf x a = record { started = x .started; gate = gateOf (x .head) a }
 
 -- ---- what a line does
 -- its code, or 99; the console and the rows after it
@@ -31,8 +41,8 @@ pub record Turn : Type 0 where
   pub console : Console
   pub rows : Rows
 
-abbrev pub turnOf : Given → Rows → Turn
-turnOf r rows = record { code = r .code; console = r .console; rows = rows }
+abbrev pub turnOf : Given → Columns → Rows → Turn
+turnOf r a rows = record { code = r .code; console = consoleOf (r .console) a; rows = rows }
 
 abbrev pub unread : Console → Rows → Turn
 unread x t = record { code = 99; console = x; rows = t }

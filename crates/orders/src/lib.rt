@@ -1,10 +1,10 @@
 // One line of a session: what it does at the gate.
 pub mod turn;
 
-use table::Gate;
+use table::Head;
 
-// The gate of a session, once a closed day has started it.
-pub struct Console {
+// What a session holds beside its accounts and its table; a closed day starts it.
+pub struct ConsoleHead {
     pub started: bool,
-    pub gate: Gate,
+    pub head: Head,
 }

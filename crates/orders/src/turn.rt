@@ -1,12 +1,12 @@
 // What a line of a session does.
-use crate::Console;
+use crate::ConsoleHead;
 use dates::date;
 use days::calendar;
 use days::calendar::DayRead;
 use fields::codes;
 use fields::number;
 use gate::deliver;
-use ledger::Reply;
+use ledger::HeadReply;
 use texts::digits;
 use texts::digits::Digits;
 ghost use mathlib.Core.Path.{_≡_};
@@ -14,18 +14,19 @@ ghost use mathlib.Core.Bool.{true};
 ghost use Rattle.texts.specs.declared.digits.Digits.the-variants.{Value};
 ghost use Rattle.table.specs.Table.{Rows};
 ghost use Rattle.table.specs.Lent.{before, after};
-ghost use Rattle.orders.specs.declared.turn.Turn.{Turn};
-ghost use Rattle.orders.specs.Order.{turnOf, kindIn, startTurn, openTurn, drawOf, drawTurn, askTurn, orderTurn, lineTurn};
+ghost use Rattle.table.specs.Columns.{Columns, columnsBefore, columnsAfter, columnsMoved};
+ghost use Rattle.opening.specs.Opening.{lentReply};
+ghost use Rattle.orders.specs.Order.{consoleOf, turnOf, unread, replied, kindIn, startTurn, openTurn, drawOf, drawTurn, askTurn, orderTurn, lineTurn};
 
 // A line's code, or 99, and the console after it.
 pub struct Turn {
     pub code: u64,
-    pub console: Console,
+    pub console: ConsoleHead,
 }
 
 // A line that is not understood.
-fn not_read(x: Console) -> Turn
-    ensures { λ r. ⌜ _≡_ {A = Turn} r (record { code = 99; console = x }) ⌝ }
+fn not_read(x: ConsoleHead) -> Turn
+    ensures { λ r. ⌜ ((a : Columns) (t : Rows) → turnOf r a t ≡ unread (consoleOf x a) t) ⌝ }
 {
     Turn {
         code: 99,
@@ -34,15 +35,15 @@ fn not_read(x: Console) -> Turn
 }
 
 // What a call at the gate answers.
-fn answered(r: Reply) -> Turn
-    ensures { λ a. ⌜ _≡_ {A = Turn} a (record { code = r .code; console = record { started = true; gate = r .gate } }) ⌝ }
+fn answered(r: HeadReply) -> Turn
+    ensures { λ x. ⌜ ((a : Columns) (t : Rows) → turnOf x a t ≡ replied t (lentReply r a)) ⌝ }
 {
-    let gate = r.gate;
+    let head = r.head;
     Turn {
         code: r.code,
-        console: Console {
+        console: ConsoleHead {
             started: true,
-            gate,
+            head,
         },
     }
 }
@@ -58,8 +59,8 @@ fn kind_in(d: Digits) -> u64
 }
 
 // C: a day starts the session.
-fn start_turn(x: Console, line: &[u8]) -> Turn
-    ensures { λ r. ⌜ ((t : Rows) → turnOf r t ≡ startTurn x t (now (line .entry))) ⌝ }
+fn start_turn(x: ConsoleHead, line: &[u8]) -> Turn
+    ensures { λ r. ⌜ ((a : Columns) (t : Rows) → turnOf r a t ≡ startTurn (consoleOf x a) t (now (line .entry))) ⌝ }
 {
     if !line_fields::has_form(line, b'C', 2) {
         return not_read(x);
@@ -67,11 +68,11 @@ fn start_turn(x: Console, line: &[u8]) -> Turn
     let DayRead::Good(d) = calendar::read_day(line_fields::field_at(line, 1)) else {
         return not_read(x);
     };
-    let mut gate = x.gate;
-    gate.closed = d;
-    answered(Reply {
+    let mut head = x.head;
+    head.closed = d;
+    answered(HeadReply {
         code: 0,
-        gate,
+        head,
         size: 0,
     })
 }
@@ -81,16 +82,30 @@ fn open_turn(
     nums: &[[u64; 6]],
     numbers: &[[u8; 30]],
     dates: &[[[u8; 19]; 3]],
-    x: Console,
+    names: &mut [[u8; 30]; 256],
+    keys: &mut [[u64; 2]; 256],
+    balances: &mut [i64; 256],
+    x: ConsoleHead,
     line: &[u8],
 ) -> Turn
-    ensures { λ r. ⌜ turnOf r (before nums numbers dates) ≡ openTurn x (before nums numbers dates) (now (line .entry)) ⌝ }
+    ensures { λ r. ⌜ turnOf r (columnsAfter names keys balances) (before nums numbers dates)
+        ≡ openTurn (consoleOf x (columnsBefore names keys balances)) (before nums numbers dates) (now (line .entry)) ⌝ }
 {
     let n = number::read_number(line_fields::field_at(line, 1));
     let kind = kind_in(codes::read_kind(line_fields::field_at(line, 2)));
-    let gate = x.gate;
+    let head = x.head;
     let number = n.number;
-    answered(opening::open_account(nums, numbers, dates, gate, number, kind))
+    answered(opening::open_lent(
+        nums,
+        numbers,
+        dates,
+        names,
+        keys,
+        balances,
+        head,
+        number,
+        kind,
+    ))
 }
 
 // A draw of kopecks that were read.
@@ -98,17 +113,32 @@ fn draw_of(
     nums: &[[u64; 6]],
     numbers: &[[u8; 30]],
     dates: &[[[u8; 19]; 3]],
-    x: Console,
+    names: &[[u8; 30]; 256],
+    keys: &[[u64; 2]; 256],
+    balances: &mut [i64; 256],
+    x: ConsoleHead,
     line: &[u8],
     kopecks: u64,
 ) -> Turn
-    ensures { λ r. ⌜ turnOf r (before nums numbers dates) ≡ drawOf x (before nums numbers dates) (now (line .entry)) (Value kopecks) ⌝ }
+    ensures { λ r. ⌜ turnOf r (columnsMoved names keys balances) (before nums numbers dates)
+        ≡ drawOf (consoleOf x (columnsBefore names keys balances)) (before nums numbers dates) (now (line .entry)) (Value kopecks) ⌝ }
 {
     let n = number::read_number(line_fields::field_at(line, 1));
     let kind = kind_in(codes::read_kind(line_fields::field_at(line, 2)));
-    let gate = x.gate;
+    let head = x.head;
     let number = n.number;
-    answered(opening::draw_funds(nums, numbers, dates, gate, number, kind, kopecks))
+    answered(opening::draw_lent(
+        nums,
+        numbers,
+        dates,
+        names,
+        keys,
+        balances,
+        head,
+        number,
+        kind,
+        kopecks,
+    ))
 }
 
 // D: a draw, of kopecks in 1 to 15 digits.
@@ -116,15 +146,29 @@ fn draw_turn(
     nums: &[[u64; 6]],
     numbers: &[[u8; 30]],
     dates: &[[[u8; 19]; 3]],
-    x: Console,
+    names: &[[u8; 30]; 256],
+    keys: &[[u64; 2]; 256],
+    balances: &mut [i64; 256],
+    x: ConsoleHead,
     line: &[u8],
 ) -> Turn
-    ensures { λ r. ⌜ turnOf r (before nums numbers dates) ≡ drawTurn x (before nums numbers dates) (now (line .entry)) ⌝ }
+    ensures { λ r. ⌜ turnOf r (columnsMoved names keys balances) (before nums numbers dates)
+        ≡ drawTurn (consoleOf x (columnsBefore names keys balances)) (before nums numbers dates) (now (line .entry)) ⌝ }
 {
     let Digits::Value(kopecks) = digits::read_digits(line_fields::field_at(line, 3), 15) else {
         return not_read(x);
     };
-    draw_of(nums, numbers, dates, x, line, kopecks)
+    draw_of(
+        nums,
+        numbers,
+        dates,
+        names,
+        keys,
+        balances,
+        x,
+        line,
+        kopecks,
+    )
 }
 
 // R: a request; its answer is not shown.
@@ -132,17 +176,32 @@ fn ask_turn(
     nums: &mut [[u64; 6]],
     numbers: &mut [[u8; 30]],
     dates: &mut [[[u8; 19]; 3]],
-    x: Console,
+    names: &[[u8; 30]; 256],
+    keys: &[[u64; 2]; 256],
+    balances: &mut [i64; 256],
+    x: ConsoleHead,
     line: &[u8],
 ) -> Turn
-    ensures { λ r. ⌜ turnOf r (after nums numbers dates) ≡ askTurn x (before nums numbers dates) (now (line .entry)) ⌝ }
+    ensures { λ r. ⌜ turnOf r (columnsMoved names keys balances) (after nums numbers dates)
+        ≡ askTurn (consoleOf x (columnsBefore names keys balances)) (before nums numbers dates) (now (line .entry)) ⌝ }
 {
     let mut out = [0u8; 512];
     let d = date::read_date(line_fields::field_at(line, 1));
     let params = line_fields::params_in(line);
-    let gate = x.gate;
+    let head = x.head;
     let clock = d.date;
-    answered(deliver::deliver(nums, numbers, dates, gate, clock, params, &mut out))
+    answered(deliver::deliver_lent(
+        nums,
+        numbers,
+        dates,
+        names,
+        keys,
+        balances,
+        head,
+        clock,
+        params,
+        &mut out,
+    ))
 }
 
 // A line of a started session, by its letter.
@@ -150,19 +209,23 @@ fn order_turn(
     nums: &mut [[u64; 6]],
     numbers: &mut [[u8; 30]],
     dates: &mut [[[u8; 19]; 3]],
-    x: Console,
+    names: &mut [[u8; 30]; 256],
+    keys: &mut [[u64; 2]; 256],
+    balances: &mut [i64; 256],
+    x: ConsoleHead,
     line: &[u8],
 ) -> Turn
-    ensures { λ r. ⌜ turnOf r (after nums numbers dates) ≡ orderTurn x (before nums numbers dates) (now (line .entry)) ⌝ }
+    ensures { λ r. ⌜ turnOf r (columnsAfter names keys balances) (after nums numbers dates)
+        ≡ orderTurn (consoleOf x (columnsBefore names keys balances)) (before nums numbers dates) (now (line .entry)) ⌝ }
 {
     if line_fields::has_form(line, b'O', 3) {
-        return open_turn(nums, numbers, dates, x, line);
+        return open_turn(nums, numbers, dates, names, keys, balances, x, line);
     }
     if line_fields::has_form(line, b'D', 4) {
-        return draw_turn(nums, numbers, dates, x, line);
+        return draw_turn(nums, numbers, dates, names, keys, balances, x, line);
     }
     if line_fields::has_least(line, b'R', 3) {
-        return ask_turn(nums, numbers, dates, x, line);
+        return ask_turn(nums, numbers, dates, names, keys, balances, x, line);
     }
     not_read(x)
 }
@@ -172,13 +235,17 @@ pub fn line_turn(
     nums: &mut [[u64; 6]],
     numbers: &mut [[u8; 30]],
     dates: &mut [[[u8; 19]; 3]],
-    x: Console,
+    names: &mut [[u8; 30]; 256],
+    keys: &mut [[u64; 2]; 256],
+    balances: &mut [i64; 256],
+    x: ConsoleHead,
     line: &[u8],
 ) -> Turn
-    ensures { λ r. ⌜ turnOf r (after nums numbers dates) ≡ lineTurn x (before nums numbers dates) (now (line .entry)) ⌝ }
+    ensures { λ r. ⌜ turnOf r (columnsAfter names keys balances) (after nums numbers dates)
+        ≡ lineTurn (consoleOf x (columnsBefore names keys balances)) (before nums numbers dates) (now (line .entry)) ⌝ }
 {
     if x.started {
-        order_turn(nums, numbers, dates, x, line)
+        order_turn(nums, numbers, dates, names, keys, balances, x, line)
     } else {
         start_turn(x, line)
     }

@@ -2,10 +2,14 @@
 use console::feed;
 use console::feed::Part;
 use console::start;
+use table::columns;
 use texts::scan;
 ghost use mathlib.Core.Path.{_≡_};
+ghost use Prim.Native.Nat.{_*_, _≤_};
 ghost use lib.ListN.{length};
+ghost use Rattle.table.specs.Columns.{gateOf, columnsLent, columnsAfter};
 ghost use Rattle.figures.specs.Sums.{Summable};
+ghost use Rattle.console.specs.Session.{newHead};
 
 // A session, whether its input goes on, and whether what it printed was written.
 struct Stage {
@@ -42,13 +46,11 @@ fn input_part() -> [u8; 1024]
 
 // A session that has not begun.
 fn begin() -> Part
-    ensures { λ r. ⌜ Summable (r .console .gate) ⌝ }
+    ensures { λ r. ⌜ r .console ≡ newHead ⌝ }
 {
-    let console = start::new_console();
-    let held = gathering::new_held();
     Part {
-        console,
-        held,
+        console: start::new_console(),
+        mark: gathering::new_mark(),
         size: 0,
     }
 }
@@ -63,18 +65,22 @@ fn feed_some(
     nums: &mut [[u64; 6]],
     numbers: &mut [[u8; 30]],
     dates: &mut [[[u8; 19]; 3]],
+    names: &mut [[u8; 30]; 256],
+    keys: &mut [[u64; 2]; 256],
+    balances: &mut [i64; 256],
+    bytes: &mut [u8; 2177],
+    input: &mut [u8],
+    out: &mut [u8],
     s: Part,
 ) -> Stage
-    requires { ⌜ Summable (s .console .gate) ⌝ }
-    ensures { λ r. ⌜ Summable (r .session .console .gate) ⌝ }
+    requires { ⌜ Summable (gateOf (s .console .head) (columnsLent names keys balances)) × (64 * length (now input) ≤ length (now out)) ⌝ }
+    ensures { λ r. ⌜ Summable (gateOf (r .session .console .head) (columnsAfter names keys balances)) ⌝ }
 {
-    let mut input = input_part();
-    let mut out = io::large_buffer();
-    let got = libc::read(0, &mut input);
+    let got = libc::read(0, input);
     if got < 0 {
         complain(b"session: cannot read standard input\n");
     }
-    let n = io::count(got, &input);
+    let n = io::count(got, input);
     if n == 0 {
         return Stage {
             session: s,
@@ -83,9 +89,21 @@ fn feed_some(
         };
     }
     let console = s.console;
-    let held = s.held;
-    let next = feed::feed(nums, numbers, dates, console, held, &input[..n], &mut out);
-    let written = io::write_all(1, scan::first_bytes(&out, next.size));
+    let mark = s.mark;
+    let next = feed::feed(
+        nums,
+        numbers,
+        dates,
+        names,
+        keys,
+        balances,
+        bytes,
+        console,
+        mark,
+        &input[..n],
+        out,
+    );
+    let written = io::write_all(1, scan::first_bytes(out, next.size));
     Stage {
         session: next,
         going: written,
@@ -98,15 +116,32 @@ fn feed_all(
     nums: &mut [[u64; 6]],
     numbers: &mut [[u8; 30]],
     dates: &mut [[[u8; 19]; 3]],
+    names: &mut [[u8; 30]; 256],
+    keys: &mut [[u64; 2]; 256],
+    balances: &mut [i64; 256],
+    bytes: &mut [u8; 2177],
+    input: &mut [u8],
+    out: &mut [u8],
     s: Part,
 ) -> Stage
-    requires { ⌜ Summable (s .console .gate) ⌝ }
-    ensures { λ r. ⌜ Summable (r .session .console .gate) ⌝ }
+    requires { ⌜ Summable (gateOf (s .console .head) (columnsLent names keys balances)) × (64 * length (now input) ≤ length (now out)) ⌝ }
+    ensures { λ r. ⌜ Summable (gateOf (r .session .console .head) (columnsAfter names keys balances)) ⌝ }
 {
     let mut session = s;
     let mut turns = u64::MAX;
     while 0 < turns {
-        let stage = feed_some(nums, numbers, dates, session);
+        let stage = feed_some(
+            nums,
+            numbers,
+            dates,
+            names,
+            keys,
+            balances,
+            bytes,
+            input,
+            out,
+            session,
+        );
         if !stage.going {
             return stage;
         }
@@ -125,14 +160,30 @@ fn print_last(
     nums: &mut [[u64; 6]],
     numbers: &mut [[u8; 30]],
     dates: &mut [[[u8; 19]; 3]],
+    names: &mut [[u8; 30]; 256],
+    keys: &mut [[u64; 2]; 256],
+    balances: &mut [i64; 256],
+    bytes: &[u8; 2177],
     s: Part,
 ) -> bool
-    requires { ⌜ Summable (s .console .gate) ⌝ }
+    requires { ⌜ Summable (gateOf (s .console .head) (columnsLent names keys balances)) ⌝ }
 {
     let mut out = [0u8; 64];
     let console = s.console;
-    let held = s.held;
-    let last = feed::finish(nums, numbers, dates, console, held, &mut out, 0);
+    let mark = s.mark;
+    let last = feed::finish(
+        nums,
+        numbers,
+        dates,
+        names,
+        keys,
+        balances,
+        bytes,
+        console,
+        mark,
+        &mut out,
+        0,
+    );
     io::write_all(1, scan::first_bytes(&out, last.size))
 }
 
@@ -140,11 +191,37 @@ fn main() {
     let mut nums = empty_nums();
     let mut numbers = empty_numbers();
     let mut dates = empty_dates();
-    let stage = feed_all(&mut nums, &mut numbers, &mut dates, begin());
+    let mut names = columns::empty_names();
+    let mut keys = columns::empty_keys();
+    let mut balances = columns::empty_balances();
+    let mut bytes = gathering::new_bytes();
+    let mut input = input_part();
+    let mut out = io::large_buffer();
+    let stage = feed_all(
+        &mut nums,
+        &mut numbers,
+        &mut dates,
+        &mut names,
+        &mut keys,
+        &mut balances,
+        &mut bytes,
+        &mut input,
+        &mut out,
+        begin(),
+    );
     let mut written = stage.written;
     if written {
         let session = stage.session;
-        written = print_last(&mut nums, &mut numbers, &mut dates, session);
+        written = print_last(
+            &mut nums,
+            &mut numbers,
+            &mut dates,
+            &mut names,
+            &mut keys,
+            &mut balances,
+            &bytes,
+            session,
+        );
     }
     if !written {
         complain(b"session: cannot write standard output\n");

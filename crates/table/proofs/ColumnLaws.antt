@@ -2,12 +2,12 @@
 use mathlib.Core.Path.{_≡_, refl, sym, ap, _∙_}
 use mathlib.Core.Logic.{_≢_}
 use mathlib.Core.Bool.{Bool, true, false}
-use mathlib.Core.List.{List, [], _∷_}
-use Prim.Native.Nat.{ℕ, _+_, _<_, _≤_}
+use mathlib.Core.List.{List, [], _∷_, _++_}
+use Prim.Native.Nat.{ℕ, zero, suc, _+_, _<_, _≤_}
 use native.Mathlib.Omega.{arith}
 use native.Mathlib.Decide.{ℕ-discrete}
 use lib.IntN.{ℤ, pos}
-use lib.ListN.{length, drop, getD, set}
+use lib.ListN.{length, drop, getD, set, replicate, getD-replicate}
 use lib.Seq.{take-all, ext-getD, getD-set-same, getD-set-other}
 use Rattle.fields.specs.declared.number.Number.{Number}
 use Rattle.lists.specs.declared.Found.{Found}
@@ -29,6 +29,27 @@ size-in a = length-tab 256 (accountIn a)
 pub account-in : (a : Columns) (i : ℕ) → i < 256 → (x : Account) → x ≡ accountIn a i → x ≡ getD (accountsIn a) i noAccount
 unfolding accountsIn
 account-in a i h x e = e ∙ sym (getD-tab 256 (accountIn a) i noAccount h)
+
+-- ---- columns in which nothing stands
+tab-const : {A : Type 0} (n : ℕ) (x : A) → tab n (λ i. x) ≡ replicate n x
+unfolding tab
+tab-const zero x = refl
+tab-const (suc n) x = ap (λ (l : List _). l ++ (x ∷ [])) (tab-const n x) ∙ last n
+  where
+    last : (k : ℕ) → replicate k x ++ (x ∷ []) ≡ x ∷ replicate k x
+    last zero = refl
+    last (suc k) = ap (λ (l : List _). x ∷ l) (last k)
+
+pub empty-in : (names keys : List (List ℕ)) (balances : List ℤ) → names ≡ replicate 256 (replicate 30 0) → keys ≡ replicate 256 (replicate 2 0) → balances ≡ replicate 256 (pos 0)
+    → accountsIn (columnsOf names keys balances) ≡ replicate 256 (record { number = record { bytes = replicate 30 0; len = 0 }; kind = 0; balance = pos 0 })
+unfolding accountsIn
+empty-in names keys balances en ek eb = tab-same 256 (accountIn (columnsOf names keys balances)) (λ i. none) one ∙ tab-const 256 none
+  where
+    none : Account
+    none = record { number = record { bytes = replicate 30 0; len = 0 }; kind = 0; balance = pos 0 }
+
+    one : (i : ℕ) → i < 256 → accountIn (columnsOf names keys balances) i ≡ none
+    one i h = rw (en, ek, eb, getD-replicate 256 i (replicate {A = ℕ} 30 0) [] h, getD-replicate 256 i (replicate {A = ℕ} 2 0) [] h, getD-replicate 256 i (pos 0) (pos 0) h)
 
 -- ---- the first that fits: a loop that has passed i accounts
 module _ (a : Columns) (h : Head) (n : Number) (k i : ℕ) (few : h .count ≤ 256)

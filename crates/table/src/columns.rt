@@ -9,7 +9,8 @@ use lists::Found;
 ghost use mathlib.Core.Path.{_≡_};
 ghost use mathlib.Core.List.{List};
 ghost use Prim.Native.Nat.{ℕ, _+_, _<_, _≤_};
-ghost use lib.ListN.{length, getD};
+ghost use lib.IntN.{pos};
+ghost use lib.ListN.{length, getD, replicate};
 ghost use Rattle.table.specs.Accounts.{noAccount, accountsOf, findAccount, holdingOf, gateBalance, opened};
 ghost use Rattle.table.specs.Columns.{accountsIn, gateOf, headOf, countedHead, columnsOf, columnsBefore, columnsAfter};
 
@@ -84,19 +85,19 @@ pub fn find_account(
 
 // Columns in which nothing stands yet.
 pub fn empty_names() -> [[u8; 30]; 256]
-    ensures { λ r. ⌜ 256 ≡ length r ⌝ }
+    ensures { λ r. ⌜ (256 ≡ length r) × (r ≡ replicate 256 (replicate 30 0)) ⌝ }
 {
     [[0u8; 30]; 256]
 }
 
 pub fn empty_keys() -> [[u64; 2]; 256]
-    ensures { λ r. ⌜ 256 ≡ length r ⌝ }
+    ensures { λ r. ⌜ (256 ≡ length r) × (r ≡ replicate 256 (replicate 2 0)) ⌝ }
 {
     [[0u64; 2]; 256]
 }
 
 pub fn empty_balances() -> [i64; 256]
-    ensures { λ r. ⌜ 256 ≡ length r ⌝ }
+    ensures { λ r. ⌜ (256 ≡ length r) × (r ≡ replicate 256 (pos 0)) ⌝ }
 {
     [0i64; 256]
 }
@@ -114,12 +115,7 @@ pub fn head_of(g: Gate) -> Head
 }
 
 // Puts the accounts of a gate into columns.
-pub fn unpack(
-    g: Gate,
-    names: &mut [[u8; 30]],
-    keys: &mut [[u64; 2]],
-    balances: &mut [i64],
-)
+pub fn unpack(g: Gate, names: &mut [[u8; 30]], keys: &mut [[u64; 2]], balances: &mut [i64])
     requires { ⌜ (256 ≡ length (now names)) × (256 ≡ length (now keys)) × (256 ≡ length (now balances)) ⌝ }
     ensures { λ _. ⌜ gateOf (headOf g) (columnsAfter names keys balances) ≡ g ⌝ }
 {
@@ -137,12 +133,7 @@ pub fn unpack(
 }
 
 // The gate of a head and columns.
-pub fn pack(
-    h: Head,
-    names: &[[u8; 30]; 256],
-    keys: &[[u64; 2]; 256],
-    balances: &[i64; 256],
-) -> Gate
+pub fn pack(h: Head, names: &[[u8; 30]; 256], keys: &[[u64; 2]; 256], balances: &[i64; 256]) -> Gate
     ensures { λ r. ⌜ r ≡ gateOf h (columnsBefore names keys balances) ⌝ }
 {
     let first = account_at(names, keys, balances, 0);

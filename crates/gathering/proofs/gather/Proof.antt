@@ -1,22 +1,20 @@
--- `console::gather::gather` meets its contract. The invariant: what is left to gather gives the whole. The two needs of the store name the step's facts, which a search does not reach.
+-- `gathering::gather` meets its contract. The invariant: what is left to gather gives the whole. The two needs of the store name the step's facts, which a search does not reach.
 use Rattle.gathering.proofs.GatherLaws.{keep-room, keep-fits, gather-out, gather-end, gather-keep, gather-pass}
 use Prim.Native.Nat.{_-_}
 use mathlib.Core.Path.{_≡_}
 use lib.ListN.{length, drop}
-use Rattle.gathering.specs.declared.Gathered.{Gathered}
-use Rattle.gathering.specs.Gather.{gathered}
+use Rattle.gathering.specs.Gather.{Gathered, gathered}
 use borrow.Author.Needs.{needs}
 use Rattle.gathering.proofs.gather.Statement.{statement}
 use Rattle.gathering.proofs.gather.Tie as tie
 
 abbrev Inv-loop : tie.InvT-loop
-Inv-loop input at bytes₀ len₀ spaces₀ run₀ i₀ bytes len spaces run i =
-    (length bytes ≡ 2177)
-    × (_≡_ {A = Gathered} (gathered (record { bytes = bytes₀; len = len₀; spaces = spaces₀; run = run₀ }) (drop at input) at)
-    (gathered (record { bytes = bytes; len = len; spaces = spaces; run = run }) (drop i input) i))
+Inv-loop bytes₀ input at len₀ spaces₀ run₀ i₀ bytes len spaces run i =
+    _≡_ {A = Gathered} (gathered (record { bytes = bytes₀; len = len₀; spaces = spaces₀; run = run₀ }) (drop at input) at)
+    (gathered (record { bytes = bytes; len = len; spaces = spaces; run = run }) (drop i input) i)
 
 abbrev μ-loop : tie.MeasureT-loop
-μ-loop input at bytes₀ len₀ spaces₀ run₀ i₀ bytes len spaces run i = length input - i
+μ-loop bytes₀ input at len₀ spaces₀ run₀ i₀ bytes len spaces run i = length input - i
 
 ruleset laws = (gather-out, gather-end, gather-keep, gather-pass, needs)
 
@@ -28,7 +26,6 @@ gather-spec =
     μ-loop
     (λ c. search laws)
     (λ c. search laws)
-    (λ c κs. search laws)
     (λ c. search laws)
     (λ c. search laws)
     (λ c. search laws)
@@ -40,5 +37,4 @@ gather-spec =
     (λ c. search laws)
     (λ c. search laws)
     (λ c. search laws)
-    (λ c κs. search laws)
     (λ c. search laws))

@@ -1,36 +1,68 @@
-use Rattle.console.proofs.PartLaws.{run-refused, new-sums, feed-room, last-room, run-whole}
+use mathlib.Core.Path.{refl}
+use mathlib.Core.List.{[]}
 use borrow.Author.Needs.{needs}
+use Rattle.console.proofs.PartLaws.{run-refused, new-sums, console-new, held-new, feed-room, last-room, run-whole}
 use Rattle.console.proofs.feed.run_session.Statement.{statement}
 use Rattle.console.proofs.feed.run_session.Tie as tie
 
+returns : tie.Need-returns
+returns c = run-refused _ _ _ (c .if1 .taken) _ refl _ refl
+
+feed-requires : tie.Need-feed-requires
+feed-requires c κs =
+    let k = c .before in
+    let x = k .before in
+    let b = x .before .before .before .before .before .before .before .before in
+    let q = b .before in
+    let y = q .before in
+    let m = y .before in
+    let e = m .before in
+    let new = console-new _ _ _ _ (x .new-console .ensures) (m .empty-names .ensures .1) (y .empty-keys .ensures .1) (q .empty-balances .ensures .1) in
+    let s = e .before .before .before in
+    (new-sums _ new, feed-room (record { nums = []; numbers = []; dates = [] }) (s .args .input .now) (s .args .out .now) (e .if1 .left))
+
 finish-requires : tie.Need-finish-requires
 finish-requires c κs =
-    let f = c .before .before .before .before .before .before .before .before .before .before .before in
-    let k = f .before .before .before .before .before in (
-      f .feed .ensures .1,
-      last-room _ _ _ (k .before .before .if1 .left) _ _ (k .before .new-console .ensures) (k .new-held .ensures) _ _ _ _ _ (f .feed .ensures .0),
-    )
+    let f = c .before .before .before .before .before .before .before .before .before .before .before .before .before .before .before in
+    let k = f .before .before in
+    let x = k .before in
+    let b = x .before .before .before .before .before .before .before .before in
+    let q = b .before in
+    let y = q .before in
+    let m = y .before in
+    let e = m .before in
+    let new = console-new _ _ _ _ (x .new-console .ensures) (m .empty-names .ensures .1) (y .empty-keys .ensures .1) (q .empty-balances .ensures .1) in
+    (f .feed .ensures .1, last-room _ _ _ (e .if1 .left) _ _ new (held-new _ _ (b .new-bytes .ensures) (k .new-mark .ensures)) _ _ _ _ _ (f .feed .ensures .0))
 
 returns-2 : tie.Need-returns-2
 returns-2 c =
-    let e = c .before .before .before .before .before in
-    let f = e .before .before .before .before .before .before .before .before .before .before .before .before in
-    let k = f .before .before .before .before .before in
-    run-whole _ _ _ (k .before .before .if1 .left) _ _ (k .before .new-console .ensures) (k .new-held .ensures) _ _ _ _ _ (f .feed .ensures .0) _ _ _ _ _ (e .finish .ensures)
-
-ruleset laws = (run-refused, new-sums, feed-room, needs)
+    let l = c .before .before .before .before .before in
+    let f = l .before .before .before .before .before .before .before .before .before .before .before .before .before .before .before .before in
+    let k = f .before .before in
+    let x = k .before in
+    let b = x .before .before .before .before .before .before .before .before in
+    let q = b .before in
+    let y = q .before in
+    let m = y .before in
+    let e = m .before in
+    let new = console-new _ _ _ _ (x .new-console .ensures) (m .empty-names .ensures .1) (y .empty-keys .ensures .1) (q .empty-balances .ensures .1) in
+    run-whole _ _ _ (e .if1 .left) _ _ new (held-new _ _ (b .new-bytes .ensures) (k .new-mark .ensures)) _ _ _ _ _ (f .feed .ensures .0) _ _ _ _ _ (l .finish .ensures)
 
 pub run-session-spec : {M : Type 1} → statement M
 run-session-spec =
     tie.close
     (tie.spec
-    (λ c. search laws)
-    (λ c κs. search laws)
-    (λ c κs. search laws)
-    (λ c κs. search laws)
+    returns
+    (λ c κs. search needs)
+    (λ c κs. search needs)
+    (λ c κs. search needs)
+    (λ c κs. search needs)
+    (λ c κs. search needs)
+    (λ c κs. search needs)
+    feed-requires
     finish-requires
-    (λ c. search laws)
-    (λ c. search laws)
-    (λ c. search laws)
-    (λ c. search laws)
+    (λ c. search needs)
+    (λ c. search needs)
+    (λ c. search needs)
+    (λ c. search needs)
     returns-2)

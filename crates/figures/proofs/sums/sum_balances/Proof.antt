@@ -1,21 +1,22 @@
 use Rattle.figures.proofs.SumLaws.{sum-start, sum-done, sum-bound, sum-fits, sum-place, balance-fits, sum-step}
 use Prim.Native.Nat.{_≤_}
 use mathlib.Core.Path.{_≡_}
-use lib.ListN.{drop}
+use mathlib.Core.List.{[]}
+use lib.ListN.{take, drop}
 use mir.Syntax.{w64}
 use mir.Val.{toZ}
-use Rattle.table.specs.Accounts.{accountsOf}
+use Rattle.table.specs.Columns.{accountsIn, columnsOf}
 use Rattle.figures.specs.Figures.{sumBalances}
 use borrow.Author.Needs.{needs}
 use Rattle.figures.proofs.sums.sum_balances.Statement.{statement}
 use Rattle.figures.proofs.sums.sum_balances.Tie as tie
 
 abbrev Inv-loop : tie.InvT-loop
-Inv-loop g sum₀ i₀ sum i =
-    (i ≤ g .count) × (toZ w64 sum ≡ sumBalances (drop i (accountsOf g)))
+Inv-loop balances sum₀ i₀ sum i =
+    (i ≤ i₀) × (toZ w64 sum ≡ sumBalances (drop i (take i₀ (accountsIn (columnsOf [] [] balances)))))
 
 abbrev μ-loop : tie.MeasureT-loop
-μ-loop g sum₀ i₀ sum i = i
+μ-loop balances sum₀ i₀ sum i = i
 
 ruleset laws = (sum-start, sum-done, sum-bound, sum-fits, sum-place, balance-fits, sum-step, needs)
 

@@ -37,8 +37,7 @@ make-change-requires c κs =
     let s = f .before .before .before .before .before .before in
     let t : Rows = record { nums = s .args .nums .now; numbers = s .args .numbers .now; dates = s .args .dates .now } in
     let g : Gate = gateOf (s .args .head) (columnsOf (s .args .names .now) (s .args .keys .now) (s .args .balances .now)) in
-    let p = m .make-plan .ensures g refl refl (h .holding-of .ensures) in
-    (
+    let p = m .make-plan .ensures g refl refl (h .holding-of .ensures) in (
       (s .pre .0 .whole, s .pre .0 .same, s .pre .0 .size),
       (
         planned g t (s .args .fault) (s .args .q) _ (plan-by g t (s .args .fault) (s .args .q) _ (f .find-record .ensures) _ (r .found-record .ensures) _ (h .holding-of .ensures) _ p) (s .pre .1 .0),
