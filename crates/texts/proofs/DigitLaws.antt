@@ -5,10 +5,12 @@ use native.Mathlib.Numerals.{sub-one}
 use native.Mathlib.Omega.{arith}
 use mathlib.Core.Path.{_≡_, refl, sym, ap, _∙_}
 use mathlib.Core.List.{List, [], _∷_, _++_, append-assoc}
-use mathlib.Core.Bool.{Bool, true, false, cond, _&&_, and-false}
+use mathlib.Core.Bool.{Bool, true, false, not, cond, _&&_, and-false}
 use lib.ListN.{length, getD, set, drop, drop-of-length-le, length-drop}
 use lib.Dec.{leb, ltb, lit<}
-use borrow.Author.Tests.{le-leb, lt-leb, lt-ltb, le-ltb, eq-eqb, ne-eqb, leb-true}
+use mir.Syntax.{w64}
+use mir.Val.{Fits}
+use borrow.Author.Tests.{le-leb, lt-leb, lt-ltb, le-ltb, eq-eqb, ne-eqb, leb-true, leb-false, ltb-true, ltb-false, not-true, not-false}
 use Rattle.texts.specs.declared.digits.Digits.{Digits}
 use Rattle.texts.specs.declared.digits.Digits.the-variants.{Value, Malformed}
 use Rattle.texts.specs.Lists.{every}
@@ -20,6 +22,29 @@ use Rattle.texts.proofs.ListLaws.{drop-next, drop-stored, every-step, e
 pub value-grows : (a : ℕ) (s : List ℕ) → a ≤ valueAfter a s
 value-grows a [] = le-refl a
 value-grows a (b ∷ s) = le-trans (omega arith) (value-grows (a * 10 + (b - 48)) s)
+
+-- ---- one digit more
+module _ (v d : ℕ) where
+  pub more-small : v < 1844674407370955161 → d < 10 → true ≡ ltb (v * 10 + d) (2 ^ 64)
+  more-small h k = let l : v * 10 + d < 2 ^ 64 = omega arith in sym (lt-ltb _ _ l)
+
+  pub more-large : (r : Bool) → r ≡ leb v ((18446744073709551615 - d) / 10) → d < 10 → r ≡ ltb (v * 10 + d) (2 ^ 64)
+  more-large true e k =
+      let l : v * 10 + d < 2 ^ 64 = omega (arith, leb-true v ((18446744073709551615 - d) / 10) (sym e)) in
+      sym (lt-ltb _ _ l)
+  more-large false e k =
+      let l : 2 ^ 64 ≤ v * 10 + d = omega (arith, leb-false v ((18446744073709551615 - d) / 10) (sym e)) in
+      sym (le-ltb _ _ l)
+
+  module _ (t : Bool) (e : t ≡ ltb (v * 10 + d) (2 ^ 64)) (fits : not t ≡ false) where
+    pub more-below : v * 10 + d < 2 ^ 64
+    more-below = ltb-true _ _ (sym e ∙ not-false t fits)
+
+    pub more-tens : Fits w64 (v * 10)
+    more-tens = omega (arith, more-below)
+
+    pub more-sum : Fits w64 (v * 10 + d)
+    more-sum = omega (arith, more-below)
 
 -- ---- digitsRead, at each way out of a reader. A reader at i with `every isDigit s ≡ every isDigit (drop i s)` has passed digits only.
 module _ (most : ℕ) (s : List ℕ) where
@@ -53,9 +78,10 @@ module _ (most : ℕ) (s : List ℕ) where
     pub pass-value : valueAfter 0 s ≡ valueAfter (v * 10 + (getD s i 0 - 48)) (drop (i + 1) s)
     pass-value = passed ∙ simp (drop-next s i h)
 
-    pub read-over : (18446744073709551615 - (getD s i 0 - 48)) / 10 < v → Malformed ≡ digitsRead most s
-    read-over l =
+    pub read-over : (t : Bool) → t ≡ ltb (v * 10 + (getD s i 0 - 48)) (2 ^ 64) → not t ≡ true → Malformed ≡ digitsRead most s
+    read-over t e n =
         let g : v * 10 + (getD s i 0 - 48) ≤ valueAfter 0 s = rw pass-value (value-grows (v * 10 + (getD s i 0 - 48)) (drop (i + 1) s)) in
+        let l : 2 ^ 64 ≤ v * 10 + (getD s i 0 - 48) = ltb-false _ _ (sym e ∙ not-true t n) in
         read-big (omega arith)
 
   pub read-value : (i v : ℕ) → every isDigit s ≡ every isDigit (drop i s) → valueAfter 0 s ≡ valueAfter v (drop i s)

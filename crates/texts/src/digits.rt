@@ -1,6 +1,8 @@
 // Fields of ASCII digits.
 use crate::out;
 ghost use mathlib.Core.Path.{_≡_};
+ghost use Prim.Native.Nat.{_+_, _*_, _^_, _<_};
+ghost use lib.Dec.{ltb};
 ghost use Rattle.texts.specs.Digits.{digitsRead, rangeRead, within, fixed, leadZeros, decimal};
 ghost use Rattle.texts.specs.Lists.{written, cursorAfter};
 
@@ -8,6 +10,17 @@ ghost use Rattle.texts.specs.Lists.{written, cursorAfter};
 pub enum Digits {
     Value(u64),
     Malformed,
+}
+
+// Whether a value with one digit more fits 64 bits. Of a small value no quotient is made.
+fn more_fits(value: u64, d: u64) -> bool
+    requires { ⌜ d < 10 ⌝ }
+    ensures { λ r. ⌜ r ≡ ltb (value * 10 + d) (2 ^ 64) ⌝ }
+{
+    if value < 1844674407370955161 {
+        return true;
+    }
+    value <= (18446744073709551615 - d) / 10
 }
 
 // The value of a field of 1 to `most` digits that fits 64 bits.
@@ -31,7 +44,7 @@ pub fn read_digits(s: &[u8], most: usize) -> Digits
             return Digits::Malformed;
         }
         let d = (b - 48) as u64;
-        if (18446744073709551615 - d) / 10 < value {
+        if !more_fits(value, d) {
             return Digits::Malformed;
         }
         value = value * 10 + d;

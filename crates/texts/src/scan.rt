@@ -1,7 +1,7 @@
 // Searching and comparing bytes.
 ghost use mathlib.Core.Path.{_≡_};
 ghost use Prim.Native.Nat.{suc, _+_, _*_, _<_, _≤_};
-ghost use mathlib.Core.Bool.{cond};
+ghost use mathlib.Core.Bool.{not, _&&_};
 ghost use lib.Dec.{eqb};
 ghost use lib.ListN.{length, take, drop};
 ghost use Rattle.texts.specs.Lists.{find, eqList};
@@ -119,25 +119,26 @@ pub fn after_byte(s: &[u8], b: u8) -> &[u8]
     bytes_from(s, find_byte(s, b) + 1)
 }
 
-// Whether a byte is b, as a number.
-fn hit(c: u8, b: u8) -> u32
-    ensures { λ r. ⌜ r ≡ cond (eqb c b) 1 0 ⌝ }
+// Whether still none is b, with one byte more. The byte is tested in either case, so that the compiler takes many together.
+fn still_none(none: bool, c: u8, b: u8) -> bool
+    ensures { λ r. ⌜ r ≡ none && not (eqb c b) ⌝ }
 {
-    if c == b { 1 } else { 0 }
+    let other = c != b;
+    if none { other } else { false }
 }
 
-// Whether none of the sixteen bytes from i on is b. None of them decides alone, so that the compiler takes them together.
+// Whether none of the sixteen bytes from i on is b.
 fn none_near(s: &[u8], i: usize, b: u8) -> bool
     requires { ⌜ i + 16 ≤ length (now s) ⌝ }
     ensures { λ r. ⌜ r ≡ eqb (find b (take 16 (drop i (now (s .entry))))) 16 ⌝ }
 {
-    let mut hits: u32 = 0;
+    let mut none = true;
     let mut j: usize = 0;
     while j < 16 {
-        hits += hit(s[i + j], b);
+        none = still_none(none, s[i + j], b);
         j += 1;
     }
-    hits == 0
+    none
 }
 
 // A place from which the first b is the same as from `at`, found by sixteen bytes at a time.

@@ -1,4 +1,4 @@
-use Rattle.texts.proofs.DigitLaws.{read-over, pass-digit, pass-value, read-value}
+use Rattle.texts.proofs.DigitLaws.{more-below, more-tens, more-sum, read-over, pass-digit, pass-value, read-value}
 use Rattle.texts.proofs.DigitLaws.{read-empty, read-long, read-low, read-high}
 use Prim.Native.Nat.{_≤_, _<_, _-_, _^_}
 use mathlib.Core.Path.{_≡_}
@@ -15,7 +15,7 @@ Inv-loop s most value₀ i₀ value i = (i ≤ length s) × (value < 2 ^ 64) × 
 abbrev μ-loop : tie.MeasureT-loop
 μ-loop s most value₀ i₀ value i = length s - i
 
-ruleset laws = (read-empty, read-long, read-low, read-high, read-over, pass-digit, pass-value, read-value, needs)
+ruleset laws = (read-empty, read-long, read-low, read-high, read-over, more-below, more-tens, more-sum, pass-digit, pass-value, read-value, needs)
 
 pub read-digits-spec : {M : Type 1} → statement M
 read-digits-spec =
