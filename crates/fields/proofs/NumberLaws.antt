@@ -61,11 +61,14 @@ module _ (s : List ℕ) where
   unfolding isNumberText
   text-judged some most t e = let o : 1 ≤ length s = omega arith in e ∙ simp (le-leb _ _ o, le-leb _ _ most)
 
-  pub number-made : length s ≤ 30 → (d : List ℕ) → d ≡ written (replicate 30 0) 0 s → record { bytes = d; len = length s } ≡ numberOf s
-  number-made most d e =
-      let fit : 0 + length s ≤ 30 = omega arith in
-      let p : d ≡ padded s = e ∙ rw (← written-over (replicate 30 0) 0 s fit) (rw zero-add) in
-      rw p
+  module _ (most : length s ≤ 30) (d : List ℕ) (e : d ≡ written (replicate 30 0) 0 s) where
+    pub padded-made : d ≡ padded s
+    padded-made =
+        let fit : 0 + length s ≤ 30 = omega arith in
+        e ∙ rw (← written-over (replicate 30 0) 0 s fit) (rw zero-add)
+
+    pub number-made : record { bytes = d; len = length s } ≡ numberOf s
+    number-made = rw padded-made
 
   module _ (t : Bool) (judged : t ≡ isNumberText s) where
     pub number-short : t ≡ true → length s ≤ 30

@@ -72,7 +72,7 @@ pub fn is_text(s: &[u8]) -> bool
 }
 
 // The number of a text.
-pub fn number_of(s: &[u8]) -> Number
+fn number_of(s: &[u8]) -> Number
     requires { ⌜ length (now s) ≤ 30 ⌝ }
     ensures { λ r. ⌜ r ≡ numberOf (now (s .entry)) ⌝ }
 {

@@ -9,25 +9,27 @@ use mathlib.Core.Bool.{Bool, true, false, cond, not, _&&_}
 use mathlib.Core.List.{List, [], _∷_, _++_, append-nil}
 use lib.Dec.{ltb, leb}
 use borrow.Author.Tests.{not-true, not-false}
-use lib.ListN.{length, getD, take, drop, length-set, drop-of-length-le}
-use lib.Seq.{drop-cons, append-snoc, getD-set-same, getD-set-other}
+use lib.ListN.{length, getD, set, take, drop, replicate, length-set, drop-of-length-le}
+use lib.Seq.{length-take-le, drop-cons, append-snoc, set-set, getD-set-same, getD-set-other}
 use Rattle.texts.specs.declared.digits.Digits.{Digits}
 use Rattle.texts.specs.declared.digits.Digits.the-variants.{Value, Malformed}
 use Rattle.fields.specs.declared.number.NumberRead.{NumberRead}
 use Rattle.dates.specs.declared.date.DateRead.{DateRead}
 use Rattle.fields.specs.Amount.{amountRead}
 use Rattle.fields.specs.Codes.{receiptRead, kindRead}
-use Rattle.fields.specs.Number.{numberRead}
+use Rattle.fields.specs.Number.{padded, numberRead}
 use Rattle.texts.proofs.Tests.{cond-elim}
+use Rattle.texts.specs.Lists.{written}
+use Rattle.fields.proofs.NumberLaws.{padded-made}
 use Rattle.fields.proofs.AmountLaws.{amount-within}
 use Rattle.texts.proofs.DigitLaws.{within-high}
 use Rattle.lists.specs.Lists.{tab}
 use Rattle.lists.proofs.ListLaws.{length-tab, getD-tab}
 use Rattle.lists.proofs.ColumnLaws.{tab-add}
 use Rattle.lines.specs.declared.line.Line.{Line}
-use Rattle.lines.specs.declared.line.LineRead.{LineRead}
-use Rattle.lines.specs.Line.{field, afterField, noLine, lineOf, lineRead}
-use Rattle.lines.specs.LineText.{lineReadOn}
+use Rattle.lines.specs.Line.{LineRead, field, afterField, noLine, lineOf, lineRead}
+use Rattle.lines.specs.declared.line.Found.{Found}
+use Rattle.lines.specs.LineText.{lineReadOn, lineIn, Stands, FoundIn}
 use Rattle.lines.proofs.LineLaws.{on-read}
 use Rattle.days.specs.declared.calendar.Day.{Day}
 use Rattle.dates.specs.Date.{dateRead}
@@ -145,6 +147,32 @@ module _ (b : Bool) (r : ℕ) (e : r ≡ cond b 52 53) (z : r ≡ 0) where
 pub lines-held : (f : ℕ) → f ≡ 0 → (u : LineRows) (n : ℕ) → (f ≡ 0 → Read u n) → Read u n
 lines-held f z u n read = read z
 
+-- ---- a line put into the rows
+pub number-put : (ns : List (List ℕ)) (i : ℕ) (s z d : List ℕ) → i < length ns → length s ≤ 30
+    → d ≡ written (getD (set ns i (replicate 30 0)) i z) 0 s → set (set ns i (replicate 30 0)) i d ≡ set ns i (padded s)
+number-put ns i s z d h most e =
+    let zeros : getD (set ns i (replicate 30 0)) i z ≡ replicate 30 0 = getD-set-same ns i (replicate 30 0) z h in
+    rw (set-set ns i (replicate 30 0) d, padded-made s most d (e ∙ ap (λ (r : List ℕ). written r 0 s) zeros))
+
+module _ (s : List ℕ) (f : Found) (stands : Stands s f) where
+  pub name-size : f .len ≡ length (take (f .len) s)
+  name-size = sym (length-take-le (f .len) s (stands .number))
+
+  pub name-short : length (take (f .len) s) ≤ 30
+  name-short = omega (arith, name-size, stands .short)
+
+  pub line-put : (ns bs ds : List (List ℕ)) (i : ℕ) (cs : List (List ℕ)) → cs ≡ set bs i (padded (take (f .len) s))
+      → (d : List ℕ) → d ≡ take (f .date + 19 - f .date) (drop (f .date) s)
+      → record { nums = set ns i (f .kind ∷ f .amount ∷ f .receipt ∷ f .len ∷ []); numbers = cs; dates = set ds i d }
+      ≡ linesWith (record { nums = ns; numbers = bs; dates = ds }) i (lineIn s f)
+  line-put ns bs ds i cs e d date =
+      let n : f .date + 19 - f .date ≡ 19 = omega arith in
+      rw (e, date, n, ← name-size)
+
+-- what was found stands in its text
+pub line-stands : (day : Day) (l : List ℕ) (f : Found) → FoundIn day l f → not (f .ok) ≡ false → Stands l f
+line-stands day l f found good = found .stands (not-false (f .ok) good)
+
 -- ---- a loop that has read n lines, up to `at`; the last had the receipt `last`
 pub record Reading (day : Day) (s : List ℕ) (u : LineRows) (n at : ℕ) (rose : Bool) (last : ℕ) : Type 0 where
   pub lines : linesOf u n ++ registryLines (drop at s) ≡ registryLines s
@@ -192,23 +220,31 @@ module _ (day : Day) (s : List ℕ) (u : LineRows) (n at : ℕ) (rose : Bool) (l
     pub rest-fault : length s ≤ e → (r : ℕ) → r ≡ cond (leb (n + lineCount (drop at s)) 512) 52 53 → r ≡ registryFault day s
     rest-fault = fault-rest day s n at (reading .count) (reading .good) e here ends
 
-    module _ (h : e < length s) (x : LineRead) (read : x ≡ lineReadOn day (take (lineEnd (drop at s)) (drop at s))) where
-      pub line-fault : not (x .ok) ≡ true → (r : ℕ) → r ≡ cond (leb (n + lineCount (drop at s)) 512) 52 53 → r ≡ registryFault day s
-      line-fault bad = fault-line day s n at (reading .count) (reading .good) e here ends x read h (not-true (x .ok) bad)
+    module _ (h : e < length s) (l : List ℕ) (own : l ≡ take (lineEnd (drop at s)) (drop at s)) (f : Found) (found : FoundIn day l f) where
+      -- the line, as its definition has it
+      read : cond (f .ok) (record { ok = true; line = lineIn l f }) noLine ≡ lineReadOn day (take (lineEnd (drop at s)) (drop at s))
+      read = found .line ∙ ap (lineReadOn day) own
 
-      pub reading-on : not (x .ok) ≡ false → n < 512 → (v : LineRows) → v ≡ linesWith u n (x .line) → (q : Bool) → q ≡ rose && ltb last (x .line .receipt)
-          → Reading day s v (n + 1) (e + 2) q (x .line .receipt)
+      pub line-fault : not (f .ok) ≡ true → (r : ℕ) → r ≡ cond (leb (n + lineCount (drop at s)) 512) 52 53 → r ≡ registryFault day s
+      line-fault bad =
+          let none : f .ok ≡ false = not-true (f .ok) bad in
+          fault-line day s n at (reading .count) (reading .good) e here ends noLine (rw none at read) h refl
+
+      pub reading-on : not (f .ok) ≡ false → n < 512 → (v : LineRows) → v ≡ linesWith u n (lineIn l f) → (q : Bool) → q ≡ rose && ltb last (f .receipt)
+          → Reading day s v (n + 1) (e + 2) q (f .receipt)
       reading-on good room v ev q eq =
-          let y : Line = x .line in
-          let ok : x .ok ≡ true = not-false (x .ok) good in
-          let whole = on-read day _ x read ok in
+          let y : Line = lineIn l f in
+          let x : LineRead = record { ok = true; line = y } in
+          let ok : f .ok ≡ true = not-false (f .ok) good in
+          let kept : x ≡ lineReadOn day (take (lineEnd (drop at s)) (drop at s)) = rw ok at read in
+          let whole = on-read day _ x kept refl in
           rw ev
           (record {
             lines = ap (λ (xs : List Line). xs ++ registryLines (drop (e + 2) s)) (lines-more u n y (omega (arith, reading .nums)) (omega (arith, reading .numbers)) (omega (arith, reading .dates)))
                 ∙ append-snoc (linesOf u n) y (registryLines (drop (e + 2) s))
                 ∙ ap (λ (xs : List Line). linesOf u n ++ xs) (sym (first-line s at e here ends x whole h)) ∙ reading .lines;
             count = count-pass s at e here ends n (reading .count) h;
-            good = good-pass s at e here ends day (reading .good) x read h ok;
+            good = good-pass s at e here ends day (reading .good) x kept h refl;
             rises = rise-pass s at e here ends rose last (reading .rises) x whole h q eq;
             few = omega arith;
             nums = length-set (u .nums) n (lineNums y) ∙ reading .nums;

@@ -1,13 +1,19 @@
 // The lines of a registry, read from its text once and held in rows.
+use dates::date;
 use days::calendar::Day;
 use fields::number::Number;
+use lines::line;
+use lines::line::Found;
 use lines::line::Line;
 use registry::text;
+use texts::out;
 ghost use mathlib.Core.Path.{_≡_};
 ghost use Prim.Native.Nat.{_+_, _<_, _≤_};
 ghost use mathlib.Core.Bool.{cond};
 ghost use lib.Dec.{leb};
-ghost use lib.ListN.{length, drop};
+ghost use lib.ListN.{length, drop, set};
+ghost use Rattle.fields.specs.Number.{padded};
+ghost use Rattle.lines.specs.LineText.{lineIn, Stands};
 ghost use Rattle.registry.specs.Registry.{lineCount, registryFault, registryLines};
 ghost use Rattle.line_rows.specs.Lines.{lineFrom, lineAt, linesWith, linesOf, Read, linesBefore, linesAfter};
 
@@ -66,25 +72,32 @@ pub fn line_at(nums: &[[u64; 4]], numbers: &[[u8; 30]], dates: &[[u8; 19]], i: u
     line_of(w, bytes, date)
 }
 
-// Puts x at i.
+// Puts the number of a text at i.
+fn put_number(numbers: &mut [[u8; 30]], i: usize, name: &[u8])
+    requires { ⌜ (i < length (now numbers)) × (length (now name) ≤ 30) ⌝ }
+    ensures { λ _. ⌜ now (numbers .exit) ≡ set (now (numbers .entry)) i (padded (now (name .entry))) ⌝ }
+{
+    numbers[i] = [0u8; 30];
+    out::put_bytes(name, &mut numbers[i], 0);
+}
+
+// Puts the line that was found in a text at i.
 fn put_line(
     nums: &mut [[u64; 4]],
     numbers: &mut [[u8; 30]],
     dates: &mut [[u8; 19]],
     i: usize,
-    x: Line,
+    s: &[u8],
+    x: Found,
 )
-    requires { ⌜ (i < length (now nums)) × (i < length (now numbers)) × (i < length (now dates)) ⌝ }
-    ensures { λ _. ⌜ linesAfter nums numbers dates ≡ linesWith (linesBefore nums numbers dates) i x ⌝ }
+    requires { ⌜ (i < length (now nums)) × (i < length (now numbers)) × (i < length (now dates)) × Stands (now s) x ⌝ }
+    ensures { λ _. ⌜ linesAfter nums numbers dates ≡ linesWith (linesBefore nums numbers dates) i (lineIn (now (s .entry)) x) ⌝ }
 {
-    let number = x.number;
-    let len = number.len as u64;
-    let w = [x.kind, x.amount, x.receipt, len];
-    nums[i] = w;
-    let bytes = number.bytes;
-    numbers[i] = bytes;
-    let date = x.date;
-    dates[i] = date;
+    let len = x.len;
+    let at = x.date;
+    nums[i] = [x.kind, x.amount, x.receipt, len as u64];
+    put_number(numbers, i, &s[..len]);
+    dates[i] = date::nineteen(&s[at..at + 19]);
 }
 
 // The fault of a text that has too many lines or a bad one, n of them before the cursor.
@@ -121,12 +134,12 @@ pub fn read_registry(
         if s.len() <= e {
             return refuse(s, at, n);
         }
-        let read = text::line_to(day, s, at, e);
-        if !read.ok {
+        let own = text::line_to(s, at, e);
+        let x = line::find_line(day, own);
+        if !x.ok {
             return refuse(s, at, n);
         }
-        let x = read.line;
-        put_line(nums, numbers, dates, n, x);
+        put_line(nums, numbers, dates, n, own, x);
         rose = text::still_rise(rose, last, x.receipt);
         last = x.receipt;
         n += 1;

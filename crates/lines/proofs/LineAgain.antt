@@ -25,8 +25,7 @@ use Rattle.fields.proofs.NumberLaws.{byte-above-blank, text-bytes, number-again
 use Rattle.texts.proofs.FindLaws.{find-behind}
 use Rattle.dates.proofs.DateLaws.{date-again, date-bytes}
 use Rattle.lines.specs.declared.line.Line.{Line}
-use Rattle.lines.specs.declared.line.LineRead.{LineRead}
-use Rattle.lines.specs.Line.{field, afterField, isLine, lineRead, lineBody, lineAgain}
+use Rattle.lines.specs.Line.{LineRead, field, afterField, isLine, lineRead, lineBody, lineAgain}
 use Rattle.lines.proofs.LineLaws.{line-fields}
 use Rattle.lines.proofs.LineParts.{is-line}
 

@@ -4,8 +4,8 @@ use native.Mathlib.Numerals.{add-one}
 use native.Mathlib.Omega.{arith}
 use mir.Syntax.{w64}
 use mir.Val.{Fits}
-use lib.ListN.{length, getD, take, drop, take-append-drop}
-use lib.Seq.{length-take-le}
+use lib.ListN.{length, getD, take, drop, take-append-drop, length-drop}
+use lib.Seq.{length-take-le, drop-drop}
 use lib.Dec.{eqb, leb}
 use Rattle.texts.specs.Lists.{find}
 use Rattle.texts.specs.Digits.{isDigit}
@@ -23,7 +23,6 @@ use Rattle.fields.specs.declared.number.NumberRead.{NumberRead}
 use Rattle.dates.specs.declared.date.DateRead.{DateRead}
 use Rattle.fields.specs.Amount.{isAmount, amountRead}
 use Rattle.fields.specs.Codes.{isReceipt, receiptRead, isKind, kindRead}
-use Rattle.fields.specs.declared.number.Number.{Number}
 use Rattle.fields.specs.Number.{isNumber, isNumberText, numberOf, numberRead}
 use Rattle.fields.proofs.NumberLaws.{number-short}
 use Rattle.days.specs.declared.calendar.Day.{Day}
@@ -33,20 +32,28 @@ use Rattle.days.specs.Calendar.{onDay}
 use Rattle.dates.specs.Date.{dateDay, found, isWritten, dateRead}
 use Rattle.dates.proofs.DateLaws.{on-written, written-parts, date-bytes}
 use Rattle.lines.specs.declared.line.Line.{Line}
-use Rattle.lines.specs.declared.line.LineRead.{LineRead}
-use Rattle.lines.specs.Line.{field, afterField, noLine, lineOf, lineRead, isLine}
-use Rattle.lines.specs.LineText.{EndsDate, lineKept, lineReadOn, lineWith}
-
--- the first 09 is at p
-module _ (s t : List ℕ) (p : ℕ) where
-  pub field-at : t ≡ take p s → p ≡ find 9 s → t ≡ field s
-  field-at e f = e ∙ rw f
-
-  pub after-at : t ≡ drop (p + 1) s → p ≡ find 9 s → t ≡ afterField s
-  after-at e f = e ∙ rw (f, add-one)
+use Rattle.lines.specs.declared.line.Found.{Found}
+use Rattle.lines.specs.declared.line.Paid.{Paid}
+use Rattle.lines.specs.Line.{LineRead, field, afterField, noLine, lineOf, lineRead, isLine}
+use Rattle.lines.specs.LineText.{EndsDate, lineKept, lineReadOn, lineWith, PaidIn, FoundIn}
 
 pub behind-fits : (s : List ℕ) (p : ℕ) → p ≡ find 9 s → length s * 1 < 2 ^ 63 → Fits w64 (p + 1)
 behind-fits s p e h = let l : p ≤ length s = rw e (find-le 9 s) in omega arith
+
+-- the date's place
+module _ (s s₁ : List ℕ) (p q : ℕ) (tab : p ≡ find 9 s) (e : s₁ ≡ drop (p + 1) s) (tab₁ : q ≡ find 9 s₁) (h : length s * 1 < 2 ^ 63) where
+  tabs-within : p + q ≤ length s
+  tabs-within =
+      let a : p ≤ length s = rw tab (find-le 9 s) in
+      let b : q ≤ length s₁ = rw tab₁ (find-le 9 s₁) in
+      let l : length s₁ ≡ length s - (p + 1) = ap length e ∙ length-drop (p + 1) s in
+      omega arith
+
+  pub tabs-fit : Fits w64 (p + q)
+  tabs-fit = omega (arith, tabs-within)
+
+  pub date-fits : Fits w64 (p + q + 2)
+  date-fits = omega (arith, tabs-within)
 
 -- ---- where the date ends
 none-written : (x : DayRead) → found x ≡ false → x ≡ NoDate
@@ -86,20 +93,8 @@ module _ (s : List ℕ) where
     pub ends-nineteen : EndsDate s 19
     ends-nineteen = (same-date, written-end, omega arith)
 
--- a date that was found on the day ends where its field does
-module _ (day : Day) (s f : List ℕ) (p : ℕ) (ends : EndsDate s p) (ef : f ≡ take p s) (t : Bool) (judged : t ≡ onDay day (dateDay f)) where
-  pub end-known : not t ≡ false → p ≡ find 9 s
-  end-known h = ends .1 (ap isWritten (sym ef) ∙ on-written f day (sym judged ∙ not-false t h))
-
-  pub end-off : t ≡ onDay day (dateDay (field s))
-  end-off = judged ∙ ap (onDay day) (ap dateDay ef ∙ ends .0)
-
 pub end-fits : (s : List ℕ) (p : ℕ) → EndsDate s p → length s * 1 < 2 ^ 63 → Fits w64 (p + 1)
 end-fits s p ends h = omega (arith, ends .2)
-
--- what was judged a number is short
-pub name-short : (f : List ℕ) (t : Bool) → t ≡ isNumberText f → not t ≡ false → length f ≤ 30
-name-short f t e h = number-short f t e (not-false t h)
 
 -- ---- a line of five fields
 pub line-fields : (s s₁ s₂ s₃ f₁ f₂ f₃ f₄ f₅ : List ℕ) (n : NumberRead) (k : Digits) (d : DateRead) (a r : Digits) (x : LineRead)
@@ -130,72 +125,128 @@ module _ (day : Day) where
       go true en false ew = unfold dateRead in rw (en, ew)
       go true en true ew = unfold dateRead in rw (en, ew, o)
 
-  -- the text of date, amount and receipt
-  module _ (f : List ℕ) (t : Bool) (judged : t ≡ onDay day (dateDay f)) (held : not t ≡ false) where
-    on-day : onDay day (dateDay f) ≡ true
-    on-day = sym judged ∙ not-false t held
+  -- ---- the text of date, amount and receipt
+  module _ (s : List ℕ) where
+    unpaid : (x : Paid) → x .ok ≡ false → ((name : List ℕ) (k : ℕ) → noLine ≡ lineWith day name k s) → PaidIn day s x
+    unpaid x none bad = record { line = λ name k. rw none (bad name k); room = λ h. no-claim (sym none ∙ h) }
 
-    pub is-nineteen : length f ≡ 19
-    is-nineteen = written-parts f (on-written f day on-day) .size
-
-    pub with-good : (name s s₁ f₁ f₂ : List ℕ) (v : ℕ) → f ≡ field s → s₁ ≡ afterField s
-        → (a : Digits) → f₁ ≡ field s₁ → a ≡ amountRead f₁ → (w : ℕ) → a ≡ Value w
-        → (r : Digits) → f₂ ≡ afterField s₁ → r ≡ receiptRead f₂ → (u : ℕ) → r ≡ Value u
-        → (n : Number) → n ≡ numberOf name → (d : List ℕ) → d ≡ f
-        → record { ok = true; line = record { number = n; kind = v; date = d; amount = w; receipt = u } } ≡ lineWith day name v s
-    unfolding lineWith dateRead
-    with-good name s s₁ f₁ f₂ v g e₁ a g₁ ea w aw r g₂ er u ru n en d ed =
-        let za : amountRead (field (afterField s)) ≡ Value w = rw (← e₁, ← g₁, ← ea) aw in
-        let zr : receiptRead (afterField (afterField s)) ≡ Value u = rw (← e₁, ← g₂, ← er) ru in
-        rw (za, zr, ← g, on-written f day on-day, on-day, en, ed)
-
-  module _ (name s : List ℕ) (v : ℕ) (x : LineRead) (none : x ≡ noLine) where
-    pub with-off : (t : Bool) → not t ≡ true → t ≡ onDay day (dateDay (field s)) → x ≡ lineWith day name v s
-    unfolding lineWith
-    with-off t h e =
-        let s₁ = afterField s in
-        none ∙ sym (of-off (record { ok = true; number = numberOf name }) (Value v) (field s) (amountRead (field s₁)) (receiptRead (afterField s₁)) (rw (← e) (not-true t h)))
-
-    module _ (s₁ : List ℕ) (e₁ : s₁ ≡ afterField s) (f₁ : List ℕ) (g₁ : f₁ ≡ field s₁) (a : Digits) (ea : a ≡ amountRead f₁) where
-      pub with-no-amount : a ≡ Malformed → x ≡ lineWith day name v s
+    module _ (p : ℕ) (ends : EndsDate s p) (f : List ℕ) (ef : f ≡ take p s) (t : Bool) (judged : t ≡ onDay day (dateDay f)) where
+      pub paid-off : not t ≡ true → (x : Paid) → x .ok ≡ false → PaidIn day s x
       unfolding lineWith
-      with-no-amount m =
-          let z : amountRead (field (afterField s)) ≡ Malformed = rw (← e₁, ← g₁, ← ea) m in
-          none ∙ rw z
+      paid-off h x none =
+          let s₁ = afterField s in
+          let off : onDay day (dateDay (field s)) ≡ false = ap (onDay day) (sym (ap dateDay ef ∙ ends .0)) ∙ sym judged ∙ not-true t h in
+          unpaid x none
+          (λ name k. sym (of-off (record { ok = true; number = numberOf name }) (Value k) (field s) (amountRead (field s₁)) (receiptRead (afterField s₁)) off))
 
-      pub with-no-receipt : (w : ℕ) → a ≡ Value w → (r : Digits) → r ≡ Malformed → (f₂ : List ℕ) → r ≡ receiptRead f₂ → f₂ ≡ afterField s₁ → x ≡ lineWith day name v s
-      unfolding lineWith
-      with-no-receipt w aw r m f₂ er g₂ =
-          let za : amountRead (field (afterField s)) ≡ Value w = rw (← e₁, ← g₁, ← ea) aw in
-          let zr : receiptRead (afterField (afterField s)) ≡ Malformed = rw (← e₁, ← g₂, ← er) m in
-          none ∙ rw (za, zr)
+      module _ (held : not t ≡ false) where
+        on-day : onDay day (dateDay f) ≡ true
+        on-day = sym judged ∙ not-false t held
 
-  -- the whole text
-  module _ (s : List ℕ) (x : LineRead) where
-    pub read-no-number : x ≡ noLine → (t : Bool) → not t ≡ true → (f : List ℕ) → t ≡ isNumberText f → f ≡ field s → x ≡ lineReadOn day s
-    unfolding lineRead lineReadOn numberRead
-    read-no-number none t h f e g =
-        let z : isNumberText (field s) ≡ false = rw (← g, ← e) (not-true t h) in
-        let o : (numberRead (field s)) .ok ≡ false = rw z in
-        let s₁ = afterField s in
-        let s₂ = afterField s₁ in
-        let s₃ = afterField s₂ in
-        none ∙ rw (of-none (numberRead (field s)) (kindRead (field s₁)) (dateRead (field s₂)) (amountRead (field s₃)) (receiptRead (afterField s₃)) o)
+        written : isWritten f ≡ true
+        written = on-written f day on-day
 
-    pub read-no-kind : x ≡ noLine → (k : Digits) → k ≡ Malformed → (f₁ : List ℕ) → k ≡ kindRead f₁ → (s₁ : List ℕ) → f₁ ≡ field s₁ → s₁ ≡ afterField s → x ≡ lineReadOn day s
-    unfolding lineRead lineReadOn
-    read-no-kind none k m f₁ ek s₁ g₁ e₁ =
-        let z : kindRead (field (afterField s)) ≡ Malformed = rw (← e₁, ← g₁, ← ek) m in
-        none ∙ rw z
+        -- a date that was found on the day ends where its field does
+        date-ends : p ≡ find 9 s
+        date-ends = ends .1 (ap isWritten (sym ef) ∙ written)
 
-    pub read-with : (f s₁ f₁ s₂ : List ℕ) (v : ℕ) → x ≡ lineWith day f v s₂ → f ≡ field s → s₁ ≡ afterField s → s₂ ≡ afterField s₁ → f₁ ≡ field s₁
-        → (k : Digits) → k ≡ kindRead f₁ → k ≡ Value v → (t : Bool) → t ≡ isNumberText f → not t ≡ false → x ≡ lineReadOn day s
-    unfolding lineRead lineReadOn lineWith numberRead
-    read-with f s₁ f₁ s₂ v e g e₁ e₂ g₁ k ek kv t et h =
-        let zk : kindRead (field (afterField s)) ≡ Value v = rw (← e₁, ← g₁, ← ek) kv in
-        let zn : isNumberText (field s) ≡ true = rw (← g, ← et) (not-false t h) in
-        e ∙ rw (zk, zn, e₂, e₁, g)
+        nineteen : p ≡ 19
+        nineteen = sym (length-take-le p s (ends .2)) ∙ ap length (sym ef) ∙ written-parts f written .size
 
+        module _ (s₁ : List ℕ) (e₁ : s₁ ≡ drop (p + 1) s) (q : ℕ) (tab : q ≡ find 9 s₁) (f₁ : List ℕ) (g₁ : f₁ ≡ take q s₁) (a : Digits) (ea : a ≡ amountRead f₁) where
+          behind : s₁ ≡ afterField s
+          behind = e₁ ∙ rw (date-ends, add-one)
+
+          amount-is : a ≡ amountRead (field (afterField s))
+          amount-is = ea ∙ ap amountRead (g₁ ∙ rw (tab, behind))
+
+          pub paid-no-amount : a ≡ Malformed → (x : Paid) → x .ok ≡ false → PaidIn day s x
+          unfolding lineWith
+          paid-no-amount m x none = let z : amountRead (field (afterField s)) ≡ Malformed = sym amount-is ∙ m in unpaid x none (λ name k. rw z)
+
+          module _ (w : ℕ) (aw : a ≡ Value w) (f₂ : List ℕ) (g₂ : f₂ ≡ drop (q + 1) s₁) (r : Digits) (er : r ≡ receiptRead f₂) where
+            receipt-is : r ≡ receiptRead (afterField (afterField s))
+            receipt-is = er ∙ ap receiptRead (g₂ ∙ rw (tab, add-one, behind))
+
+            pub paid-no-receipt : r ≡ Malformed → (x : Paid) → x .ok ≡ false → PaidIn day s x
+            unfolding lineWith
+            paid-no-receipt m x none =
+                let za : amountRead (field (afterField s)) ≡ Value w = sym amount-is ∙ aw in
+                let zr : receiptRead (afterField (afterField s)) ≡ Malformed = sym receipt-is ∙ m in
+                unpaid x none (λ name k. rw (za, zr))
+
+            pub paid-good : (u : ℕ) → r ≡ Value u → PaidIn day s (record { ok = true; amount = w; receipt = u })
+            unfolding lineWith dateRead
+            paid-good u ru =
+                let za : amountRead (field (afterField s)) ≡ Value w = sym amount-is ∙ aw in
+                let zr : receiptRead (afterField (afterField s)) ≡ Value u = sym receipt-is ∙ ru in
+                let date : take 19 s ≡ f = rw (← nineteen) (sym ef) in
+                let g : field s ≡ f = rw (← date-ends) (sym ef) in
+                record { line = λ name k. rw (za, zr, date, g, written, on-day); room = λ _. omega (arith, nineteen, ends .2) }
+
+  -- ---- the whole text
+  module _ (s : List ℕ) where
+    unfound : (x : Found) → x .ok ≡ false → noLine ≡ lineReadOn day s → FoundIn day s x
+    unfound x none bad = record { line = rw none bad; stands = λ h. no-claim (sym none ∙ h) }
+
+    module _ (p : ℕ) (tab : p ≡ find 9 s) (f : List ℕ) (ef : f ≡ take p s) (t : Bool) (judged : t ≡ isNumberText f) where
+      first-field : f ≡ field s
+      first-field = ef ∙ rw tab
+
+      pub found-no-number : not t ≡ true → (x : Found) → x .ok ≡ false → FoundIn day s x
+      unfolding lineRead lineReadOn numberRead
+      found-no-number h x none =
+          let z : isNumberText (field s) ≡ false = rw (← first-field, ← judged) (not-true t h) in
+          let o : (numberRead (field s)) .ok ≡ false = rw z in
+          let s₁ = afterField s in
+          let s₂ = afterField s₁ in
+          let s₃ = afterField s₂ in
+          unfound x none
+          (rw (of-none (numberRead (field s)) (kindRead (field s₁)) (dateRead (field s₂)) (amountRead (field s₃)) (receiptRead (afterField s₃)) o))
+
+      module _ (s₁ : List ℕ) (e₁ : s₁ ≡ drop (p + 1) s) (q : ℕ) (tab₁ : q ≡ find 9 s₁) (f₁ : List ℕ) (g₁ : f₁ ≡ take q s₁) (k : Digits) (ek : k ≡ kindRead f₁) where
+        behind-number : s₁ ≡ afterField s
+        behind-number = e₁ ∙ rw (tab, add-one)
+
+        kind-is : k ≡ kindRead (field (afterField s))
+        kind-is = ek ∙ ap kindRead (g₁ ∙ rw (tab₁, behind-number))
+
+        pub found-no-kind : k ≡ Malformed → (x : Found) → x .ok ≡ false → FoundIn day s x
+        unfolding lineRead lineReadOn
+        found-no-kind m x none = let z : kindRead (field (afterField s)) ≡ Malformed = sym kind-is ∙ m in unfound x none (rw z)
+
+        module _ (held : not t ≡ false) (v : ℕ) (kv : k ≡ Value v) (s₂ : List ℕ) (e₂ : s₂ ≡ drop (q + 1) s₁) (y : Paid) (paid : PaidIn day s₂ y) where
+          read-with : lineWith day f v s₂ ≡ lineReadOn day s
+          unfolding lineRead lineReadOn lineWith numberRead
+          read-with =
+              let zk : kindRead (field (afterField s)) ≡ Value v = sym kind-is ∙ kv in
+              let zn : isNumberText (field s) ≡ true = rw (← first-field, ← judged) (not-false t held) in
+              let zs : s₂ ≡ afterField (afterField s) = e₂ ∙ rw (tab₁, add-one, behind-number) in
+              rw (zk, zn, zs, first-field)
+
+          date-at : drop (p + q + 2) s ≡ s₂
+          date-at =
+              let n : p + q + 2 ≡ p + 1 + (q + 1) = omega arith in
+              rw (n, e₂, e₁) (sym (drop-drop (q + 1) (p + 1) s))
+
+          pub found-line : (x : Found) → x ≡ record { ok = y .ok; len = p; kind = v; date = p + q + 2; amount = y .amount; receipt = y .receipt } → FoundIn day s x
+          found-line x e =
+              rw e
+              (record {
+                line = rw (date-at, ← ef) (paid .line f v ∙ read-with);
+                stands = λ h.
+                    let l : length s₂ ≡ length s - (p + q + 2) = rw (← date-at) (length-drop (p + q + 2) s) in
+                    record {
+                      short = omega (arith, tab, size, number-short f t judged (not-false t held));
+                      number = rw tab (find-le 9 s);
+                      date = omega (arith, l, paid .room h);
+                    };
+              })
+            where
+              size : length f ≡ p
+              size = ap length ef ∙ length-take-le p s (rw tab (find-le 9 s))
+
+  -- ---- a line that was read
   module _ (l : List ℕ) (x : LineRead) (read : x ≡ lineReadOn day l) where
     pub on-ok : x .ok ≡ (lineRead l) .ok && onDay day (dateDay ((lineRead l) .line .date))
     unfolding lineReadOn

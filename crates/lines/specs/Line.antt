@@ -14,7 +14,6 @@ use Rattle.fields.specs.Codes.{isReceipt, receiptRead, isKind, kindRead}
 use Rattle.fields.specs.Number.{isNumber, numberText, numberOf, numberRead}
 use Rattle.dates.specs.Date.{isWritten, dateRead, emptyDate}
 use Rattle.lines.specs.declared.line.Line.{Line}
-use Rattle.lines.specs.declared.line.LineRead.{LineRead}
 
 -- a field ends before the first 09, and the next begins behind it
 abbrev pub field : List ℕ → List ℕ
@@ -22,6 +21,11 @@ field s = take (find 9 s) s
 
 abbrev pub afterField : List ℕ → List ℕ
 afterField s = drop (suc (find 9 s)) s
+
+-- a line, or `ok` false and zeros
+pub record LineRead : Type 0 where
+  pub ok : Bool
+  pub line : Line
 
 abbrev pub noLine : LineRead
 noLine =

@@ -10,12 +10,10 @@ use texts::digits::Digits;
 use texts::out;
 use texts::scan;
 ghost use mathlib.Core.Path.{_≡_};
-ghost use mathlib.Core.Bool.{true};
-ghost use Prim.Native.Nat.{_≤_};
-ghost use lib.ListN.{length};
+ghost use mathlib.Core.Bool.{true, false};
 ghost use Rattle.texts.specs.Lists.{written, cursorAfter};
-ghost use Rattle.lines.specs.LineText.{EndsDate, lineReadOn, lineWith, rowOf9, accountPart};
-ghost use Rattle.lines.specs.Line.{noLine, isLine, lineBytes, lineText};
+ghost use Rattle.lines.specs.LineText.{EndsDate, PaidIn, FoundIn, rowOf9, accountPart};
+ghost use Rattle.lines.specs.Line.{isLine, lineBytes, lineText};
 
 pub struct Line {
     pub number: Number,
@@ -25,28 +23,46 @@ pub struct Line {
     pub receipt: u64,
 }
 
-// A line, or `ok` false and zeros.
-pub struct LineRead {
+// A line in its text, or `ok` false: its number is the first `len` bytes, its date the nineteen from `date` on. Neither is copied here,
+// so that each is copied once, to where it is held.
+pub struct Found {
     pub ok: bool,
-    pub line: Line,
+    pub len: usize,
+    pub kind: u64,
+    pub date: usize,
+    pub amount: u64,
+    pub receipt: u64,
 }
 
-// What a text that is no line reads as.
-fn no_line() -> LineRead
-    ensures { λ r. ⌜ r ≡ noLine ⌝ }
+// Amount and receipt of a line, or `ok` false.
+struct Paid {
+    ok: bool,
+    amount: u64,
+    receipt: u64,
+}
+
+// What a text that is no line gives.
+fn no_line() -> Found
+    ensures { λ r. ⌜ r .ok ≡ false ⌝ }
 {
-    LineRead {
+    Found {
         ok: false,
-        line: Line {
-            number: Number {
-                bytes: [0u8; 30],
-                len: 0,
-            },
-            kind: 0,
-            date: [0u8; 19],
-            amount: 0,
-            receipt: 0,
-        },
+        len: 0,
+        kind: 0,
+        date: 0,
+        amount: 0,
+        receipt: 0,
+    }
+}
+
+// What a text that has no amount and receipt of the day gives.
+fn not_paid() -> Paid
+    ensures { λ r. ⌜ r .ok ≡ false ⌝ }
+{
+    Paid {
+        ok: false,
+        amount: 0,
+        receipt: 0,
     }
 }
 
@@ -63,44 +79,35 @@ fn date_end(s: &[u8]) -> usize
     scan::find_byte(s, b'\t')
 }
 
-// The line of a number's text and a type, and of the text of the three other fields, its date on the day. Number and date are made
-// once, where every field is known to be well formed.
-pub(crate) fn line_with(day: Day, name: &[u8], kind: u64, s: &[u8]) -> LineRead
-    requires { ⌜ length (now name) ≤ 30 ⌝ }
-    ensures { λ x. ⌜ x ≡ lineWith day (now (name .entry)) kind (now (s .entry)) ⌝ }
+// Amount and receipt, from the text of date, amount and receipt, the date on the day.
+fn read_paid(day: Day, s: &[u8]) -> Paid
+    ensures { λ x. ⌜ PaidIn day (now (s .entry)) x ⌝ }
 {
     let p = date_end(s);
-    let d = scan::first_bytes(s, p);
-    if !date::is_text_on(day, d) {
-        return no_line();
+    if !date::is_text_on(day, scan::first_bytes(s, p)) {
+        return not_paid();
     }
     let s1 = scan::bytes_from(s, p + 1);
     let q = scan::find_byte(s1, b'\t');
     let Digits::Value(amount) = amount::read_amount(scan::first_bytes(s1, q)) else {
-        return no_line();
+        return not_paid();
     };
     let Digits::Value(receipt) = codes::read_receipt(scan::bytes_from(s1, q + 1)) else {
-        return no_line();
+        return not_paid();
     };
-    LineRead {
+    Paid {
         ok: true,
-        line: Line {
-            number: number::number_of(name),
-            kind,
-            date: date::nineteen(d),
-            amount,
-            receipt,
-        },
+        amount,
+        receipt,
     }
 }
 
-// A line of the day, without its end.
-pub fn read_line(day: Day, s: &[u8]) -> LineRead
-    ensures { λ r. ⌜ r ≡ lineReadOn day (now (s .entry)) ⌝ }
+// Where a line of the day, without its end, has its fields.
+pub fn find_line(day: Day, s: &[u8]) -> Found
+    ensures { λ x. ⌜ FoundIn day (now (s .entry)) x ⌝ }
 {
     let p = scan::find_byte(s, b'\t');
-    let name = scan::first_bytes(s, p);
-    if !number::is_text(name) {
+    if !number::is_text(scan::first_bytes(s, p)) {
         return no_line();
     }
     let s1 = scan::bytes_from(s, p + 1);
@@ -108,7 +115,15 @@ pub fn read_line(day: Day, s: &[u8]) -> LineRead
     let Digits::Value(kind) = codes::read_kind(scan::first_bytes(s1, q)) else {
         return no_line();
     };
-    line_with(day, name, kind, scan::bytes_from(s1, q + 1))
+    let paid = read_paid(day, scan::bytes_from(s1, q + 1));
+    Found {
+        ok: paid.ok,
+        len: p,
+        kind,
+        date: p + q + 2,
+        amount: paid.amount,
+        receipt: paid.receipt,
+    }
 }
 
 impl Line {

@@ -9,19 +9,18 @@ use lib.ListN.{length, take, drop, length-drop, drop-of-length-le}
 use lib.Seq.{drop-drop}
 use borrow.Author.Tests.{le-leb, lt-leb, ltb-true, ltb-false}
 use Rattle.days.specs.declared.calendar.Day.{Day}
-use Rattle.lines.specs.declared.line.LineRead.{LineRead}
-use Rattle.lines.specs.Line.{lineRead}
+use Rattle.lines.specs.Line.{LineRead, lineRead}
 use Rattle.lines.specs.LineText.{lineReadOn}
 use Rattle.lines.proofs.LineLaws.{on-ok}
 use Rattle.registry.specs.Registry.{lineEnd, splitLines, countOf, lineCount, goodLine, goodLines, heldLines, registryLines, rising, registryFault}
 use Rattle.registry.proofs.SplitLaws.{end-room, count-line, count-rest, good-line, good-rest, held-line}
 
 -- ---- one line
-pub line-here : (day : Day) (s : List ℕ) (at e : ℕ) → e ≡ at + lineEnd (drop at s) → (t f : List ℕ) → t ≡ drop at s → f ≡ take (e - at) t
-    → (r : LineRead) → r ≡ lineReadOn day f → r ≡ lineReadOn day (take (lineEnd (drop at s)) (drop at s))
-line-here day s at e ends t f et ef r er =
+pub line-here : (s : List ℕ) (at e : ℕ) → e ≡ at + lineEnd (drop at s) → (t f : List ℕ) → t ≡ drop at s → f ≡ take (e - at) t
+    → f ≡ take (lineEnd (drop at s)) (drop at s)
+line-here s at e ends t f et ef =
     let n : e - at ≡ lineEnd (drop at s) = omega arith in
-    er ∙ rw (ef, et, n)
+    ef ∙ rw (et, n)
 
 pub line-under : (s : List ℕ) (at e : ℕ) → e ≡ at + lineEnd (drop at s) → at ≤ e
 line-under s at e ends = omega arith

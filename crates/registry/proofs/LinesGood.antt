@@ -20,8 +20,7 @@ use Rattle.texts.proofs.Tests.{both, cond-elim, no-claim}
 use Rattle.texts.proofs.DigitLaws.{range-within}
 use Rattle.fields.proofs.AmountLaws.{amount-within}
 use Rattle.fields.proofs.NumberLaws.{text-number}
-use Rattle.lines.specs.declared.line.LineRead.{LineRead}
-use Rattle.lines.specs.Line.{field, afterField, noLine, lineOf, lineRead, isLine}
+use Rattle.lines.specs.Line.{LineRead, field, afterField, noLine, lineOf, lineRead, isLine}
 use Rattle.registry.specs.Registry.{splitLines, countOf, lineCount, goodLine, goodLines, heldLines, registryLines, rising, registryFault}
 use Rattle.registry.specs.Registry.{lineOn, everyLine}
 use Rattle.lines.proofs.LineParts.{line-is}

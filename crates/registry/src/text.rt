@@ -1,14 +1,10 @@
 // The text of a registry: lines ended by 0D 0A.
-use days::calendar::Day;
-use lines::line;
-use lines::line::LineRead;
 use texts::scan;
 ghost use Prim.Native.Nat.{_+_, _≤_};
 ghost use mathlib.Core.Path.{_≡_};
 ghost use mathlib.Core.Bool.{_&&_, cond};
 ghost use lib.Dec.{ltb, leb, eqb};
 ghost use lib.ListN.{take, drop};
-ghost use Rattle.lines.specs.LineText.{lineReadOn};
 ghost use Rattle.registry.specs.Registry.{lineEnd, lineCount};
 
 // How many lines a registry has at most.
@@ -39,12 +35,12 @@ pub fn end_of_line(s: &[u8], at: usize) -> usize
     s.len()
 }
 
-// The line of the day from the cursor to its end.
-pub fn line_to(day: Day, s: &[u8], at: usize, end: usize) -> LineRead
+// The line from the cursor to its end.
+pub fn line_to(s: &[u8], at: usize, end: usize) -> &[u8]
     requires { ⌜ end ≡ at + lineEnd (drop at (now s)) ⌝ }
-    ensures { λ r. ⌜ r ≡ lineReadOn day (take (lineEnd (drop at (now (s .entry)))) (drop at (now (s .entry)))) ⌝ }
+    ensures { λ r. ⌜ now r ≡ take (lineEnd (drop at (now (s .entry)))) (drop at (now (s .entry))) ⌝ }
 {
-    line::read_line(day, scan::first_bytes(scan::bytes_from(s, at), end - at))
+    scan::first_bytes(scan::bytes_from(s, at), end - at)
 }
 
 // How many lines a text has; an unended rest counts as one.

@@ -41,14 +41,17 @@ fn show_lines(nums: &[[u64; 4]], numbers: &[[u8; 30]], dates: &[[u8; 19]], n: us
     }
 }
 
-// Receipt, kopecks, number and type.
+// Receipt, kopecks, number, type and date.
 fn show_line(x: Line) {
     let number = x.number;
+    let date = x.date;
     print::named(b"; ", x.receipt);
     print::named(b" ", x.amount);
     io::write_all(1, b" ");
     print::account(number);
     print::named(b" ", x.kind);
+    io::write_all(1, b" ");
+    print::bytes(&date);
 }
 
 // A payment of one kopeck.

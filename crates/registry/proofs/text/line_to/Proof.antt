@@ -12,5 +12,4 @@ line-to-spec =
     (λ c κs. search laws)
     (λ c. search laws)
     (λ c κs. search laws)
-    (λ c κs. search laws)
     (λ c. search laws))
