@@ -1,21 +1,30 @@
-//! The gate: the proved one, the twin over lent rows, and the twin that owns its state.
+//! The gate: the proved one in both of its forms, the twin over lent rows, and the twin that owns its state.
 use crate::script::Pair;
 use crate::sides::{self, Buffer, Outcome, Text};
 use crate::texts;
 use chance::Chance;
-use roosteryore::{Date, Day, Gate, Number, Payment, Table};
+use roosteryore::{Date, Day, Gate, GateValue, Number, Payment, Table, by_value};
 
 /// All sides of a gate.
 #[derive(Clone, Debug)]
 pub struct Gates {
-    /// The proved one.
+    /// The proved one, its accounts lent.
     pub proved: Gate,
+    /// The proved one by value.
+    value: Whole,
     head: twin::lent::Head,
     table: Table,
     /// Only while nothing was spoilt: who owns his state does not check it.
     owned: Option<twin::owned::Gate>,
     /// As all was before it was spoilt.
     sound: Option<Box<Gates>>,
+}
+
+/// A gate by value, and its table.
+#[derive(Clone, Debug)]
+struct Whole {
+    gate: Box<GateValue>,
+    table: Table,
 }
 
 /// A step of all sides.
@@ -47,7 +56,7 @@ pub enum Spoil {
     },
     Len {
         account: usize,
-        len: usize,
+        len: u64,
     },
     Twice {
         account: usize,
@@ -88,9 +97,10 @@ impl Gates {
     /// All sides without accounts, with a table of so many records.
     pub fn new(closed: Day, room: usize) -> Gates {
         let proved = Gate::new(closed, Table::with_room(room));
-        let head = sides::gate_head(&proved.head);
+        let head = sides::gate_head(&proved);
         let owned = (1..=roosteryore::ROWS_MOST).contains(&room);
         Gates {
+            value: Whole::of(&proved),
             head,
             table: proved.table.clone(),
             owned: owned.then(|| twin::owned::Gate::new(sides::day(closed), room)),
@@ -153,7 +163,8 @@ impl Gates {
             self.sound = Some(Box::new(self.clone()));
         }
         apply(&mut self.proved, spoil);
-        self.head = sides::gate_head(&self.proved.head);
+        self.value = Whole::of(&self.proved);
+        self.head = sides::gate_head(&self.proved);
         self.table = self.proved.table.clone();
         self.owned = None;
     }
@@ -164,6 +175,16 @@ impl Gates {
         }
     }
 
+    /// How the proved forms differ after a call, if they do.
+    fn form_difference(&self, proved: &Outcome, by_value: &Outcome) -> Option<String> {
+        let Whole { gate, table } = &self.value;
+        if proved != by_value {
+            return Some(format!("lent     {proved:?}\nby value {by_value:?}"));
+        }
+        let same = self.proved.table == *table && sides::same_value(&self.proved, gate);
+        (!same).then(|| format!("lent     {:?}\nby value {:?}", self.proved, self.value))
+    }
+
     /// How the sides differ after a call, if they do.
     fn difference(&self, proved: &Outcome, lent: &Outcome, owned: Option<&Outcome>) -> Option<String> {
         if proved != lent {
@@ -172,8 +193,8 @@ impl Gates {
         if self.proved.table != self.table {
             return Some(format!("proved {:?}\ntwin   {:?}", self.proved.table, self.table));
         }
-        if !sides::same_head(&self.proved.head, &self.head) {
-            return Some(format!("proved {:?}\ntwin   {:?}", self.proved.accounts(), self.head));
+        if !sides::same_head(&self.proved, &self.head) {
+            return Some(format!("proved {:?}\ntwin   {:?}", self.proved.value(), self.head));
         }
         match owned {
             Some(owned) if owned != lent => Some(format!("lent {lent:?}\nowned {owned:?}")),
@@ -182,7 +203,7 @@ impl Gates {
     }
 
     fn owned_difference(&self, owned: &twin::owned::Gate) -> Option<String> {
-        let balances: Vec<i64> = self.proved.accounts().iter().map(|account| account.balance).collect();
+        let balances: Vec<i64> = self.proved.accounts().map(|account| account.balance).collect();
         if owned.balances() != balances {
             return Some(format!("lent balances {balances:?}\nowned {:?}", owned.balances()));
         }
@@ -201,7 +222,8 @@ impl Gates {
     }
 
     fn choose_spoil(&self, chance: &mut Chance) -> Spoil {
-        let (place, account) = (self.place(chance), chance.below(self.proved.accounts().len().max(1)));
+        let open = self.proved.accounts().count().max(1);
+        let (place, account) = (self.place(chance), chance.below(open));
         match chance.below(24) {
             0 => Spoil::Count(257),
             1 => Spoil::Used(self.table.nums.len() + chance.below(2)),
@@ -215,7 +237,7 @@ impl Gates {
             }
             4 => Spoil::Kind { account, kind: chance.pick(&[1000, 2, u64::MAX]) },
             5 => Spoil::Len { account, len: chance.pick(&[0, 31, 1]) },
-            6 | 7 => Spoil::Twice { account, other: chance.below(self.proved.accounts().len().max(1)) },
+            6 | 7 => Spoil::Twice { account, other: chance.below(open) },
             8..=12 => {
                 let (column, other) = (chance.below(6), self.place(chance));
                 let near = self.table.nums.get(other).map_or(0, |nums| nums[column]);
@@ -285,24 +307,45 @@ impl Gates {
     }
 }
 
+impl Whole {
+    fn of(gate: &Gate) -> Whole {
+        Whole { gate: gate.value(), table: gate.table.clone() }
+    }
+
+    fn takes(&mut self, step: &Step) -> Outcome {
+        let Whole { gate, table } = self;
+        match step {
+            Step::Open { number, kind } => Outcome::bare(by_value::open_account(table, gate, *number, *kind)),
+            Step::Draw { number, kind, kopecks } => {
+                Outcome::bare(by_value::draw_funds(table, gate, *number, *kind, *kopecks))
+            }
+            Step::Deliver { clock, parameters, out } => {
+                Outcome::written(*out, |out| sized(by_value::deliver(table, gate, clock, &parameters.0, out)))
+            }
+            Step::Settle { clock, day, registry, out } => {
+                Outcome::written(*out, |out| sized(by_value::settle(table, gate, clock, *day, &registry.0, out)))
+            }
+            Step::Spoil(_) | Step::Mend => Outcome::bare(0),
+        }
+    }
+}
+
 fn sized((code, size): (u64, usize)) -> (u64, u64) {
     (code, size as u64)
 }
 
 fn apply(gate: &mut Gate, spoil: &Spoil) {
-    let Gate { head, table } = gate;
+    let Gate { accounts, head, table } = gate;
     let lent = table.nums.len().min(table.numbers.len()).min(table.dates.len());
     match *spoil {
         Spoil::Count(count) => head.count = count,
         Spoil::Used(used) => head.used = used,
         Spoil::Closed(day) => head.closed = day,
-        Spoil::Balance { account, kopecks } => head.accounts[account].balance = kopecks,
-        Spoil::Kind { account, kind } => head.accounts[account].kind = kind,
-        Spoil::Len { account, len } => head.accounts[account].number.len = len,
+        Spoil::Balance { account, kopecks } => accounts.balances[account] = kopecks,
+        Spoil::Kind { account, kind } => accounts.keys[account][1] = kind,
+        Spoil::Len { account, len } => accounts.keys[account][0] = len,
         Spoil::Twice { account, other } => {
-            let balance = head.accounts[account].balance;
-            head.accounts[account] = head.accounts[other];
-            head.accounts[account].balance = balance;
+            (accounts.names[account], accounts.keys[account]) = (accounts.names[other], accounts.keys[other]);
         }
         Spoil::Num { place, column, value } if place < lent => table.nums[place][column] = value,
         Spoil::NumberByte { place, at, byte } if place < lent => table.numbers[place][at] = byte,
@@ -335,8 +378,8 @@ impl Pair for Gates {
     }
 
     fn words(&self) -> String {
-        let name = |account: &roosteryore::Account| format!("{}/{}", account.number, account.kind);
-        let names: Vec<String> = self.proved.accounts().iter().map(name).collect();
+        let name = |account: roosteryore::Account| format!("{}/{}", account.number, account.kind);
+        let names: Vec<String> = self.proved.accounts().map(name).collect();
         let (closed, room) = (self.proved.head.closed, self.table.nums.len());
         format!("{closed} closed, {room} records lent, accounts {}", names.join(" "))
     }
@@ -369,9 +412,10 @@ impl Pair for Gates {
             Step::Mend => self.mend(),
             _ => {}
         }
-        let (proved, lent) = (self.proved_takes(step), self.lent_takes(step));
-        let owned = self.owned_takes(step);
-        match self.difference(&proved, &lent, owned.as_ref()) {
+        let (proved, by_value) = (self.proved_takes(step), self.value.takes(step));
+        let (lent, owned) = (self.lent_takes(step), self.owned_takes(step));
+        let forms = self.form_difference(&proved, &by_value);
+        match forms.or_else(|| self.difference(&proved, &lent, owned.as_ref())) {
             None => Ok(proved.code),
             Some(how) => Err(how),
         }
@@ -393,5 +437,11 @@ mod tests {
         let mut gates = Gates::new(day, 2);
         gates.head.accounts[255].balance = 1;
         assert!(gates.take(&step).is_err(), "a balance of an account that is not open");
+        let mut gates = Gates::new(day, 2);
+        gates.value.gate.accounts[255].number.bytes[29] = 1;
+        assert!(gates.take(&step).is_err(), "a byte past the number of such an account, in one form alone");
+        let mut gates = Gates::new(day, 2);
+        gates.value.table.dates[1][2][18] = 1;
+        assert!(gates.take(&step).is_err(), "a byte of the table, in one form alone");
     }
 }

@@ -98,13 +98,14 @@ pub fn book_rows(entries: &mut proved::Entries) -> twin::book::Rows<'_> {
 }
 
 /// The twin's head of a gate.
-pub fn gate_head(head: &proved::GateHead) -> twin::lent::Head {
-    let accounts = head.accounts.map(|account| twin::lent::Account {
+pub fn gate_head(gate: &proved::Gate) -> twin::lent::Head {
+    let proved::GateValue { accounts, count, closed, used } = *gate.value();
+    let accounts = accounts.map(|account| twin::lent::Account {
         number: number(account.number),
         kind: account.kind,
         balance: account.balance,
     });
-    twin::lent::Head { accounts, count: head.count, closed: day(head.closed), used: head.used }
+    twin::lent::Head { accounts, count, closed: day(closed), used }
 }
 
 /// The twin's head of a book.
@@ -112,11 +113,21 @@ pub fn book_head(head: &proved::BookHead) -> twin::book::Head {
     twin::book::Head { first: head.first, used: head.used, frozen: day(head.frozen), settled: head.settled }
 }
 
-/// Whether both heads are the same, in every byte of every account.
-pub fn same_head(head: &proved::GateHead, other: &twin::lent::Head) -> bool {
-    let same = |(a, b): (&proved::Account, &twin::lent::Account)| {
-        (a.number.bytes, a.number.len, a.kind, a.balance) == (b.number.bytes, b.number.len, b.kind, b.balance)
+/// Whether both have the same head, and the same accounts in every byte.
+pub fn same_head(gate: &proved::Gate, other: &twin::lent::Head) -> bool {
+    let proved::Gate { head, accounts, .. } = gate;
+    let same = |(place, account): (usize, &twin::lent::Account)| {
+        let twin::lent::Account { number, kind, balance } = *account;
+        (accounts.names[place], accounts.keys[place], accounts.balances[place])
+            == (number.bytes, [number.len as u64, kind], balance)
     };
     (head.count, head.used, day(head.closed)) == (other.count, other.used, other.closed)
-        && head.accounts.iter().zip(&other.accounts).all(same)
+        && other.accounts.iter().enumerate().all(same)
+}
+
+/// Whether a gate by value has the same head, and the same accounts in every byte.
+pub fn same_value(gate: &proved::Gate, value: &proved::GateValue) -> bool {
+    let mut other = proved::Gate::new(value.closed, proved::Table::with_room(0));
+    other.put_value(value);
+    (&other.accounts, other.head) == (&gate.accounts, gate.head)
 }

@@ -1,5 +1,5 @@
 //! The gate.
-use crate::{Account, Date, Day, Fault, GateHead, Number, Record, Table, ffi};
+use crate::{Account, Accounts, Date, Day, Fault, GateHead, GateValue, Number, Record, Table, by_value, ffi};
 
 /// How many bytes the buffer of an answer has at least.
 pub const ANSWER_ROOM: usize = 512;
@@ -9,11 +9,14 @@ pub const REPORT_ROOM: usize = 512;
 
 /// The payment gate: accounts, the payment table and the last closed day.
 ///
-/// The head is some 14 KB, so it lies on the heap; a call copies it to its stack and back.
+/// The accounts are some 14 KB, so they lie on the heap. They are lent to the calls as the table is; a settlement alone
+/// takes a copy of them.
 #[derive(Clone, Debug, PartialEq, Eq)]
 pub struct Gate {
-    /// Accounts, closed day, and how many records are in use.
-    pub head: Box<GateHead>,
+    /// The columns of the accounts.
+    pub accounts: Box<Accounts>,
+    /// How many accounts are open, closed day, and how many records are in use.
+    pub head: GateHead,
     /// The records.
     pub table: Table,
 }
@@ -37,15 +40,12 @@ impl Answer<'_> {
 impl Gate {
     /// A gate without accounts and with an empty table; the first day to be settled is the one after `closed`.
     pub fn new(closed: Day, table: Table) -> Gate {
-        let account = Account { number: Number::NONE, kind: 0, balance: 0 };
-        let head = GateHead { accounts: [account; 256], count: 0, closed, used: 0 };
-        Gate { head: Box::new(head), table }
+        Gate { accounts: Box::new(Accounts::NONE), head: GateHead { count: 0, closed, used: 0 }, table }
     }
 
     /// The open accounts.
-    pub fn accounts(&self) -> &[Account] {
-        let count = self.head.count.min(self.head.accounts.len());
-        &self.head.accounts[..count]
+    pub fn accounts(&self) -> impl Iterator<Item = Account> + '_ {
+        (0..self.head.count).map_while(|place| self.accounts.account(place))
     }
 
     /// The records in use.
@@ -55,10 +55,20 @@ impl Gate {
 
     /// The balance of an account in kopecks, if it is open.
     pub fn balance(&self, number: &Number, kind: u64) -> Option<i64> {
-        self.accounts()
-            .iter()
-            .find(|account| account.kind == kind && account.number == *number)
-            .map(|account| account.balance)
+        self.accounts().find(|account| account.kind == kind && account.number == *number).map(|account| account.balance)
+    }
+
+    /// Accounts and head as one value, for the calls of [`by_value`].
+    pub fn value(&self) -> Box<GateValue> {
+        let GateHead { count, closed, used } = self.head;
+        Box::new(GateValue { accounts: self.accounts.values(), count, closed, used })
+    }
+
+    /// Puts accounts and head back from one value.
+    pub fn put_value(&mut self, value: &GateValue) {
+        let GateValue { ref accounts, count, closed, used } = *value;
+        self.accounts.put(accounts);
+        self.head = GateHead { count, closed, used };
     }
 
     /// Opens an account, with nothing on it.
@@ -67,7 +77,7 @@ impl Gate {
     /// [`Unsound`](Fault::Unsound), [`BadAccount`](Fault::BadAccount), [`AccountKnown`](Fault::AccountKnown),
     /// [`ManyAccounts`](Fault::ManyAccounts).
     pub fn open_account(&mut self, number: Number, kind: u64) -> Result<(), Fault> {
-        Fault::check(ffi::open_account(&self.table, &mut self.head, number, kind))
+        Fault::check(ffi::open_account(&self.table, &mut self.accounts, &mut self.head, number, kind))
     }
 
     /// Draws kopecks from an account, as a print job does.
@@ -75,7 +85,7 @@ impl Gate {
     /// # Errors
     /// [`Unsound`](Fault::Unsound), [`BadAccount`](Fault::BadAccount), [`BadDraw`](Fault::BadDraw).
     pub fn draw_funds(&mut self, number: Number, kind: u64, kopecks: u64) -> Result<(), Fault> {
-        Fault::check(ffi::draw_funds(&self.table, &mut self.head, number, kind, kopecks))
+        Fault::check(ffi::draw_funds(&self.table, &mut self.accounts, &mut self.head, number, kind, kopecks))
     }
 
     /// Takes a request and answers it. The parameters are what stands after the question mark of a GET, or a POST's
@@ -87,7 +97,7 @@ impl Gate {
     /// [`Unsound`](Fault::Unsound), [`SmallBuffer`](Fault::SmallBuffer), [`BadClock`](Fault::BadClock): there is
     /// nothing to send then.
     pub fn deliver<'a>(&mut self, clock: &Date, parameters: &[u8], out: &'a mut [u8]) -> Result<Answer<'a>, Fault> {
-        let (code, size) = ffi::deliver(&mut self.table, &mut self.head, clock, parameters, out);
+        let (code, size) = ffi::deliver(&mut self.table, &mut self.accounts, &mut self.head, clock, parameters, out);
         match Fault::of(code) {
             Some(fault @ (Fault::Unsound | Fault::SmallBuffer | Fault::BadClock)) => Err(fault),
             _ => Ok(Answer { code, text: &out[..size] }),
@@ -107,7 +117,11 @@ impl Gate {
         registry: &[u8],
         out: &'a mut [u8],
     ) -> Result<&'a [u8], Fault> {
-        let (code, size) = ffi::settle(&mut self.table, &mut self.head, clock, day, registry, out);
+        // There is no settlement over lent accounts. Making the value and putting it back is small beside the rest: a
+        // settlement looks at every record and line.
+        let mut value = self.value();
+        let (code, size) = by_value::settle(&mut self.table, &mut value, clock, day, registry, out);
+        self.put_value(&value);
         Fault::check(code)?;
         Ok(&out[..size])
     }

@@ -22,6 +22,7 @@
 //! Each call checks everything that it is lent, so its time grows with the records in use: `docs/PERFORMANCE.md` has
 //! figures. Lend a table as large as the payments that it has to hold, up to [`ROWS_MOST`].
 
+mod accounts;
 mod book;
 mod fault;
 mod ffi;
@@ -29,9 +30,10 @@ mod gate;
 mod rows;
 mod values;
 
+pub use accounts::{ACCOUNTS_MOST, Accounts};
 pub use book::{Action, Book, REGISTRY_ROOM, REQUEST_ROOM};
 pub use fault::Fault;
-pub use ffi::{Account, BookHead, Day, GateHead, Number};
+pub use ffi::{Account, BookHead, Day, GateHead, GateValue, Number, by_value};
 pub use gate::{ANSWER_ROOM, Answer, Gate, REPORT_ROOM};
 pub use rows::{Entries, Entry, Payment, ROWS_MOST, Record, Rows, State, Table};
 pub use values::{Date, NotANumber};

@@ -9,7 +9,7 @@ pub const ROWS_MOST: usize = 4096;
 ///
 /// The fields are public because there is nothing to protect: each call checks every value in use and refuses what is
 /// wrong ([`Fault::Unsound`](crate::Fault::Unsound)). To keep a gate or a book over a restart, store its head and these
-/// columns.
+/// columns, and of a gate its [`Accounts`](crate::Accounts).
 #[derive(Clone, Debug, PartialEq, Eq)]
 pub struct Rows<D> {
     /// Receipt, length of the number, type, kopecks, state, authcode.

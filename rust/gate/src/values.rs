@@ -20,9 +20,6 @@ impl fmt::Display for NotANumber {
 impl Error for NotANumber {}
 
 impl Number {
-    /// No bytes: not a number of any account.
-    pub(crate) const NONE: Number = Number { bytes: [0; 30], len: 0 };
-
     /// The number of these bytes.
     ///
     /// # Errors

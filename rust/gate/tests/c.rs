@@ -9,6 +9,7 @@ deliver 0, <?xml version=\"1.0\" encoding=\"windows-1251\"?><response><code>0</c
 answer 0
 settle 0, 1
 report 0, settled 1, state 2, balance 1012
+draw 0, closed 20, balance 1000
 ";
 
 fn folder() -> &'static Path {

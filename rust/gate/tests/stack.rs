@@ -29,15 +29,28 @@ fn gate() -> Gate {
     gate
 }
 
+const REQUEST: &[u8] = b"action=payment&number=account12&amount=1&receipt=1&date=2005-09-20T15:53:00";
+
 #[test]
 fn calls_of_the_gate() {
     let (mut gate, mut out) = (gate(), vec![0; ANSWER_ROOM]);
     run(STACK, move || {
         let other = "account13".parse().unwrap();
         gate.open_account(other, 1).unwrap();
-        let request = b"action=payment&number=account12&amount=1&receipt=1&date=2005-09-20T15:53:00";
-        assert_eq!(gate.deliver(CLOCK, request, &mut out).unwrap().code, 0);
+        assert_eq!(gate.deliver(CLOCK, REQUEST, &mut out).unwrap().code, 0);
         gate.draw_funds(choir(), 1, 100).unwrap();
+    });
+}
+
+#[test]
+fn calls_of_the_gate_by_value() {
+    let (mut gate, mut out) = (gate(), vec![0; ANSWER_ROOM]);
+    let mut value = gate.value();
+    run(STACK, move || {
+        let other = "account13".parse().unwrap();
+        assert_eq!(by_value::open_account(&gate.table, &mut value, other, 1), 0);
+        assert_eq!(by_value::deliver(&mut gate.table, &mut value, CLOCK, REQUEST, &mut out).0, 0);
+        assert_eq!(by_value::draw_funds(&gate.table, &mut value, choir(), 1, 100), 0);
     });
 }
 

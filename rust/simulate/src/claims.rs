@@ -46,12 +46,12 @@ fn once(world: &World) -> Option<String> {
 
 fn accounts_once(world: &World) -> Option<String> {
     let mut seen = HashSet::new();
-    let again = world.gate.accounts().iter().find(|account| !seen.insert(name(&account.number, account.kind)));
+    let again = world.gate.accounts().find(|account| !seen.insert(name(&account.number, account.kind)));
     again.map(|account| format!("{} of type {} is open twice", account.number, account.kind))
 }
 
 fn opened(world: &World) -> Option<String> {
-    let open: HashSet<_> = world.gate.accounts().iter().map(|account| name(&account.number, account.kind)).collect();
+    let open: HashSet<_> = world.gate.accounts().map(|account| name(&account.number, account.kind)).collect();
     let lone = world.gate.records().find(|r| !open.contains(&name(&r.payment.number, r.payment.kind)));
     lone.map(|record| format!("receipt {} has no account", record.payment.receipt))
 }
@@ -64,7 +64,7 @@ fn balances(world: &World) -> Option<String> {
     for draw in &world.draws {
         *sums.entry(name(&draw.number, draw.kind)).or_default() -= i128::from(draw.kopecks);
     }
-    world.gate.accounts().iter().find_map(|account| {
+    world.gate.accounts().find_map(|account| {
         let sum = sums.get(&name(&account.number, account.kind)).copied().unwrap_or(0);
         (sum != i128::from(account.balance))
             .then(|| format!("{} has {} kopecks and not {sum}", account.number, account.balance))
@@ -203,7 +203,11 @@ mod tests {
 
     #[test]
     fn an_account_open_twice() {
-        assert!(broken(|world| world.gate.head.accounts[1] = world.gate.head.accounts[0]).contains(&SENTENCES[1].0));
+        let twice = |world: &mut World| {
+            let accounts = &mut world.gate.accounts;
+            (accounts.names[1], accounts.keys[1]) = (accounts.names[0], accounts.keys[0]);
+        };
+        assert!(broken(twice).contains(&SENTENCES[1].0));
     }
 
     #[test]
@@ -213,7 +217,7 @@ mod tests {
 
     #[test]
     fn a_kopeck_too_many() {
-        assert_eq!(broken(|world| world.gate.head.accounts[1].balance += 1), at(&[3]));
+        assert_eq!(broken(|world| world.gate.accounts.balances[1] += 1), at(&[3]));
     }
 
     #[test]
@@ -226,7 +230,7 @@ mod tests {
         // cancelled in the table; the balance follows
         let cancelled = |world: &mut World| {
             world.gate.table.nums[1][4] = 2;
-            world.gate.head.accounts[1].balance -= 1012;
+            world.gate.accounts.balances[1] -= 1012;
         };
         assert_eq!(broken(cancelled), at(&[4, 5, 6]));
     }

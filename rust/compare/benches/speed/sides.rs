@@ -94,15 +94,14 @@ impl Gates {
         }
         owned.close(sides::day(START));
         proved.head.closed = START;
-        head.clone_from(&sides::gate_head(&proved.head));
+        head.clone_from(&sides::gate_head(&proved));
         Gates { lent: Lent { head, table: proved.table.clone() }, proved, owned }
     }
 }
 
 fn balance<'a>(gate: &'a mut Gate, paid: &Payment) -> &'a mut i64 {
-    let count = gate.head.count;
-    let account = gate.head.accounts[..count].iter_mut().find(|account| account.number == paid.number);
-    &mut account.expect("the account is open").balance
+    let place = gate.accounts().position(|account| account.number == paid.number);
+    &mut gate.accounts.balances[place.expect("the account is open")]
 }
 
 fn write_record(gate: &mut Gate, place: usize, paid: &Payment) {
@@ -127,7 +126,8 @@ pub trait PutBack {
 
 impl PutBack for Gate {
     fn put_back(&mut self, from: &Gate, touched: Touched) {
-        *self.head = *from.head;
+        self.accounts.clone_from(&from.accounts);
+        self.head = from.head;
         put_back(&mut self.table, &from.table, touched);
     }
 }

@@ -1,6 +1,8 @@
-//! The functions of the archive, as `include/roosteryore.h` has them: a lent slice is a pointer and a count.
-use super::types::{Acceptance, BookHead, Booked, Day, GateHead, Number, Reply, Writing};
+//! The functions of the archive, as `include/roosteryore.h` has them: a lent slice is a pointer and a count, a lent
+//! array a pointer alone.
+use super::types::{Acceptance, BookHead, Booked, Day, GateHead, GateValue, HeadReply, Number, Reply, Writing};
 use crate::Date;
+use crate::accounts::{Balances, Keys, Names};
 
 /// Declares functions whose first arguments are the three lent rows.
 macro_rules! over_rows {
@@ -18,18 +20,29 @@ macro_rules! over_rows {
 
 // The table, read only.
 over_rows! { const [Date; 3];
-    fn roosteryore_open_account(gate: GateHead, number: Number, kind: u64) -> Reply;
-    fn roosteryore_draw_funds(gate: GateHead, number: Number, kind: u64, kopecks: u64) -> Reply;
+    fn roosteryore_open_account_lent(
+        names: *mut Names, keys: *mut Keys, balances: *mut Balances, head: GateHead, number: Number, kind: u64
+    ) -> HeadReply;
+    fn roosteryore_draw_funds_lent(
+        names: *const Names, keys: *const Keys, balances: *mut Balances, head: GateHead,
+        number: Number, kind: u64, kopecks: u64
+    ) -> HeadReply;
+    fn roosteryore_open_account(gate: GateValue, number: Number, kind: u64) -> Reply;
+    fn roosteryore_draw_funds(gate: GateValue, number: Number, kind: u64, kopecks: u64) -> Reply;
 }
 
 // The table, changed.
 over_rows! { mut [Date; 3];
+    fn roosteryore_deliver_lent(
+        names: *const Names, keys: *const Keys, balances: *mut Balances, head: GateHead, clock: *const Date,
+        params: *const u8, params_count: usize, out: *mut u8, out_count: usize
+    ) -> HeadReply;
     fn roosteryore_deliver(
-        gate: GateHead, clock: *const Date,
+        gate: GateValue, clock: *const Date,
         params: *const u8, params_count: usize, out: *mut u8, out_count: usize
     ) -> Reply;
     fn roosteryore_settle(
-        gate: GateHead, clock: *const Date, day: Day,
+        gate: GateValue, clock: *const Date, day: Day,
         bytes: *const u8, bytes_count: usize, out: *mut u8, out_count: usize
     ) -> Reply;
 }

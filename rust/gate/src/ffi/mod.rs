@@ -5,19 +5,12 @@
 //! new head in its place and gives the code.
 #![allow(unsafe_code)]
 
-mod declared;
-mod types;
-
-pub use types::{Account, BookHead, Day, GateHead, Number};
-
-use crate::{Action, Date, Entries, Table};
-
 /// Calls a function over lent rows; `as_ptr` lends them to be read, `as_mut_ptr` to be changed.
 macro_rules! call {
     ($name:ident, $pointer:ident, $rows:expr $(, $arg:expr)*) => {
-        // SAFETY: each pointer comes from a live slice or array and goes with its own count; what is lent to be changed
-        // is borrowed mutably by the caller, so nothing overlaps it; the callee keeps no pointer, and is proved to stay
-        // within the counts for all values.
+        // SAFETY: each pointer comes from a live slice and goes with its own count, or from a live array of as many
+        // places as its type has; what is lent to be changed is borrowed mutably by the caller, so nothing overlaps it;
+        // the callee keeps no pointer, and is proved to stay within counts and arrays for all values.
         unsafe {
             declared::$name(
                 $rows.nums.$pointer(), $rows.nums.len(),
@@ -29,11 +22,20 @@ macro_rules! call {
     };
 }
 
+// behind the macro, which by_value uses too
+pub mod by_value;
+mod declared;
+mod types;
+
+pub use types::{Account, BookHead, Day, GateHead, GateValue, Number};
+
+use crate::{Accounts, Action, Date, Entries, Table};
+
 /// The code of a call, and how many bytes of the buffer it wrote.
 pub(crate) type Wrote = (u64, usize);
 
-fn replied(reply: types::Reply, gate: &mut GateHead) -> Wrote {
-    *gate = reply.gate;
+fn headed(reply: types::HeadReply, head: &mut GateHead) -> Wrote {
+    *head = reply.head;
     (reply.code, reply.size)
 }
 
@@ -42,58 +44,52 @@ fn booked(booked: types::Booked, book: &mut BookHead) -> u64 {
     booked.code
 }
 
-pub(crate) fn open_account(table: &Table, gate: &mut GateHead, number: Number, kind: u64) -> u64 {
-    let reply = call!(roosteryore_open_account, as_ptr, table, *gate, number, kind);
-    replied(reply, gate).0
+pub(crate) fn open_account(
+    table: &Table,
+    Accounts { names, keys, balances }: &mut Accounts,
+    head: &mut GateHead,
+    number: Number,
+    kind: u64,
+) -> u64 {
+    let reply = call!(roosteryore_open_account_lent, as_ptr, table, names, keys, balances, *head, number, kind);
+    headed(reply, head).0
 }
 
-pub(crate) fn draw_funds(table: &Table, gate: &mut GateHead, number: Number, kind: u64, kopecks: u64) -> u64 {
-    let reply = call!(roosteryore_draw_funds, as_ptr, table, *gate, number, kind, kopecks);
-    replied(reply, gate).0
+pub(crate) fn draw_funds(
+    table: &Table,
+    Accounts { names, keys, balances }: &mut Accounts,
+    head: &mut GateHead,
+    number: Number,
+    kind: u64,
+    kopecks: u64,
+) -> u64 {
+    let reply = call!(roosteryore_draw_funds_lent, as_ptr, table, names, keys, balances, *head, number, kind, kopecks);
+    headed(reply, head).0
 }
 
 pub(crate) fn deliver(
     table: &mut Table,
-    gate: &mut GateHead,
+    Accounts { names, keys, balances }: &mut Accounts,
+    head: &mut GateHead,
     clock: &Date,
     parameters: &[u8],
     out: &mut [u8],
 ) -> Wrote {
     let reply = call!(
-        roosteryore_deliver,
+        roosteryore_deliver_lent,
         as_mut_ptr,
         table,
-        *gate,
+        names,
+        keys,
+        balances,
+        *head,
         clock,
         parameters.as_ptr(),
         parameters.len(),
         out.as_mut_ptr(),
         out.len()
     );
-    replied(reply, gate)
-}
-
-pub(crate) fn settle(
-    table: &mut Table,
-    gate: &mut GateHead,
-    clock: &Date,
-    day: Day,
-    registry: &[u8],
-    out: &mut [u8],
-) -> Wrote {
-    let reply = call!(
-        roosteryore_settle,
-        as_mut_ptr,
-        table,
-        *gate,
-        clock,
-        day,
-        registry.as_ptr(),
-        registry.len(),
-        out.as_mut_ptr(),
-        out.len()
-    );
-    replied(reply, gate)
+    headed(reply, head)
 }
 
 /// The code and the receipt.

@@ -1,4 +1,5 @@
 //! The values that cross, field by field as `crates/ffi` has them.
+use crate::ACCOUNTS_MOST;
 use std::mem::{align_of, offset_of, size_of};
 
 /// An account's number: the first `len` bytes count, one to thirty of them, each from `!` to `~`.
@@ -35,12 +36,25 @@ pub struct Account {
     pub balance: i64,
 }
 
-/// The gate's state without its table: 14,360 bytes, which go in and come back by value.
+/// The gate's state without its accounts and its table.
 #[repr(C)]
 #[derive(Clone, Copy, Debug, PartialEq, Eq)]
 pub struct GateHead {
+    /// How many accounts are open.
+    pub count: usize,
+    /// The last closed day.
+    pub closed: Day,
+    /// How many records of the lent table are in use.
+    pub used: usize,
+}
+
+/// The gate's state without its table: 14,360 bytes, which go into the calls of [`by_value`](crate::by_value) and come
+/// back.
+#[repr(C)]
+#[derive(Clone, Copy, Debug, PartialEq, Eq)]
+pub struct GateValue {
     /// The first `count` are open.
-    pub accounts: [Account; 256],
+    pub accounts: [Account; ACCOUNTS_MOST],
     /// How many accounts are open.
     pub count: usize,
     /// The last closed day.
@@ -63,11 +77,19 @@ pub struct BookHead {
     pub settled: bool,
 }
 
-/// What a call of the gate gives back: its code, the gate, and how many bytes it wrote.
+/// What a call that is lent the accounts gives back: its code, the head, and how many bytes it wrote.
+#[repr(C)]
+pub(super) struct HeadReply {
+    pub code: u64,
+    pub head: GateHead,
+    pub size: usize,
+}
+
+/// What a call by value gives back: its code, the gate, and how many bytes it wrote.
 #[repr(C)]
 pub(super) struct Reply {
     pub code: u64,
-    pub gate: GateHead,
+    pub gate: GateValue,
     pub size: usize,
 }
 
@@ -109,10 +131,14 @@ const _: () = {
     assert!(offset_of!(Day, month) == 2 && offset_of!(Day, day) == 3);
     assert!(size_of::<Account>() == 56);
     assert!(offset_of!(Account, kind) == 40 && offset_of!(Account, balance) == 48);
-    assert!(size_of::<GateHead>() == 14_360 && offset_of!(GateHead, count) == 14_336);
-    assert!(offset_of!(GateHead, closed) == 14_344 && offset_of!(GateHead, used) == 14_352);
+    assert!(size_of::<GateHead>() == 24 && offset_of!(GateHead, count) == 0);
+    assert!(offset_of!(GateHead, closed) == 8 && offset_of!(GateHead, used) == 16);
+    assert!(size_of::<GateValue>() == 14_360 && offset_of!(GateValue, count) == 14_336);
+    assert!(offset_of!(GateValue, closed) == 14_344 && offset_of!(GateValue, used) == 14_352);
     assert!(size_of::<BookHead>() == 24 && offset_of!(BookHead, used) == 8);
     assert!(offset_of!(BookHead, frozen) == 16 && offset_of!(BookHead, settled) == 20);
+    assert!(size_of::<HeadReply>() == 40 && offset_of!(HeadReply, head) == 8);
+    assert!(offset_of!(HeadReply, size) == 32);
     assert!(size_of::<Reply>() == 14_376 && offset_of!(Reply, size) == 14_368);
     assert!(size_of::<Acceptance>() == 40 && offset_of!(Acceptance, receipt) == 32);
     assert!(size_of::<Booked>() == 32 && offset_of!(Booked, book) == 8);
