@@ -1,9 +1,9 @@
 //! The gate's calls.
-use crate::sides::{CLOCK, Gates, Lent, PutBack, START, TODAY, Touched, choir, payment};
+use crate::sides::{CLOCK, Gates, Lent, PutBack, START, TODAY, Touched, Whole, choir, payment};
 use crate::stopwatch::{Side, Stopwatch, side};
 use compare::sides::{self, table_rows};
 use compare::texts::good_registry;
-use roosteryore::{Day, Gate, ROWS_MOST};
+use roosteryore::{Day, Gate, ROWS_MOST, by_value};
 use std::hint::black_box;
 
 type Owned = twin::owned::Gate;
@@ -48,12 +48,21 @@ pub fn request<'a>(gates: &'a Gates, request: &'a [u8]) -> Vec<Side<'a>> {
     ]
 }
 
+/// The same sides, but that the proved gate goes in and comes back by value.
+fn by_value<'a>(mut sides: Vec<Side<'a>>, whole: &'a Whole, request: &'a [u8]) -> Vec<Side<'a>> {
+    sides[0] = gate_side(whole, Touched::Nothing, |Whole { gate, table }, out| {
+        by_value::deliver(table, gate, CLOCK, black_box(request), out)
+    });
+    sides
+}
+
 /// What it costs alone that a gate goes in and comes back by value: one that is refused at its first number.
 pub fn refused(stopwatch: &mut Stopwatch) {
     stopwatch.table("A gate of 257 accounts, refused at once", false);
     let mut gates = Gates::new(1, 0, 16, |_| TODAY, |_| true);
     (gates.proved.head.count, gates.lent.head.count) = (257, 257);
-    stopwatch.row("deliver", request(&gates, b"action=status&receipt=1"));
+    let (whole, status) = (Whole::of(&gates.proved), b"action=status&receipt=1");
+    stopwatch.row("deliver, the gate by value", by_value(request(&gates, status), &whole, status));
 }
 
 /// Each call once, with 256 records and 16 accounts.
@@ -97,19 +106,30 @@ pub fn calls(stopwatch: &mut Stopwatch) {
     }
 }
 
-/// A status, by records and accounts.
+/// A status, by records and accounts; with few of both also by value, where the copies are most of it.
 pub fn growth(stopwatch: &mut Stopwatch) {
     stopwatch.table("A status delivered, by records in use and accounts", true);
     for used in [16, 256, 1024, 4095] {
         for accounts in [1, 16, 256] {
             let name = format!("{used} records, {accounts} accounts");
             if stopwatch.wants(&name) {
-                let gates = Gates::new(accounts, used, ROWS_MOST, |_| TODAY, |_| true);
-                let request = format!("action=status&receipt={}", payment(used - 1, accounts, TODAY).receipt);
-                stopwatch.row(&name, deliver(&gates, Touched::Nothing, request.as_bytes()));
+                let (gates, status) = asked_status(used, accounts);
+                stopwatch.row(&name, deliver(&gates, Touched::Nothing, status.as_bytes()));
             }
         }
+        if used == 16 {
+            let (gates, status) = asked_status(used, 16);
+            let (whole, status) = (Whole::of(&gates.proved), status.as_bytes());
+            let sides = by_value(deliver(&gates, Touched::Nothing, status), &whole, status);
+            stopwatch.row("16 records, 16 accounts: deliver, the gate by value", sides);
+        }
     }
+}
+
+/// A gate with payments of today, and a request for the status of the last.
+fn asked_status(used: usize, accounts: usize) -> (Gates, String) {
+    let gates = Gates::new(accounts, used, ROWS_MOST, |_| TODAY, |_| true);
+    (gates, format!("action=status&receipt={}", payment(used - 1, accounts, TODAY).receipt))
 }
 
 /// Where records before this place are of the day that was closed before.

@@ -1,7 +1,7 @@
 //! The same gate and the same book on each side, and how they are put back.
 use compare::sides;
 use compare::texts::payment_request;
-use roosteryore::{Book, Date, Day, Entries, Gate, Number, Payment, Rows, Table};
+use roosteryore::{Book, Date, Day, Entries, Gate, GateValue, Number, Payment, Rows, Table};
 
 pub const START: Day = Day::new(2005, 9, 19);
 pub const TODAY: Day = Day::new(2005, 9, 20);
@@ -56,6 +56,19 @@ pub struct Gates {
     pub proved: Gate,
     pub lent: Lent,
     pub owned: twin::owned::Gate,
+}
+
+/// The proved gate by value.
+#[derive(Clone)]
+pub struct Whole {
+    pub gate: Box<GateValue>,
+    pub table: Table,
+}
+
+impl Whole {
+    pub fn of(gate: &Gate) -> Whole {
+        Whole { gate: gate.value(), table: gate.table.clone() }
+    }
 }
 
 #[derive(Clone)]
@@ -128,6 +141,13 @@ impl PutBack for Gate {
     fn put_back(&mut self, from: &Gate, touched: Touched) {
         self.accounts.clone_from(&from.accounts);
         self.head = from.head;
+        put_back(&mut self.table, &from.table, touched);
+    }
+}
+
+impl PutBack for Whole {
+    fn put_back(&mut self, from: &Whole, touched: Touched) {
+        *self.gate = *from.gate;
         put_back(&mut self.table, &from.table, touched);
     }
 }
