@@ -10,7 +10,6 @@ use lib.IntN.{ℤ, pos}
 use lib.ListN.{length, drop, getD, set, replicate, getD-replicate}
 use lib.Seq.{take-all, ext-getD, getD-set-same, getD-set-other}
 use Rattle.fields.specs.declared.number.Number.{Number}
-use Rattle.lists.specs.declared.Found.{Found}
 use Rattle.lists.specs.declared.Found.the-variants.{At, Nothing}
 use Rattle.lists.specs.Lists.{tab, firstFrom}
 use Rattle.lists.proofs.ListLaws.{length-tab, getD-tab, tab-same, tab-set, tab-take}

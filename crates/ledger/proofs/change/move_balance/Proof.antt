@@ -1,5 +1,4 @@
 use borrow.Author.Needs.{needs}
-use mathlib.Core.Path.{refl}
 use Rattle.ledger.proofs.ChangeLaws.{moved-none, moved-there}
 use Rattle.ledger.proofs.change.move_balance.Statement.{statement}
 use Rattle.ledger.proofs.change.move_balance.Tie as tie

@@ -3,7 +3,6 @@ use Rattle.table.proofs.ColumnLaws.{Packed, packed-one, packed-more, pa
 use Prim.Native.Nat.{_≤_, _-_}
 use mathlib.Core.Path.{_≡_, refl}
 use lib.ListN.{length}
-use Rattle.table.specs.Columns.{Columns}
 use Rattle.table.proofs.columns.pack.Statement.{statement}
 use Rattle.table.proofs.columns.pack.Tie as tie
 
