@@ -11,13 +11,13 @@ use borrow.Author.Tests.{le-leb, lt-leb, eq-eqb, ne-eqb, leb-true, not-true, not
 use mir.Syntax.{w64}
 use mir.Val.{Fits}
 use Rattle.texts.specs.Digits.{within}
-use Rattle.texts.specs.Lists.{over}
+use Rattle.texts.specs.Lists.{find, over}
 use Rattle.texts.proofs.ListLaws.{drop-next}
 use Rattle.texts.proofs.OutLaws.{over-step, over-none}
 use Rattle.texts.proofs.Tests.{cond-elim}
 use Rattle.texts.proofs.DigitLaws.{within-high}
 use Rattle.coding.specs.declared.url.Unit.{Unit}
-use Rattle.coding.specs.Url.{isHex, hexValue, wellCoded, decoded, decodedInto, decodedCount}
+use Rattle.coding.specs.Url.{isHex, hexValue, wellCoded, decoded, decodedInto, decodedCount, decodedWithin}
 use Rattle.coding.specs.Units.{single, escape, unitOf}
 
 -- ---- hexadecimal digits
@@ -177,6 +177,32 @@ module _ (d₀ s : List ℕ) where
     pub all-into : (d x : List ℕ) → x ≡ d → over d₀ 0 (decoded s) ≡ over d j (decoded (drop i s)) → x ≡ decodedInto d₀ s
     unfolding decodedInto decoded
     all-into d x q e = let w : over d₀ 0 (decoded s) ≡ d = e ∙ rw (drop-of-length-le s done) (over-none d j) in q ∙ rw (le-leb _ _ fit) (sym w)
+
+-- ---- decoded where it is only read
+pub within-short : (room : ℕ) (s r : List ℕ) → room < length s → r ≡ [] → r ≡ decodedWithin room s
+unfolding decodedWithin
+within-short room s r h q = q ∙ simp (lt-leb _ _ h)
+
+-- a text without % stands for itself
+decoded-plain : (s : List ℕ) → length s ≤ find 37 s → decoded s ≡ s
+unfolding decoded find
+decoded-plain [] h = refl
+decoded-plain (b ∷ []) h = refl
+decoded-plain (b ∷ (x ∷ [])) h = refl
+decoded-plain (b ∷ (x ∷ (y ∷ s))) h = go (decoded-plain (x ∷ (y ∷ s))) (eqb b 37) refl
+  where
+    go : (length (x ∷ (y ∷ s)) ≤ find 37 (x ∷ (y ∷ s)) → decoded (x ∷ (y ∷ s)) ≡ x ∷ (y ∷ s))
+        → (c : Bool) → eqb b 37 ≡ c → cond c ((hexValue x * 16 + hexValue y) ∷ decoded s) (b ∷ decoded (x ∷ (y ∷ s))) ≡ b ∷ (x ∷ (y ∷ s))
+    go rest true c = absurd (omega (arith, rw c at h))
+    go rest false c = ap (λ (u : List ℕ). b ∷ u) (rest (omega (arith, rw c at h)))
+
+pub within-room : (d s : List ℕ) → length s ≤ length d → (n : ℕ) → n ≡ decodedCount d s → (b : List ℕ) → b ≡ decodedInto d s → (r : List ℕ) → r ≡ take n b → r ≡ decodedWithin (length d) s
+unfolding decodedWithin decodedCount decodedInto
+within-room d s l n en b eb r q = q ∙ rw (en, eb, le-leb _ _ l) (take-append-seam (decoded s) (drop (0 + length (decoded s)) d))
+
+pub within-plain : (room : ℕ) (s r : List ℕ) → length s ≤ room → (q : ℕ) → q ≡ find 37 s → length s ≤ q → r ≡ s → r ≡ decodedWithin room s
+unfolding decodedWithin
+within-plain room s r l q found h e = e ∙ rw (le-leb _ _ l) (sym (decoded-plain s (rw (← found) h)))
 
 -- ---- what a caller reads: the bytes that came stand at the buffer's start
 pub decoded-length : (s : List ℕ) → length (decoded s) ≤ length s

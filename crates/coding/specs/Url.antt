@@ -41,6 +41,10 @@ decodedInto d s = cond (leb (length s) (length d)) (over d 0 (decoded s)) d
 unfoldable pub decodedCount : List ℕ → List ℕ → ℕ
 decodedCount d s = cond (leb (length s) (length d)) (length (decoded s)) 0
 
+-- the same where the text is only read: nothing without the room
+unfoldable pub decodedWithin : ℕ → List ℕ → List ℕ
+decodedWithin room s = cond (leb (length s) room) (decoded s) []
+
 -- ---- coding
 -- A to Z, a to z, digits, - . :
 unfoldable pub isPlain : ℕ → Bool

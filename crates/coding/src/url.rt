@@ -1,12 +1,13 @@
 // Url coding: `%` and two hexadecimal digits stand for a byte.
 use texts::out;
+use texts::scan;
 ghost use mathlib.Core.Bool.{_&&_};
 ghost use mathlib.Core.Path.{_≡_};
 ghost use Prim.Native.Nat.{_<_};
 ghost use lib.Dec.{leb};
 ghost use lib.ListN.{drop, length};
 ghost use Rattle.texts.specs.Lists.{written, cursorAfter};
-ghost use Rattle.coding.specs.Url.{isHex, hexValue, wellCoded, decodedInto, decodedCount, isPlain, hexDigit, codedByte, coded};
+ghost use Rattle.coding.specs.Url.{isHex, hexValue, wellCoded, decodedInto, decodedCount, decodedWithin, isPlain, hexDigit, codedByte, coded};
 ghost use Rattle.coding.specs.Units.{unitOf, codeSize};
 
 // What stands at a place of coded text: the byte, how many bytes code it, and whether they may.
@@ -107,6 +108,20 @@ pub fn decode(s: &[u8], dst: &mut [u8]) -> usize
         j += 1;
     }
     j
+}
+
+// A text decoded: itself where nothing of it is coded, otherwise in the room; nothing where that is shorter than the text.
+pub fn decoded<'a>(s: &'a [u8], room: &'a mut [u8]) -> &'a [u8]
+    ensures { λ r. ⌜ now r ≡ decodedWithin (length (now (room .entry))) (now (s .entry)) ⌝ }
+{
+    if room.len() < s.len() {
+        return &s[..0];
+    }
+    if s.len() <= scan::find_byte(s, b'%') {
+        return s;
+    }
+    let n = decode(s, room);
+    scan::first_bytes(room, n)
 }
 
 // Whether a byte stands for itself in coded text.

@@ -104,6 +104,13 @@ module _ (s : List ℕ) where
     date-not n r q = q ∙ rw (← same, ← judged, n)
 
   -- what is no date is on no day
+  pub size-written : (length s ≡ 19 → ⊥) → false ≡ isWritten s
+  unfolding dateDay
+  size-written n = simp (ne-eqb _ _ n)
+
+  pub text-written : (d : List ℕ) → d ≡ s → (t : Bool) → t ≡ isWritten d → t ≡ isWritten s
+  text-written d same t e = e ∙ rw same
+
   module _ (day : Day) where
     pub size-on : (length s ≡ 19 → ⊥) → false ≡ onDay day (dateDay s)
     unfolding dateDay

@@ -160,6 +160,16 @@ pub fn read_date(s: &[u8]) -> DateRead
     }
 }
 
+// Whether a text is a written date.
+pub fn is_text(s: &[u8]) -> bool
+    ensures { λ r. ⌜ r ≡ isWritten (now (s .entry)) ⌝ }
+{
+    if s.len() != 19 {
+        return false;
+    }
+    is_written(nineteen(s))
+}
+
 // Whether a text is a written date on the day.
 pub fn is_text_on(day: Day, s: &[u8]) -> bool
     ensures { λ r. ⌜ r ≡ onDay day (dateDay (now (s .entry))) ⌝ }

@@ -71,8 +71,8 @@ pub fn is_text(s: &[u8]) -> bool
     all_number_bytes(s)
 }
 
-// The number of a text.
-fn number_of(s: &[u8]) -> Number
+// The number of a text that is one.
+pub fn number_of(s: &[u8]) -> Number
     requires { ⌜ length (now s) ≤ 30 ⌝ }
     ensures { λ r. ⌜ r ≡ numberOf (now (s .entry)) ⌝ }
 {

@@ -30,8 +30,9 @@ use Rattle.message.specs.declared.request.Asked.{Asked}
 use Rattle.message.specs.declared.request.RequestRead.{RequestRead}
 use Rattle.parameters.specs.Names.{actionOf, hasAccount, hasReceipt, hasDate, hasReason}
 use Rattle.parameters.specs.Slots.{Slot, Absent, Holds, Gathered, Broken, Values, gathered}
-use Rattle.message.specs.Request.{held, fieldOf, unusedNumber, valueIn, refused, firstFault, fieldFault, askedOf, fieldsRead, actionRead, valuesRead, requestRead}
+use Rattle.message.specs.Request.{held, fieldOf, unusedNumber, valueIn, refused, fieldFault, askedOf, fieldsRead, actionRead, valuesRead, requestRead}
 use Rattle.message.specs.RequestText.{isAsked}
+use Rattle.message.proofs.FieldLaws.{fault-none, ok-true}
 
 -- each field that the action has is in its range
 pub record AskedGood (q : Asked) : Type 0 where
@@ -64,10 +65,6 @@ one-kind : (v : ℕ) → Value v ≡ Value 1 → isKind v ≡ true
 one-kind v e = let z : v ≡ 1 = cc in rw z
 
 -- ---- numbers and dates
-ok-true : (b : Bool) (code : ℕ) → cond b 0 (suc code) ≡ 0 → b ≡ true
-ok-true true code e = refl
-ok-true false code e = absurd (omega arith)
-
 number-reads : (s : List ℕ) → (numberRead s) .ok ≡ true → isNumber ((numberRead s) .number) ≡ true
 unfolding numberRead
 number-reads s =
@@ -106,15 +103,7 @@ date-sized false k = refl
 date-sized true Absent = refl
 date-sized true (Holds v) = date-nineteen (decoded v)
 
--- ---- no fault in a list of faults
-fault-none : (f : ℕ) (fs : List ℕ) → firstFault (f ∷ fs) ≡ 0 → (f ≡ 0) × (firstFault fs ≡ 0)
-unfolding firstFault
-fault-none f fs = go (eqb f 0) refl
-  where
-    go : (b : Bool) → eqb f 0 ≡ b → cond b (firstFault fs) f ≡ 0 → (f ≡ 0) × (firstFault fs ≡ 0)
-    go true e h = (eqb-true f 0 e, h)
-    go false e h = absurd (eqb-false f 0 e h)
-
+-- ---- the fields of an action
 fields-good : (a : Action) (t : List Slot) → fieldFault a t ≡ 0 → AskedGood (askedOf a t)
 unfolding fieldFault askedOf
 fields-good a t h =

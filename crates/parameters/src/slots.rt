@@ -5,45 +5,15 @@ use texts::scan;
 ghost use mathlib.Core.Path.{_≡_};
 ghost use Prim.Native.Nat.{_-_, _<_, _≤_};
 ghost use lib.ListN.{length, take, drop, getD};
-ghost use Rattle.parameters.specs.Slots.{Absent, gathered};
-ghost use Rattle.parameters.specs.SlotWalk.{slotsIn, scanned, brokenScan, nameless, Adds, textSlot, clippedSlot};
-
-// Where the value of each known name begins and ends in the text; an end of 0 is an absent name.
-pub struct Slots {
-    pub from: [usize; 7],
-    pub to: [usize; 7],
-}
-
-// The slots, or `ok` false and none.
-pub struct Scan {
-    pub ok: bool,
-    pub slots: Slots,
-}
+ghost use Rattle.coding.specs.Params.{pieces};
+ghost use Rattle.parameters.specs.Slots.{Absent, gatherFrom};
+ghost use Rattle.parameters.specs.SlotWalk.{slotsIn, scanned, nameless, Adds, isGiven, clippedText};
 
 // A piece between ampersands: the place of its name, 7 where that has none, and where its value begins; or `ok` false.
 struct Piece {
     ok: bool,
     place: usize,
     from: usize,
-}
-
-// Whether a name has a value, and how many bytes it has once it is decoded.
-pub struct Text {
-    pub present: bool,
-    pub len: usize,
-}
-
-// What a text that meets row 31 gathers.
-fn broken() -> Scan
-    ensures { λ r. ⌜ r ≡ brokenScan ⌝ }
-{
-    Scan {
-        ok: false,
-        slots: Slots {
-            from: [0usize; 7],
-            to: [0usize; 7],
-        },
-    }
 }
 
 // A piece that gives no value.
@@ -94,50 +64,49 @@ fn read_piece(s: &[u8], at: usize, end: usize) -> Piece
     }
 }
 
-// Gathers every piece between ampersands; a name that has a value already breaks the text.
-pub fn gather(s: &[u8]) -> Scan
-    ensures { λ r. ⌜ scanned (now (s .entry)) r ≡ gathered (now (s .entry)) ⌝ }
+// Gathers every piece between ampersands: of each known name the places where its value begins and ends, an end of 0 where it has none. False where a name
+// has a value already, or a piece breaks the text.
+pub fn gather(s: &[u8], slots: &mut [[usize; 2]]) -> bool
+    requires { ⌜ 7 ≡ length (now slots) ⌝ }
+    ensures { λ r. ⌜ scanned (now (s .entry)) r (now (slots .exit)) ≡ gatherFrom (slotsIn (now (s .entry)) (now (slots .entry))) (pieces (now (s .entry))) ⌝ }
 {
-    let mut t = Slots {
-        from: [0usize; 7],
-        to: [0usize; 7],
-    };
     let mut at: usize = 0;
     while at < s.len() {
         let end = at + scan::find_byte(&s[at..], b'&');
         let next = end + 1;
         let p = read_piece(s, at, end);
         if !p.ok {
-            return broken();
+            return false;
         }
         let k = p.place;
         if action::NO_NAME <= k {
             at = next;
             continue;
         }
-        if t.to[k] != 0 {
-            return broken();
+        let held = slots[k];
+        if held[1] != 0 {
+            return false;
         }
-        t.from[k] = p.from;
-        t.to[k] = end;
+        slots[k] = [p.from, end];
         at = next;
     }
-    Scan { ok: true, slots: t }
+    true
 }
 
-// Decodes the value of the name with place k into a buffer of 96 bytes.
-pub fn text_of(s: &[u8], t: Slots, k: usize, dst: &mut [u8]) -> Text
-    requires { ⌜ (k < 7) × (96 ≡ length (now dst)) ⌝ }
-    ensures { λ r. ⌜ textSlot r (now (dst .exit)) ≡ clippedSlot (getD (slotsIn (now (s .entry)) t) k Absent) ⌝ }
+// Whether the name with place k has a value.
+pub fn is_given(slots: &[[usize; 2]], k: usize) -> bool
+    requires { ⌜ (k < 7) × (7 ≡ length (now slots)) ⌝ }
+    ensures { λ r. ⌜ r ≡ isGiven (now (slots .entry)) k ⌝ }
 {
-    let from = t.from[k];
-    let to = t.to[k];
-    if to == 0 {
-        return Text {
-            present: false,
-            len: 0,
-        };
-    }
-    let len = url::decode(part(s, from, to), dst);
-    Text { present: true, len }
+    let held = slots[k];
+    held[1] != 0
+}
+
+// The value of the name with place k, decoded, where it has 96 bytes or fewer; otherwise nothing. The room is lent for one that is coded.
+pub fn text_of<'a>(s: &'a [u8], slots: &[[usize; 2]], k: usize, room: &'a mut [u8]) -> &'a [u8]
+    requires { ⌜ (k < 7) × (7 ≡ length (now slots)) × (96 ≡ length (now room)) ⌝ }
+    ensures { λ r. ⌜ now r ≡ clippedText (getD (slotsIn (now (s .entry)) (now (slots .entry))) k Absent) ⌝ }
+{
+    let held = slots[k];
+    url::decoded(part(s, held[0], held[1]), room)
 }

@@ -1,4 +1,4 @@
--- The gate's accounts lent in three columns of 256 places: the bytes of the numbers, the lengths of these with the types, the balances. A gate is a head and these.
+-- Document 01, "Gate": the gate's accounts lent in three columns of 256 places: the bytes of the numbers, the lengths of these with the types, the balances. A gate is a head and these.
 use Prim.Native.Nat.{ℕ}
 use mathlib.Core.List.{List, []}
 use lib.IntN.{ℤ, pos}

@@ -1,7 +1,7 @@
 //! Each call against the twin: `cargo bench --offline --bench speed`; with `-- WORDS` those rows that have the words.
 //!
 //! Every call is timed by itself; before it, untimed, its state is put back and its buffer cleared, for all sides
-//! alike. A run is the median of a batch of calls, the batches of the sides take turns, and the median of 101 runs is
+//! alike. A run is the mean of a batch of calls, the batches of the sides take turns, and the median of 101 runs is
 //! told, in nanoseconds. The cost of reading the clock is taken off.
 mod agent;
 mod gate;

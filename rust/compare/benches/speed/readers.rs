@@ -1,5 +1,5 @@
-//! The readers alone: what a call that reads a text takes longer than the same call where no byte of it is looked at,
-//! on a state with next to nothing in it.
+//! The readers alone: what a call that reads a text takes longer than the same call where it looks at one byte of it at
+//! most, on a state with next to nothing in it that stays as it is.
 use crate::agent::{CHECKED, PAID};
 use crate::gate::{gate_side, request};
 use crate::sides::{Books, CLOCK, Gates, Lent, LentBook, PutBack, START, TODAY, Touched, payment};
@@ -12,7 +12,7 @@ use twin::request as asked;
 
 /// Requests and registries at a gate without accounts and records, answers at a book of one entry.
 pub fn readers(stopwatch: &mut Stopwatch) {
-    stopwatch.table("Readers: a text that is read, less one that is not looked at", false);
+    stopwatch.table("Readers: a text that is read, less one that is refused at once", false);
     let gates = Gates::new(0, 0, 16, |_| TODAY, |_| true);
     let too_long = [b'x'; 2049];
     let paid = payment_request(&payment(7, 16, TODAY));
@@ -22,21 +22,29 @@ pub fn readers(stopwatch: &mut Stopwatch) {
         let sides = |text| request(&gates, text);
         stopwatch.difference(&format!("request, {name}"), sides(text.as_bytes()), sides(&too_long));
     }
-    let books = Books::new(1, 16, |_| TODAY);
-    let (known, unknown) = (books.proved.head.first, 1);
+    let books = frozen();
     let check = (Action::Check, asked::Action::Check);
     let pay = (Action::Payment, asked::Action::Payment);
     for (name, action, text) in [("a check's", check, CHECKED), ("a payment's", pay, PAID)] {
-        let sides = |action, receipt| take_answer(&books, action, receipt, text);
-        stopwatch.difference(&format!("answer, {name}"), sides(action, known), sides(pay, unknown));
+        let sides = |text| take_answer(&books, action, text);
+        stopwatch.difference(&format!("answer, {name}"), sides(text), sides(b"?"));
     }
     let lines = good_registry((0..512).map(|place| payment(place, 256, START)));
     let sides = |text| settle(&gates, text);
     stopwatch.difference("registry, 512 lines", sides(&lines), sides(b"?"));
 }
 
-/// With a receipt that is not in the book no byte of a payment's answer is looked at.
-fn take_answer<'a>(books: &'a Books, action: (Action, asked::Action), receipt: u64, text: &'a [u8]) -> Vec<Side<'a>> {
+/// A book of one payment whose day is frozen: an answer moves nothing, so that reading it is all.
+fn frozen() -> Books {
+    let mut books = Books::new(1, 16, |_| TODAY);
+    books.proved.freeze(TODAY).expect("the next day");
+    books.lent.head = sides::book_head(&books.proved.head);
+    books
+}
+
+/// An answer to the one payment of a book.
+fn take_answer<'a>(books: &'a Books, action: (Action, asked::Action), text: &'a [u8]) -> Vec<Side<'a>> {
+    let receipt = books.proved.head.first;
     vec![
         book_side(&books.proved, move |book| book.take_answer(action.0, receipt, black_box(text))),
         book_side(&books.lent, move |LentBook { head, entries }| {
@@ -46,7 +54,7 @@ fn take_answer<'a>(books: &'a Books, action: (Action, asked::Action), receipt: u
 }
 
 fn book_side<'a, S: PutBack + Clone, R>(from: &'a S, call: impl FnMut(&mut S) -> R + 'a) -> Side<'a> {
-    side(from.clone(), |book: &mut S| book.put_back(from, Touched::Row(0)), call)
+    side(from.clone(), |book: &mut S| book.put_back(from, Touched::Nothing), call)
 }
 
 /// A registry of the day that is closed already: its lines are only reported.

@@ -42,15 +42,17 @@ fn median(mut times: Vec<f64>) -> f64 {
     times[times.len() / 2]
 }
 
-fn nanoseconds(time: Duration) -> f64 {
-    time.as_nanos() as f64
+/// The mean of a batch, in nanoseconds: a clock that goes by tens of them still tells single ones apart.
+fn mean(calls: u32, mut call: impl FnMut() -> Duration) -> f64 {
+    let whole: Duration = (0..calls).map(|_| call()).sum();
+    whole.as_nanos() as f64 / f64::from(calls)
 }
 
 impl Stopwatch {
     pub fn new() -> Stopwatch {
         let filter = std::env::args().skip(1).filter(|word| !word.starts_with("--")).collect();
-        let reading = median((0..10_001).map(|_| nanoseconds(timed(|| ()))).collect());
-        println!("reading the clock: {reading} ns, taken off; medians of {RUNS} runs");
+        let reading = median((0..RUNS).map(|_| mean(10_000, || timed(|| ()))).collect());
+        println!("reading the clock: {reading:.1} ns, taken off; medians of {RUNS} runs");
         Stopwatch { filter, reading }
     }
 
@@ -89,8 +91,7 @@ impl Stopwatch {
         for run in 0..RUNS {
             for turn in 0..sides.len() {
                 let place = (run + turn) % sides.len();
-                let calls = (0..batches[place]).map(|_| nanoseconds(sides[place]()) - self.reading).collect();
-                times[place].push(median(calls));
+                times[place].push(mean(batches[place], &mut sides[place]) - self.reading);
             }
         }
         times.into_iter().map(median).collect()

@@ -1,9 +1,9 @@
 use borrow.Author.Needs.{needs}
-use Rattle.parameters.proofs.SlotLaws.{text-absent, text-held}
+use Rattle.parameters.proofs.SlotLaws.{text-clipped}
 use Rattle.parameters.proofs.slots.text_of.Statement.{statement}
 use Rattle.parameters.proofs.slots.text_of.Tie as tie
 
-ruleset laws = (text-absent, text-held, needs)
+ruleset laws = (text-clipped, needs)
 
 pub text-of-spec : {M : Type 1} → statement M
 text-of-spec =
@@ -13,8 +13,6 @@ text-of-spec =
     (λ c. search laws)
     (λ c. search laws)
     (λ c. search laws)
-    (λ c. search laws)
     (λ c κs. search laws)
     (λ c κs. search laws)
-    (λ c. search laws)
     (λ c. search laws))

@@ -1,12 +1,12 @@
 use borrow.Author.Needs.{needs}
-use Rattle.message.proofs.RequestLaws.{no-amount, no-date, no-reason, all-later}
-use Rattle.message.proofs.request.read_later.Statement.{statement}
-use Rattle.message.proofs.request.read_later.Tie as tie
+use Rattle.message.proofs.RequestLaws.{no-receipt, no-number, no-kind, then-later}
+use Rattle.message.proofs.request.read_figures.Statement.{statement}
+use Rattle.message.proofs.request.read_figures.Tie as tie
 
-ruleset laws = (no-amount, no-date, no-reason, all-later, needs)
+ruleset laws = (no-receipt, no-number, no-kind, then-later, needs)
 
-pub read-later-spec : {M : Type 1} → statement M
-read-later-spec =
+pub read-figures-spec : {M : Type 1} → statement M
+read-figures-spec =
     tie.close
     (tie.spec
     (λ c κs. search laws)
@@ -22,4 +22,5 @@ read-later-spec =
     (λ c. search laws)
     (λ c κs. search laws)
     (λ c. search laws)
+    (λ c κs. search laws)
     (λ c. search laws))
