@@ -1,18 +1,21 @@
 -- Laws of tags, blanks and elements in a text.
-use Prim.Native.Nat.{ℕ, _+_, _-_, _^_, _≤_, _<_}
+use Prim.Native.Nat.{ℕ, suc, _+_, _-_, _^_, _≤_, _<_}
 use native.Mathlib.Omega.{arith}
 use native.Mathlib.Nat.{le-refl, add-assoc}
-use mathlib.Core.Path.{_≡_, sym, ap, _∙_}
-use mathlib.Core.List.{List, []}
-use mathlib.Core.Bool.{Bool, true, false}
+use mathlib.Core.Path.{_≡_, refl, sym, ap, _∙_}
+use mathlib.Core.List.{List, [], _∷_}
+use mathlib.Core.Bool.{Bool, true, false, cond}
 use mir.Syntax.{w64}
 use mir.Val.{Fits}
 use lib.ListN.{length, getD, take, drop, length-take, length-drop, drop-of-length-le}
 use lib.Seq.{take-all, length-take-le, drop-drop}
+use Rattle.answers.specs.Answer.{opening, closing}
 use Rattle.texts.specs.Lists.{find, eqList}
 use Rattle.texts.proofs.ListLaws.{drop-next}
 use Rattle.texts.proofs.ScanLaws.{find-le, lengths-differ, eqList-true}
-use Rattle.answer_reader.specs.AnswerRead.{starts, isBlank, skipBlanks, NoTag, Unclosed, Content, contentOf, between}
+use Rattle.answer_reader.specs.declared.parts.Part.{Part}
+use Rattle.answer_reader.specs.AnswerRead.{starts, isBlank, skipBlanks, NoTag, Unclosed, Content, contentOf, between, elementAt, nameOf}
+use Rattle.answer_reader.specs.AnswerParts.{tagSize}
 
 module _ (s : List ℕ) (at : ℕ) where
   pub rest-is : at < length s → take (length s - at) (drop at s) ≡ drop at s
@@ -59,35 +62,80 @@ module _ (s : List ℕ) (at : ℕ) where
         let cut = simp (length-take, length-drop) at size in
         omega arith
 
+-- ---- the size of a tag that stands at `at`
+module _ (tag s : List ℕ) (at n : ℕ) where
+  pub size-is : (t : Bool) → t ≡ starts tag (drop at s) → t ≡ true → n ≡ length tag → n ≡ tagSize tag (drop at s)
+  unfolding tagSize
+  size-is t is y e = rw (← is, y) e
+
+  pub size-none : (t : Bool) → t ≡ starts tag (drop at s) → t ≡ false → n ≡ 0 → n ≡ tagSize tag (drop at s)
+  unfolding tagSize
+  size-none t is y e = rw (← is, y) e
+
+  module _ (is : n ≡ tagSize tag (drop at s)) (some : n ≡ 0 → ⊥) where
+    stands : (starts tag (drop at s) ≡ true) × (n ≡ length tag)
+    unfolding tagSize
+    stands = go (starts tag (drop at s)) refl is
+      where
+        go : (b : Bool) → starts tag (drop at s) ≡ b → n ≡ cond b (length tag) 0 → (starts tag (drop at s) ≡ true) × (n ≡ length tag)
+        go true e q = (e, q)
+        go false e q = absurd (some q)
+
+    stands-fits : length s < 2 ^ 64 → Fits w64 at → Fits w64 (at + n)
+    stands-fits l f = rw (stands .1) (tag-fits s at tag _ refl (stands .0) l f)
+
+-- a tag has bytes
+lacks : (b : ℕ) (tag s : List ℕ) → 0 ≡ tagSize (b ∷ tag) s → starts (b ∷ tag) s ≡ false
+unfolding tagSize
+lacks b tag s = go (starts (b ∷ tag) s)
+  where
+    go : (t : Bool) → 0 ≡ cond t (suc (length tag)) 0 → t ≡ false
+    go true e = absurd (omega arith)
+    go false e = refl
+
+-- ---- an arm of a match
+module _ (k l : Part) (same : k ≡ l) (s : List ℕ) (at n : ℕ) where
+  pub opener-as : n ≡ tagSize (opening (nameOf l)) (drop at s) → n ≡ tagSize (opening (nameOf k)) (drop at s)
+  opener-as q = rw same q
+
+  pub closer-as : n ≡ tagSize (closing (nameOf l)) (drop at s) → n ≡ tagSize (closing (nameOf k)) (drop at s)
+  closer-as q = rw same q
+
 -- ---- an element at `at`
-module _ (s : List ℕ) (at : ℕ) (opener closer : List ℕ) (t : Bool) (is : t ≡ starts opener (drop at s)) where
-  pub found-none : t ≡ false → NoTag ≡ between opener closer (drop at s)
+module _ (s : List ℕ) (at : ℕ) (name : List ℕ) (n : ℕ) (is : n ≡ tagSize (opening name) (drop at s)) where
+  pub found-none : n ≡ 0 → NoTag ≡ elementAt name (drop at s)
   unfolding between
-  found-none n = rw (← is, n)
+  found-none h = rw (lacks 60 _ (drop at s) (sym h ∙ is))
 
-  module _ (yes : t ≡ true) (u : List ℕ) (z : ℕ) (eu : u ≡ drop (at + length opener) s) (ez : z ≡ find 60 u) where
-    pub size-fits : length s < 2 ^ 64 → Fits w64 (at + length opener) → Fits w64 (at + length opener + z)
-    size-fits l f =
-        let m : z ≤ length u = rw ez (find-le 60 u) in
-        let k : length u ≡ length s - (at + length opener) = rw (eu, length-drop) in
-        omega arith
+  module _ (some : n ≡ 0 → ⊥) where
+    pub opener-fits : length s < 2 ^ 64 → Fits w64 at → Fits w64 (at + n)
+    opener-fits = stands-fits (opening name) s at n is some
 
-    module _ (v : Bool) (ev : v ≡ starts closer (drop (at + length opener + z) s)) where
-      pub close-fits : v ≡ true → length s < 2 ^ 64 → Fits w64 at → Fits w64 (at + length opener + z + length closer)
-      close-fits y l f = tag-fits s _ closer v ev y l (size-fits l (tag-fits s at opener t is yes l f))
+    module _ (u : List ℕ) (z : ℕ) (eu : u ≡ drop (at + n) s) (ez : z ≡ find 60 u) where
+      pub size-fits : length s < 2 ^ 64 → Fits w64 (at + n) → Fits w64 (at + n + z)
+      size-fits l f =
+          let m : z ≤ length u = rw ez (find-le 60 u) in
+          let k : length u ≡ length s - (at + n) = rw (eu, length-drop) in
+          omega arith
 
-      left : between opener closer (drop at s) ≡ contentOf closer (drop (at + length opener) s)
-      unfolding between
-      left = rw (← is, yes, drop-drop)
+      module _ (m : ℕ) (im : m ≡ tagSize (closing name) (drop (at + n + z) s)) where
+        pub close-fits : (m ≡ 0 → ⊥) → length s < 2 ^ 64 → Fits w64 at → Fits w64 (at + n + z + m)
+        close-fits h l f = stands-fits (closing name) s _ m im h l (size-fits l (opener-fits l f))
 
-      place : find 60 (drop (at + length opener) s) ≡ z
-      place = rw (← eu, ← ez)
+        left : elementAt name (drop at s) ≡ contentOf (closing name) (drop (at + n) s)
+        unfolding between
+        left = let w = stands (opening name) s at n is some in rw (w .0, drop-drop, w .1)
 
-      pub found-broken : v ≡ false → Unclosed ≡ between opener closer (drop at s)
-      unfolding contentOf
-      found-broken n = sym (left ∙ rw (place, drop-drop z (at + length opener) s, ← ev, n))
+        place : find 60 (drop (at + n) s) ≡ z
+        place = rw (← eu, ← ez)
 
-      pub found-held : v ≡ true → (next : ℕ) → drop next s ≡ skipBlanks (drop (at + length opener + z + length closer) s)
-          → Content (take z (drop (at + length opener) s)) (drop next s) ≡ between opener closer (drop at s)
-      unfolding contentOf
-      found-held y next en = sym (left ∙ rw (place, drop-drop z (at + length opener) s, ← ev, y) (rw (drop-drop, ← add-assoc, en)))
+        pub found-broken : m ≡ 0 → Unclosed ≡ elementAt name (drop at s)
+        unfolding contentOf
+        found-broken h = sym (left ∙ rw (place, drop-drop z (at + n) s, lacks 60 _ (drop (at + n + z) s) (sym h ∙ im)))
+
+        pub found-held : (m ≡ 0 → ⊥) → (next : ℕ) → drop next s ≡ skipBlanks (drop (at + n + z + m) s)
+            → Content (take z (drop (at + n) s)) (drop next s) ≡ elementAt name (drop at s)
+        unfolding contentOf
+        found-held h next e =
+            let w = stands (closing name) s (at + n + z) m im h in
+            sym (left ∙ rw (place, drop-drop z (at + n) s, w .0) (rw (drop-drop, ← w .1, ← add-assoc, e)))

@@ -19,13 +19,17 @@ use Rattle.answer_reader.specs.declared.parts.Step.{Step}
 use Rattle.answer_reader.specs.declared.tags.Element.{Element}
 use Rattle.answer_reader.specs.declared.tags.Element.the-variants.{Absent, Broken, Held}
 use Rattle.answer_reader.specs.declared.answer.AnswerRead.{AnswerRead}
-use Rattle.answer_reader.specs.AnswerRead.{Found, NoTag, Unclosed, Content, withCode, withAuthcode, withDate, unreadable, good, Reading, Unreadable, SoFar, tagStep, partFound, partStep}
+use Rattle.answer_reader.specs.AnswerRead.{starts, Found, NoTag, Unclosed, Content, withCode, withAuthcode, withDate, unreadable, good, Reading, Unreadable, SoFar, tagStep, partFound, partStep}
 
 -- an element by its places in the text s
 abbrev pub foundOf : List ℕ → Element → Found
 foundOf s Absent = NoTag
 foundOf s Broken = Unclosed
 foundOf s (Held from size next) = Content (take size (drop from s)) (drop next s)
+
+-- how many bytes a tag has with which a text begins; 0 where it does not
+unfoldable pub tagSize : List ℕ → List ℕ → ℕ
+tagSize tag s = cond (starts tag s) (length tag) 0
 
 -- ---- what an element gives
 abbrev pub noStep : Step

@@ -110,12 +110,12 @@ fn read_more(a: Action, code: u64, s: &[u8], at: usize) -> Parts
     if !parts::takes_more(a) {
         return code_alone(code, at);
     }
-    let e = tags::element_at(s, at, b"<authcode>", b"</authcode>");
+    let e = tags::element_at(s, at, Part::Authcode);
     let n = take_part(Part::Authcode, a, code, s, at, e);
     if !n.ok {
         return no_parts();
     }
-    let f = tags::element_at(s, n.at, b"<date>", b"</date>");
+    let f = tags::element_at(s, n.at, Part::Date);
     let d = take_part(Part::Date, a, code, s, n.at, f);
     Parts {
         ok: d.ok,
@@ -132,7 +132,7 @@ fn read_more(a: Action, code: u64, s: &[u8], at: usize) -> Parts
 fn read_parts(a: Action, s: &[u8], at: usize) -> Parts
     ensures { λ r. ⌜ partsOf (now (s .entry)) r ≡ partsStep a (SoFar emptyAnswer (drop at (now (s .entry)))) ⌝ }
 {
-    let e = tags::element_at(s, at, b"<code>", b"</code>");
+    let e = tags::element_at(s, at, Part::Code);
     let c = take_part(Part::Code, a, 0, s, at, e);
     if !c.ok {
         return no_parts();
@@ -141,7 +141,7 @@ fn read_parts(a: Action, s: &[u8], at: usize) -> Parts
     if !p.ok {
         return no_parts();
     }
-    let f = tags::element_at(s, p.at, b"<message>", b"</message>");
+    let f = tags::element_at(s, p.at, Part::Message);
     let m = take_part(Part::Message, a, p.code, s, p.at, f);
     p.ok = m.ok;
     p.at = m.at;

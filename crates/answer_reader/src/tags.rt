@@ -1,9 +1,11 @@
 // Tags, blanks and elements in the text of an answer.
+use crate::parts::Part;
 use texts::scan;
 ghost use mathlib.Core.Path.{_≡_};
 ghost use lib.ListN.{drop};
-ghost use Rattle.answer_reader.specs.AnswerRead.{starts, isBlank, skipBlanks, between};
-ghost use Rattle.answer_reader.specs.AnswerParts.{foundOf};
+ghost use Rattle.answers.specs.Answer.{opening, closing};
+ghost use Rattle.answer_reader.specs.AnswerRead.{starts, isBlank, skipBlanks, elementAt, nameOf};
+ghost use Rattle.answer_reader.specs.AnswerParts.{foundOf, tagSize};
 
 // What stands at a place: no such element, one that is not closed as it should, or its content (from and size) and where the text goes on.
 pub(crate) enum Element {
@@ -61,20 +63,51 @@ pub(crate) fn skip_blanks(s: &[u8], at: usize) -> usize
     i
 }
 
-// The element that stands at a place, from its opening tag and its closing one.
-pub(crate) fn element_at(s: &[u8], at: usize, opener: &[u8], closer: &[u8]) -> Element
-    ensures { λ r. ⌜ foundOf (now (s .entry)) r ≡ between (now (opener .entry)) (now (closer .entry)) (drop at (now (s .entry))) ⌝ }
+// How many bytes a tag has that stands at a place; 0 where it does not.
+fn size_at(s: &[u8], at: usize, tag: &[u8]) -> usize
+    ensures { λ r. ⌜ r ≡ tagSize (now (tag .entry)) (drop at (now (s .entry))) ⌝ }
 {
-    if starts_at(s, at, opener) {
-        let from = at + opener.len();
-        let size = scan::find_byte(rest(s, from), b'<');
-        let to = from + size;
-        if starts_at(s, to, closer) {
-            Element::Held(from, size, skip_blanks(s, to + closer.len()))
-        } else {
-            Element::Broken
-        }
-    } else {
-        Element::Absent
+    if starts_at(s, at, tag) { tag.len() } else { 0 }
+}
+
+// The same of an element's opening tag. The tags are written out, so that the compiler knows their bytes.
+fn opener_at(k: Part, s: &[u8], at: usize) -> usize
+    ensures { λ r. ⌜ r ≡ tagSize (opening (nameOf k)) (drop at (now (s .entry))) ⌝ }
+{
+    match k {
+        Part::Code => size_at(s, at, b"<code>"),
+        Part::Authcode => size_at(s, at, b"<authcode>"),
+        Part::Date => size_at(s, at, b"<date>"),
+        Part::Message => size_at(s, at, b"<message>"),
     }
+}
+
+// And of its closing tag.
+fn closer_at(k: Part, s: &[u8], at: usize) -> usize
+    ensures { λ r. ⌜ r ≡ tagSize (closing (nameOf k)) (drop at (now (s .entry))) ⌝ }
+{
+    match k {
+        Part::Code => size_at(s, at, b"</code>"),
+        Part::Authcode => size_at(s, at, b"</authcode>"),
+        Part::Date => size_at(s, at, b"</date>"),
+        Part::Message => size_at(s, at, b"</message>"),
+    }
+}
+
+// The element that stands at a place.
+pub(crate) fn element_at(s: &[u8], at: usize, k: Part) -> Element
+    ensures { λ r. ⌜ foundOf (now (s .entry)) r ≡ elementAt (nameOf k) (drop at (now (s .entry))) ⌝ }
+{
+    let opener = opener_at(k, s, at);
+    if opener == 0 {
+        return Element::Absent;
+    }
+    let from = at + opener;
+    let size = scan::find_byte(rest(s, from), b'<');
+    let to = from + size;
+    let closer = closer_at(k, s, to);
+    if closer == 0 {
+        return Element::Broken;
+    }
+    Element::Held(from, size, skip_blanks(s, to + closer))
 }

@@ -20,7 +20,7 @@ use Rattle.texts.proofs.ListLaws.{drop-next, every-append, every-weaker}
 use Rattle.texts.proofs.OutLaws.{cursor-stays, buffer-stays, cursor-then, written-then}
 use Rattle.texts.proofs.ScanLaws.{find-le}
 use Rattle.texts.proofs.DigitLaws.{digits-held, digits-below, within-high}
-use Rattle.texts.proofs.DecimalLaws.{skip-le, part-decimal, decimal-size, digits-again, fixed-again, fixed-length, fixed-digits, decimal-digits, decimal-most, find-point}
+use Rattle.texts.proofs.DecimalLaws.{size-le, skip-le, part-decimal, decimal-size, digits-again, fixed-again, fixed-length, fixed-digits, decimal-digits, decimal-most, find-point}
 
 module _ (f : List ℕ) (r : Digits) (read : r ≡ digitsRead 2 f) where
   pub one-digit : (v : ℕ) → r ≡ Value v → length f ≡ 1 → Value (v * 10) ≡ kopecksAfter f
@@ -110,6 +110,9 @@ module _ (k z : ℕ) (a : List ℕ) (ea : a ≡ fixed 20 (k / 100)) (ez : z ≡ 
 
   pub skip-low : z ≤ 23
   skip-low = omega (arith, skip-le (k / 100) z a ea ez)
+
+  pub whole-size : 20 ≤ length a
+  whole-size = size-le (k / 100) z a ea ez
 
   pub skip-all : z ≤ 20
   skip-all = skip-le (k / 100) z a ea ez

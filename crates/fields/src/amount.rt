@@ -69,8 +69,9 @@ pub fn read_amount(s: &[u8]) -> Digits
 pub fn write_amount(kopecks: u64, dst: &mut [u8], at: usize) -> usize
     ensures { λ r. ⌜ (r ≡ cursorAfter (now (dst .entry)) at (amountBytes kopecks)) × (now (dst .exit) ≡ written (now (dst .entry)) at (amountBytes kopecks)) ⌝ }
 {
-    let a = digits::twenty(kopecks / 100);
-    let z = digits::leading_zeros(&a);
+    let x = digits::twenty(kopecks / 100);
+    let a = x.digits;
+    let z = x.zeros;
     if dst.len() < at {
         return at;
     }

@@ -4,10 +4,10 @@ use native.Mathlib.Numerals.{sub-one}
 use native.Mathlib.Nat.{le-refl, le-trans, not-suc-le-zero, pow-suc, pow-le-pow-right, not-le-of-lt, lt-of-not-le, mul-le-mul-right}
 use native.Mathlib.Omega.{arith}
 use mathlib.Core.Path.{_≡_, refl, sym, ap, _∙_}
-use mathlib.Core.List.{List, [], _∷_, _++_, append-assoc}
+use mathlib.Core.List.{List, [], _∷_, _++_, append-assoc, append-nil}
 use mathlib.Core.Bool.{Bool, true, false, cond}
-use lib.ListN.{length, set, take, drop, replicate, length-append, length-take, length-drop}
-use lib.Seq.{take-all}
+use lib.ListN.{length, getD, set, take, drop, replicate, length-append, length-take, length-drop, length-set}
+use lib.Seq.{take-all, getD-set-same}
 use lib.Dec.{eqb, leb, lit<}
 use borrow.Author.Tests.{le-leb, lt-ltb, eqb-true, eqb-false, leb-true}
 use Rattle.texts.specs.declared.digits.Digits.the-variants.{Value}
@@ -15,6 +15,7 @@ use Rattle.texts.specs.Lists.{every, find, written, cursorAfter}
 use Rattle.texts.specs.Digits.{isDigit, valueAfter, digitsRead, within, rangeRead, leadZeros, dropZeros, fixed, decimal}
 use Rattle.texts.proofs.ListLaws.{drop-stored}
 use Rattle.texts.proofs.FindLaws.{find-behind}
+use Rattle.texts.proofs.DigitLaws.{fixed-step, made-zeros}
 use Rattle.texts.proofs.Tests.{and-left, and-right, and-then, cond-le}
 
 value-snoc : (v b : ℕ) (s : List ℕ) → valueAfter v (s ++ (b ∷ [])) ≡ valueAfter v s * 10 + (b - 48)
@@ -129,6 +130,9 @@ module _ (n z : ℕ) (a : List ℕ) (ea : a ≡ fixed 20 n) (ez : z ≡ leadZero
   size : length a ≡ 20
   size = rw ea (fixed-length 20 n)
 
+  pub size-le : 20 ≤ length a
+  size-le = omega (arith, size)
+
   pub skip-le : z ≤ 20
   skip-le = omega (arith, lead-le a, size)
 
@@ -169,7 +173,7 @@ set-behind [] y x r = refl
 set-behind (z ∷ p) y x r = ap (z ∷_) (set-behind p y x r)
 
 module _ (a : List ℕ) where
-  pub zeros-step : (w i x : ℕ) → length a ≡ w → 0 < i → i ≤ w → a ≡ fixed i 0 ++ drop i a → set a (i - 1) x ≡ fixed (i - 1) 0 ++ drop (i - 1) (set a (i - 1) x)
+  zeros-step : (w i x : ℕ) → length a ≡ w → 0 < i → i ≤ w → a ≡ fixed i 0 ++ drop i a → set a (i - 1) x ≡ fixed (i - 1) 0 ++ drop (i - 1) (set a (i - 1) x)
   unfolding fixed
   zeros-step w zero x size p h e = absurd (not-suc-le-zero p)
   zeros-step w (suc j) x size p h e =
@@ -178,9 +182,71 @@ module _ (a : List ℕ) where
       ap (λ (k : ℕ). set (fixed j 0 ++ (48 ∷ drop (suc j) a)) k x) (sym (fixed-length j 0)) ∙ set-behind (fixed j 0) 48 x (drop (suc j) a) in
       simp sub-one (ap (λ (l : List ℕ). set l j x) z ∙ there ∙ ap (fixed j 0 ++_) (sym (drop-stored a j x (omega arith))))
 
-  pub zeros-done : (w n m i : ℕ) → m ≡ 0 → a ≡ fixed i 0 ++ drop i a → fixed w n ≡ fixed i m ++ drop i a → a ≡ fixed w n
+  zeros-done : (w n m i : ℕ) → m ≡ 0 → a ≡ fixed i 0 ++ drop i a → fixed w n ≡ fixed i m ++ drop i a → a ≡ fixed w n
   zeros-done w n m i z e q = e ∙ ap (λ (k : ℕ). fixed i k ++ drop i a) (sym z) ∙ sym q
 
-pub zeros-start : replicate 20 48 ≡ fixed 20 0 ++ drop 20 (replicate 20 48)
+zeros-start : replicate 20 48 ≡ fixed 20 0 ++ drop 20 (replicate 20 48)
 unfolding fixed
 zeros-start = refl
+
+-- the digits from i on are made, and m is what is left of the number: the first of them is no zero, or the last of all, once nothing is left
+pub record Made (n : ℕ) (a : List ℕ) (m i : ℕ) : Type 0 where
+  pub inside : i < 20
+  pub size : length a ≡ 20
+  pub digits : fixed 20 n ≡ fixed i m ++ drop i a
+  pub zeros : a ≡ fixed i 0 ++ drop i a
+  pub below : m < 10 ^ i
+  pub some : i + 1 < 20 → 0 < m * 10 + (getD a i 0 - 48)
+
+pub made-start : (n : ℕ) → n < 2 ^ 64 → Made n (set (replicate 20 48) 19 (48 + n % 10)) (n / 10) 19
+made-start n h =
+    record {
+      inside = omega arith;
+      size = refl;
+      digits = fixed-step 20 n n (replicate 20 48) refl 20 (omega arith) (le-refl 20) (sym (append-nil (fixed 20 n)));
+      zeros = zeros-step (replicate 20 48) 20 20 (48 + n % 10) refl (omega arith) (le-refl 20) zeros-start;
+      below = omega arith;
+      some = λ l. absurd (omega arith);
+    }
+
+module _ (n : ℕ) (a : List ℕ) (m i : ℕ) (y : Made n a m i) where
+  below-step : 0 < i → m / 10 < 10 ^ (i - 1)
+  below-step p = go i p (y .below)
+    where
+      go : (i : ℕ) → 0 < i → m < 10 ^ i → m / 10 < 10 ^ (i - 1)
+      go zero p h = absurd (not-suc-le-zero p)
+      go (suc j) p h = let k : m < 10 ^ j * 10 = rw pow-suc at h in simp sub-one (omega arith)
+
+  -- while something is left, there is a place for its digit
+  pub place-left : 0 < m → 0 < i
+  place-left h = go i (y .below)
+    where
+      go : (i : ℕ) → m < 10 ^ i → 0 < i
+      go zero b = absurd (omega arith)
+      go (suc j) b = omega arith
+
+  pub place-falls : 0 < m → i - 1 < i
+  place-falls h = omega (arith, place-left h)
+
+  pub made-step : 0 < m → Made n (set a (i - 1) (48 + m % 10)) (m / 10) (i - 1)
+  made-step left =
+      let p : 0 < i = place-left left in
+      let l : i - 1 < length a = omega (arith, y .inside, y .size) in
+      record {
+        inside = omega (arith, y .inside);
+        size = length-set a (i - 1) (48 + m % 10) ∙ y .size;
+        digits = fixed-step 20 n m a (y .size) i p (omega (arith, y .inside)) (y .digits);
+        zeros = zeros-step a 20 i (48 + m % 10) (y .size) p (omega (arith, y .inside)) (y .zeros);
+        below = below-step p;
+        some = λ _. rw (getD-set-same a (i - 1) (48 + m % 10) 0 l) (omega arith);
+      }
+
+  module _ (none : m ≤ 0) where
+    nothing : m ≡ 0
+    nothing = omega arith
+
+    pub digits-made : a ≡ fixed 20 n
+    digits-made = zeros-done a 20 n m i nothing (y .zeros) (y .digits)
+
+    pub zeros-made : i ≡ leadZeros a
+    zeros-made = made-zeros 20 i m a (y .size) (y .inside) (y .zeros) nothing (y .some)

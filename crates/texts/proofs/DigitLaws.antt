@@ -107,22 +107,25 @@ lead-other : (x : ℕ) (t : List ℕ) → (x ≡ 48 → ⊥) → leadZeros (x �
 lead-other x [] n = refl
 lead-other x (y ∷ t) n = simp (ne-eqb _ _ n)
 
-module _ (s : List ℕ) (i : ℕ) (passed : leadZeros s ≡ i + leadZeros (drop i s)) where
-  pub pass-zero : i + 1 < length s → getD s i 0 ≡ 48 → leadZeros s ≡ i + 1 + leadZeros (drop (i + 1) s)
-  pass-zero h e =
-      let l : 0 < length (drop (i + 1) s) = simp length-drop (omega arith) in
-      let z : leadZeros (drop i s) ≡ suc (leadZeros (drop (i + 1) s)) = rw (drop-next s i (omega arith)) (lead-zero (getD s i 0) (drop (i + 1) s) e l) in
-      omega arith
+lead-behind : (k : ℕ) (t : List ℕ) → 0 < length t → leadZeros (fixed k 0 ++ t) ≡ k + leadZeros t
+unfolding fixed
+lead-behind zero t h = omega arith
+lead-behind (suc k) t h =
+    ap leadZeros (append-assoc (fixed k 0) (48 ∷ []) t) ∙ lead-behind k (48 ∷ t) (omega arith) ∙ ap (λ (z : ℕ). k + z) (lead-zero 48 t refl h) ∙ omega arith
 
-  pub stop-other : i + 1 < length s → (getD s i 0 ≡ 48 → ⊥) → i ≡ leadZeros s
-  stop-other h n =
-      let z : leadZeros (drop i s) ≡ 0 = rw (drop-next s i (omega arith)) (lead-other (getD s i 0) (drop (i + 1) s) n) in
-      omega arith
-
-  pub stop-end : length s ≤ i + 1 → i ≡ leadZeros s
-  stop-end h =
-      let z : leadZeros (drop i s) ≡ 0 = lead-short (drop i s) (simp length-drop (omega arith)) in
-      omega arith
+-- the digits from i on are made, the first of them no zero, or the last of all
+pub made-zeros : (w i m : ℕ) (a : List ℕ) → length a ≡ w → i < w → a ≡ fixed i 0 ++ drop i a → m ≡ 0 → (i + 1 < w → 0 < m * 10 + (getD a i 0 - 48)) → i ≡ leadZeros a
+made-zeros w i m a size h e z some =
+    let l : 0 < length (drop i a) = simp length-drop (omega arith) in
+    let p : leadZeros a ≡ i + leadZeros (drop i a) = ap leadZeros e ∙ lead-behind i (drop i a) l in
+    let q : leadZeros (drop i a) ≡ 0 = go (ltb (i + 1) w) refl in
+    omega arith
+  where
+    go : (b : Bool) → ltb (i + 1) w ≡ b → leadZeros (drop i a) ≡ 0
+    go true b =
+        let n : (getD a i 0 ≡ 48 → ⊥) = λ y. omega (arith, some (ltb-true (i + 1) w b)) in
+        rw (drop-next a i (omega arith)) (lead-other (getD a i 0) (drop (i + 1) a) n)
+    go false b = lead-short (drop i a) (simp length-drop (omega (arith, ltb-false (i + 1) w b)))
 
 -- ---- the digits of a number, over the width w
 module _ (w n m : ℕ) (a : List ℕ) (size : length a ≡ w) where

@@ -77,43 +77,37 @@ pub fn read_range(s: &[u8], most: usize, low: u64, high: u64) -> Digits
     }
 }
 
-// The twenty digits of a number, with leading zeros; those are there from the start.
-pub fn twenty(n: u64) -> [u8; 20]
-    ensures { λ r. ⌜ r ≡ fixed 20 n ⌝ }
+// The twenty digits of a number, and how many zeros lead, at least one digit kept.
+pub struct TwentyDigits {
+    pub digits: [u8; 20],
+    pub zeros: usize,
+}
+
+// Zeros are there from the start: the digits are made from the last on, until none is left.
+pub fn twenty(n: u64) -> TwentyDigits
+    ensures { λ r. ⌜ (r .digits ≡ fixed 20 n) × (r .zeros ≡ leadZeros (r .digits)) ⌝ }
 {
     let mut a = [48u8; 20];
-    let mut m = n;
-    let mut i: usize = 20;
-    while 0 < i {
-        if m == 0 {
-            return a;
-        }
+    a[19] = b'0' + (n % 10) as u8;
+    let mut m = n / 10;
+    let mut i: usize = 19;
+    while 0 < m {
         i -= 1;
         a[i] = b'0' + (m % 10) as u8;
         m = m / 10;
     }
-    a
-}
-
-// How many zeros lead, at least one digit kept.
-pub fn leading_zeros(s: &[u8]) -> usize
-    ensures { λ r. ⌜ r ≡ leadZeros (now (s .entry)) ⌝ }
-{
-    let mut i: usize = 0;
-    while i + 1 < s.len() {
-        if s[i] != b'0' {
-            return i;
-        }
-        i += 1;
+    TwentyDigits {
+        digits: a,
+        zeros: i,
     }
-    i
 }
 
 // Writes a number without leading zeros at the cursor, where it has room.
 pub fn write_digits(n: u64, dst: &mut [u8], at: usize) -> usize
     ensures { λ r. ⌜ (r ≡ cursorAfter (now (dst .entry)) at (decimal n)) × (now (dst .exit) ≡ written (now (dst .entry)) at (decimal n)) ⌝ }
 {
-    let a = twenty(n);
-    let z = leading_zeros(&a);
+    let x = twenty(n);
+    let a = x.digits;
+    let z = x.zeros;
     out::put_bytes(&a[z..], dst, at)
 }

@@ -9,16 +9,12 @@ pub read-parts-spec : {M : Type 1} → statement M
 read-parts-spec =
     tie.close
     (tie.spec
-    (λ c. search laws)
-    (λ c. search laws)
     (λ c κs. search laws)
     (λ c κs. search laws)
     (λ c κs. search laws)
     (λ c. search laws)
     (λ c κs. search laws)
     (λ c κs. search laws)
-    (λ c. search laws)
-    (λ c. search laws)
     (λ c. search laws)
     (λ c κs. search laws)
     (λ c κs. search laws)
