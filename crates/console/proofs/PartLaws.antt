@@ -220,20 +220,19 @@ module _ (t : Rows) (input out : List ℕ) where
     pub feed-room : 64 * length input ≤ length out
     feed-room = omega arith
 
-    module _ (x : Console) (h : Held) (ex : x ≡ newConsole) (eh : h ≡ newHeld) (y : Console) (k : Held) (t₁ : Rows) (o₁ : List ℕ) (n₁ : ℕ)
-        (fed₁ : _≡_ {A = Part} (record { console = y; held = k; rows = t₁; out = o₁; size = n₁ }) (feedPart x h t input out)) where
+    module _ (x : Console) (h : Held) (ex : x ≡ newConsole) (eh : h ≡ newHeld) (p : Part) (fed₁ : p ≡ feedPart x h t input out) where
       abbrev all : Fed
       all = fed (newFed t) input
 
-      first : _≡_ {A = Part} (record { console = y; held = k; rows = t₁; out = o₁; size = n₁ }) (printedAt out 0 all)
+      first : p ≡ printedAt out 0 all
       unfolding feedPart
       first = fed₁ ∙ ap (λ (c : Console). feedPart c h t input out) ex ∙ ap (λ (l : Held). feedPart newConsole l t input out) eh
 
-      shown : o₁ ≡ over out 0 (all .text)
-      shown = ap (λ (p : Part). p .out) first
+      shown : p .out ≡ over out 0 (all .text)
+      shown = ap (λ (x : Part). x .out) first
 
-      size : n₁ ≡ length (all .text)
-      size = ap (λ (p : Part). p .size) first ∙ zero-add (length (all .text))
+      size : p .size ≡ length (all .text)
+      size = ap (λ (x : Part). x .size) first ∙ zero-add (length (all .text))
 
       few : length (all .text) ≤ 64 * length input
       few =
@@ -243,25 +242,24 @@ module _ (t : Rows) (input out : List ℕ) where
       fit : 0 + length (all .text) ≤ length out
       fit = omega (arith, few)
 
-      pub last-room : n₁ + 64 ≤ length o₁
+      pub last-room : p .size + 64 ≤ length (p .out)
       last-room = omega (arith, size, few, ap length shown, over-length out 0 (all .text) fit)
 
-      pub run-whole : (z : Console) (m : Held) (t₂ : Rows) (o₂ : List ℕ) (n₂ : ℕ)
-          → _≡_ {A = Part} (record { console = z; held = m; rows = t₂; out = o₂; size = n₂ }) (lastPart y k t₁ o₁ n₁)
-          → _≡_ {A = Run} (record { ok = true; rows = t₂; out = o₂; size = n₂ }) (runAll t input out)
+      pub run-whole : (q : Part) → q ≡ lastPart (p .console) (p .held) (p .rows) (p .out) (p .size)
+          → _≡_ {A = Run} (record { ok = true; rows = q .rows; out = q .out; size = q .size }) (runAll t input out)
       unfolding runAll lastPart
-      run-whole z m t₂ o₂ n₂ e =
-          let rest : Fed = finished (before y k t₁) in
-          let same : before (all .console) (all .held) (all .rows) ≡ before y k t₁
-          = ap (λ (p : Part). before (p .console) (p .held) (p .rows)) (sym first) in
+      run-whole q e =
+          let rest : Fed = finished (before (p .console) (p .held) (p .rows)) in
+          let same : before (all .console) (all .held) (all .rows) ≡ before (p .console) (p .held) (p .rows)
+          = ap (λ (x : Part). before (x .console) (x .held) (x .rows)) (sym first) in
           let whole : sessionText t input ≡ all .text ++ rest .text
           = sym (session-fed t input) ∙ finished-front all ∙ ap (λ (f : Fed). all .text ++ (finished f) .text) same in
-          let rows : (finished all) .rows ≡ t₂ = finished-rows all ∙ ap (λ (f : Fed). (finished f) .rows) same ∙ ap (λ (p : Part). p .rows) (sym e) in
-          let text : o₂ ≡ over out 0 (all .text ++ rest .text)
-          = ap (λ (p : Part). p .out) e ∙ ap (λ (q : List ℕ). over q n₁ (rest .text)) shown
+          let rows : (finished all) .rows ≡ q .rows = finished-rows all ∙ ap (λ (f : Fed). (finished f) .rows) same ∙ ap (λ (x : Part). x .rows) (sym e) in
+          let text : q .out ≡ over out 0 (all .text ++ rest .text)
+          = ap (λ (x : Part). x .out) e ∙ ap (λ (r : List ℕ). over r (p .size) (rest .text)) shown
           ∙ ap (λ (i : ℕ). over (over out 0 (all .text)) i (rest .text)) (size ∙ sym (zero-add (length (all .text))))
           ∙ over-over out 0 (all .text) fit (rest .text) in
-          let long : n₂ ≡ length (all .text ++ rest .text)
-          = ap (λ (p : Part). p .size) e ∙ ap (λ (i : ℕ). i + length (rest .text)) size ∙ sym (length-append (all .text) (rest .text)) in
+          let long : q .size ≡ length (all .text ++ rest .text)
+          = ap (λ (x : Part). x .size) e ∙ ap (λ (i : ℕ). i + length (rest .text)) size ∙ sym (length-append (all .text) (rest .text)) in
           let enough : 64 * (length input + 1) ≤ length out = omega arith in
           rw (le-leb _ _ enough, whole, rows, ← text, ← long)

@@ -57,8 +57,7 @@ pub(crate) fn end_line(
     let line = scan::first_bytes(bytes, m.len);
     let r = turn::line_turn(nums, numbers, dates, names, keys, balances, x, line);
     let console = r.console;
-    let head = console.head;
-    let size = print::write_turn(r.code, balances, head, out, at);
+    let size = print::write_turn(r.code, balances, console.head, out, at);
     Printed { console, size }
 }
 
@@ -196,8 +195,6 @@ pub fn run_session(
         input,
         out,
     );
-    let console = s.console;
-    let mark = s.mark;
     let last = finish(
         nums,
         numbers,
@@ -206,8 +203,8 @@ pub fn run_session(
         &mut keys,
         &mut balances,
         &bytes,
-        console,
-        mark,
+        s.console,
+        s.mark,
         out,
         s.size,
     );

@@ -57,7 +57,7 @@ fn answer_read(
         ≡ respond (gateOf head (columnsBefore names keys balances)) (before nums numbers dates) clock (q .fault) (instructionOf (q .asked)) (now (out .entry)) ⌝ }
 {
     let asked = q.asked;
-    let instruction = instruction_of(asked);
+    let a = asked.action;
     let x = change::execute(
         nums,
         numbers,
@@ -68,16 +68,13 @@ fn answer_read(
         head,
         clock,
         q.fault,
-        instruction,
+        instruction_of(asked),
     );
-    let a = asked.action;
-    let code = x.code;
-    let subject = x.subject;
-    let size = write::write_answer(answer::answer_of(a, code, subject, clock), out, 0);
+    let size = write::write_answer(answer::answer_of(a, x.code, x.subject, clock), out, 0);
     let mut left = head;
     left.used = x.used;
     HeadReply {
-        code,
+        code: x.code,
         head: left,
         size,
     }
@@ -160,10 +157,9 @@ pub fn deliver(
         params,
         out,
     );
-    let head = r.head;
     Reply {
         code: r.code,
-        gate: columns::pack(head, &names, &keys, &balances),
+        gate: columns::pack(r.head, &names, &keys, &balances),
         size: r.size,
     }
 }

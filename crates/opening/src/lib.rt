@@ -119,10 +119,9 @@ pub fn open_account(
         number,
         kind,
     );
-    let head = r.head;
     Reply {
         code: r.code,
-        gate: columns::pack(head, &names, &keys, &balances),
+        gate: columns::pack(r.head, &names, &keys, &balances),
         size: r.size,
     }
 }
@@ -201,10 +200,9 @@ pub fn draw_funds(
         kind,
         kopecks,
     );
-    let head = r.head;
     Reply {
         code: r.code,
-        gate: columns::pack(head, &names, &keys, &balances),
+        gate: columns::pack(r.head, &names, &keys, &balances),
         size: r.size,
     }
 }

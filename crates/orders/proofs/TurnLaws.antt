@@ -12,6 +12,7 @@ use Rattle.days.specs.declared.calendar.DayRead.the-variants.{Good, NoDate}
 use Rattle.dates.specs.declared.date.DateRead.{DateRead}
 use Rattle.texts.specs.declared.digits.Digits.{Digits}
 use Rattle.texts.specs.declared.digits.Digits.the-variants.{Value, Malformed}
+use Rattle.fields.specs.declared.number.Number.{Number}
 use Rattle.fields.specs.declared.number.NumberRead.{NumberRead}
 use Rattle.texts.specs.Digits.{digitsRead}
 use Rattle.fields.specs.Codes.{kindRead}
@@ -24,8 +25,16 @@ use Rattle.ledger.specs.declared.Reply.{Reply}
 use Rattle.opening.specs.Opening.{openAccount, drawFunds}
 use Rattle.gate.specs.Deliver.{deliver}
 use Rattle.admission.specs.Delivery.{Delivery}
-use Rattle.orders.specs.Order.{Console, Turn, unread, replied, answered, kindIn, startTurn, openTurn, drawOf, drawTurn, askTurn, orderTurn, lineTurn}
+use Rattle.orders.specs.Order.{Console, Turn, unread, replied, answered, kindIn, startTurn, openTurn, drawTurn, askTurn, orderTurn, lineTurn}
 use Rattle.line_fields.specs.LineFields.{fieldAt, fieldCount, hasLetter, paramsIn}
+
+-- ---- the account that a line names
+module _ (l f : List ℕ) where
+  pub subject-number : f ≡ fieldAt 1 l → (n : NumberRead) → n ≡ numberRead f → n .number ≡ (numberRead (fieldAt 1 l)) .number
+  subject-number ef n en = rw (en, ef)
+
+  pub subject-kind : f ≡ fieldAt 2 l → (d : Digits) → d ≡ kindRead f → (k : ℕ) → k ≡ kindIn d → k ≡ kindIn (kindRead (fieldAt 2 l))
+  subject-kind ef d ed k ek = ek ∙ rw (ed, ef)
 
 module _ (x : Console) (t : Rows) (l : List ℕ) (r : Turn) where
   -- ---- C
@@ -44,23 +53,19 @@ module _ (x : Console) (t : Rows) (l : List ℕ) (r : Turn) where
       start-good day n a e ea = e ∙ rw (ea, ← form, not-false b h, ← ef, ← ed, n)
 
   -- ---- O and D
-  module _ (a : Reply) (er : r ≡ replied t a) (n : NumberRead) (kind : ℕ) (k : Digits) (ei : kind ≡ kindIn k)
-      (f₂ : List ℕ) (ek : k ≡ kindRead f₂) (ef₂ : f₂ ≡ fieldAt 2 l) (f₁ : List ℕ) (en : n ≡ numberRead f₁) (ef₁ : f₁ ≡ fieldAt 1 l) where
-    pub open-done : a ≡ openAccount (x .gate) t (n .number) kind → r ≡ openTurn x t l
+  module _ (a : Reply) (er : r ≡ replied t a) (n : Number) (en : n ≡ (numberRead (fieldAt 1 l)) .number) (k : ℕ) (ek : k ≡ kindIn (kindRead (fieldAt 2 l))) where
+    pub open-done : a ≡ openAccount (x .gate) t n k → r ≡ openTurn x t l
     unfolding openTurn
-    open-done ea = er ∙ rw (ea, ei, ek, ef₂, en, ef₁)
+    open-done ea = er ∙ rw (ea, en, ek)
 
-    pub draw-of : (m : ℕ) → a ≡ drawFunds (x .gate) t (n .number) kind m → r ≡ drawOf x t l (Value m)
-    draw-of m ea = er ∙ rw (ea, ei, ek, ef₂, en, ef₁)
+    pub draw-done : (f : List ℕ) → f ≡ fieldAt 3 l → (d : Digits) → d ≡ digitsRead 15 f → (m : ℕ) → d ≡ Value m → a ≡ drawFunds (x .gate) t n k m → r ≡ drawTurn x t l
+    unfolding drawTurn
+    draw-done f ef d ed m h ea = er ∙ rw (ea, en, ek, ← ef, ← ed, h)
 
   module _ (f : List ℕ) (ef : f ≡ fieldAt 3 l) (d : Digits) (ed : d ≡ digitsRead 15 f) where
     pub draw-none : d ≡ Malformed → r ≡ unread x t → r ≡ drawTurn x t l
     unfolding drawTurn
     draw-none m e = e ∙ rw (← ef, ← ed, m)
-
-    pub draw-done : (m : ℕ) → d ≡ Value m → r ≡ drawOf x t l (Value m) → r ≡ drawTurn x t l
-    unfolding drawTurn
-    draw-done m em e = e ∙ rw (← ef, ← ed, em)
 
   -- ---- R
   pub ask-done : (f : List ℕ) → f ≡ fieldAt 1 l → (d : DateRead) → d ≡ dateRead f → (p : List ℕ) → p ≡ paramsIn l → (a : Delivery)

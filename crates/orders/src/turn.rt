@@ -5,23 +5,32 @@ use days::calendar;
 use days::calendar::DayRead;
 use fields::codes;
 use fields::number;
+use fields::number::Number;
 use gate::deliver;
 use ledger::HeadReply;
 use texts::digits;
 use texts::digits::Digits;
 ghost use mathlib.Core.Path.{_≡_};
 ghost use mathlib.Core.Bool.{true};
-ghost use Rattle.texts.specs.declared.digits.Digits.the-variants.{Value};
+ghost use Rattle.fields.specs.Codes.{kindRead};
+ghost use Rattle.fields.specs.Number.{numberRead};
 ghost use Rattle.table.specs.Table.{Rows};
 ghost use Rattle.table.specs.Lent.{before, after};
 ghost use Rattle.table.specs.Columns.{Columns, columnsBefore, columnsAfter, columnsMoved};
 ghost use Rattle.opening.specs.Opening.{lentReply};
-ghost use Rattle.orders.specs.Order.{consoleOf, turnOf, unread, replied, kindIn, startTurn, openTurn, drawOf, drawTurn, askTurn, orderTurn, lineTurn};
+ghost use Rattle.line_fields.specs.LineFields.{fieldAt};
+ghost use Rattle.orders.specs.Order.{consoleOf, turnOf, unread, replied, kindIn, startTurn, openTurn, drawTurn, askTurn, orderTurn, lineTurn};
 
 // A line's code, or 99, and the console after it.
 pub struct Turn {
     pub code: u64,
     pub console: ConsoleHead,
+}
+
+// The account that a line names.
+struct Subject {
+    number: Number,
+    kind: u64,
 }
 
 // A line that is not understood.
@@ -58,6 +67,16 @@ fn kind_in(d: Digits) -> u64
     }
 }
 
+// Number and type in the fields of an opening and of a draw.
+fn subject_of(line: &[u8]) -> Subject
+    ensures { λ r. ⌜ (r .number ≡ (numberRead (fieldAt 1 (now (line .entry)))) .number) × (r .kind ≡ kindIn (kindRead (fieldAt 2 (now (line .entry))))) ⌝ }
+{
+    let n = number::read_number(line_fields::field_at(line, 1));
+    let kind = kind_in(codes::read_kind(line_fields::field_at(line, 2)));
+    let number = n.number;
+    Subject { number, kind }
+}
+
 // C: a day starts the session.
 fn start_turn(x: ConsoleHead, line: &[u8]) -> Turn
     ensures { λ r. ⌜ ((a : Columns) (t : Rows) → turnOf r a t ≡ startTurn (consoleOf x a) t (now (line .entry))) ⌝ }
@@ -91,10 +110,7 @@ fn open_turn(
     ensures { λ r. ⌜ turnOf r (columnsAfter names keys balances) (before nums numbers dates)
         ≡ openTurn (consoleOf x (columnsBefore names keys balances)) (before nums numbers dates) (now (line .entry)) ⌝ }
 {
-    let n = number::read_number(line_fields::field_at(line, 1));
-    let kind = kind_in(codes::read_kind(line_fields::field_at(line, 2)));
-    let head = x.head;
-    let number = n.number;
+    let s = subject_of(line);
     answered(opening::open_lent(
         nums,
         numbers,
@@ -102,42 +118,9 @@ fn open_turn(
         names,
         keys,
         balances,
-        head,
-        number,
-        kind,
-    ))
-}
-
-// A draw of kopecks that were read.
-fn draw_of(
-    nums: &[[u64; 6]],
-    numbers: &[[u8; 30]],
-    dates: &[[[u8; 19]; 3]],
-    names: &[[u8; 30]; 256],
-    keys: &[[u64; 2]; 256],
-    balances: &mut [i64; 256],
-    x: ConsoleHead,
-    line: &[u8],
-    kopecks: u64,
-) -> Turn
-    ensures { λ r. ⌜ turnOf r (columnsMoved names keys balances) (before nums numbers dates)
-        ≡ drawOf (consoleOf x (columnsBefore names keys balances)) (before nums numbers dates) (now (line .entry)) (Value kopecks) ⌝ }
-{
-    let n = number::read_number(line_fields::field_at(line, 1));
-    let kind = kind_in(codes::read_kind(line_fields::field_at(line, 2)));
-    let head = x.head;
-    let number = n.number;
-    answered(opening::draw_lent(
-        nums,
-        numbers,
-        dates,
-        names,
-        keys,
-        balances,
-        head,
-        number,
-        kind,
-        kopecks,
+        x.head,
+        s.number,
+        s.kind,
     ))
 }
 
@@ -158,17 +141,19 @@ fn draw_turn(
     let Digits::Value(kopecks) = digits::read_digits(line_fields::field_at(line, 3), 15) else {
         return not_read(x);
     };
-    draw_of(
+    let s = subject_of(line);
+    answered(opening::draw_lent(
         nums,
         numbers,
         dates,
         names,
         keys,
         balances,
-        x,
-        line,
+        x.head,
+        s.number,
+        s.kind,
         kopecks,
-    )
+    ))
 }
 
 // R: a request; its answer is not shown.
@@ -188,7 +173,6 @@ fn ask_turn(
     let mut out = [0u8; 512];
     let d = date::read_date(line_fields::field_at(line, 1));
     let params = line_fields::params_in(line);
-    let head = x.head;
     let clock = d.date;
     answered(deliver::deliver_lent(
         nums,
@@ -197,7 +181,7 @@ fn ask_turn(
         names,
         keys,
         balances,
-        head,
+        x.head,
         clock,
         params,
         &mut out,

@@ -7,7 +7,7 @@ use Rattle.console.proofs.feed.end_line.Tie as tie
 
 write-turn-requires : tie.Need-write-turn-requires
 write-turn-requires c κs =
-    let l = c .before .before .before .before .before .before .before in
+    let l = c .before .before .before .before .before .before in
     let f = l .before .before .before .before .before .before .before in
     let s = f .before .before .before in
     nameless-sums _ _ _ _ (turn-sums _ _ (heldOf (s .args .bytes .now) (s .args .m)) _ (f .first-bytes .ensures) _ _ _ (l .line-turn .ensures) (s .pre .0))
@@ -15,7 +15,7 @@ write-turn-requires c κs =
 returns : tie.Need-returns
 returns c =
     let w = c .before .before in
-    let l = w .before .before .before .before .before .before .before .before in
+    let l = w .before .before .before .before .before .before .before in
     let f = l .before .before .before .before .before .before .before in
     let s = f .before .before .before in
     let h = heldOf (s .args .bytes .now) (s .args .m) in (

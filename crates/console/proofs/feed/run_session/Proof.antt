@@ -23,7 +23,7 @@ feed-requires c κs =
 
 finish-requires : tie.Need-finish-requires
 finish-requires c κs =
-    let f = c .before .before .before .before .before .before .before .before .before .before .before .before .before .before .before in
+    let f = c .before .before .before .before .before .before .before .before .before .before .before .before .before in
     let k = f .before .before in
     let x = k .before in
     let b = x .before .before .before .before .before .before .before .before in
@@ -32,12 +32,12 @@ finish-requires c κs =
     let m = y .before in
     let e = m .before in
     let new = console-new _ _ _ _ (x .new-console .ensures) (m .empty-names .ensures .1) (y .empty-keys .ensures .1) (q .empty-balances .ensures .1) in
-    (f .feed .ensures .1, last-room _ _ _ (e .if1 .left) _ _ new (held-new _ _ (b .new-bytes .ensures) (k .new-mark .ensures)) _ _ _ _ _ (f .feed .ensures .0))
+    (f .feed .ensures .1, last-room _ _ _ (e .if1 .left) _ _ new (held-new _ _ (b .new-bytes .ensures) (k .new-mark .ensures)) _ (f .feed .ensures .0))
 
 returns-2 : tie.Need-returns-2
 returns-2 c =
     let l = c .before .before .before .before .before in
-    let f = l .before .before .before .before .before .before .before .before .before .before .before .before .before .before .before .before in
+    let f = l .before .before .before .before .before .before .before .before .before .before .before .before .before .before in
     let k = f .before .before in
     let x = k .before in
     let b = x .before .before .before .before .before .before .before .before in
@@ -46,7 +46,7 @@ returns-2 c =
     let m = y .before in
     let e = m .before in
     let new = console-new _ _ _ _ (x .new-console .ensures) (m .empty-names .ensures .1) (y .empty-keys .ensures .1) (q .empty-balances .ensures .1) in
-    run-whole _ _ _ (e .if1 .left) _ _ new (held-new _ _ (b .new-bytes .ensures) (k .new-mark .ensures)) _ _ _ _ _ (f .feed .ensures .0) _ _ _ _ _ (l .finish .ensures)
+    run-whole _ _ _ (e .if1 .left) _ _ new (held-new _ _ (b .new-bytes .ensures) (k .new-mark .ensures)) _ (f .feed .ensures .0) _ (l .finish .ensures)
 
 pub run-session-spec : {M : Type 1} → statement M
 run-session-spec =

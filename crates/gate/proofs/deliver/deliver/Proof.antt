@@ -5,10 +5,9 @@ use Rattle.gate.proofs.deliver.deliver.Tie as tie
 
 returns : tie.Need-returns
 returns c =
-    let d = c .before .before .before .before .before .before .before .before .before .before in
+    let d = c .before .before .before .before .before .before .before .before .before in
     let h = d .before .before in
     let u = h .before .before .before .before .before .before .before .before .before .before in
-    let s = u .before .before .before .before .before .before .before .before .before in
     delivered-packed _ _ _ _ _ _ _ _ _ _ _ _ _ _ (u .unpack .ensures) (h .head-of .ensures) (d .deliver-lent .ensures) (c .pack .ensures)
 
 pub deliver-spec : {M : Type 1} → statement M

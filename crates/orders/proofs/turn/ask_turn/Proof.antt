@@ -6,7 +6,7 @@ use Rattle.orders.proofs.turn.ask_turn.Tie as tie
 returns : tie.Need-returns
 returns c =
     let a = c .before .before .before .before .before in
-    let p = a .before .before .before .before .before .before .before .before in
+    let p = a .before .before .before .before .before .before .before in
     let d = p .before in
     ask-done _ _ _ _ _ (d .before .field-at .ensures) _ (d .read-date .ensures) _ (p .params-in .ensures) _ (a .deliver-lent .ensures) (c .answered .ensures _ _)
 

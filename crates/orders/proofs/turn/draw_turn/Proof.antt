@@ -10,9 +10,11 @@ returns c =
 
 returns-2 : tie.Need-returns-2
 returns-2 c =
-    let g = c .before .before .before in
+    let a = c .before in
+    let s = a .before .before in
+    let g = s .before .before in
     let d = g .before .before in
-    draw-done _ _ _ _ _ (d .before .field-at .ensures) _ (d .read-digits .ensures) _ (g .kopecks .given .1) (c .draw-of .ensures)
+    draw-done _ _ _ _ _ (c .answered .ensures _ _) _ (s .subject-of .ensures .0) _ (s .subject-of .ensures .1) _ (d .before .field-at .ensures) _ (d .read-digits .ensures) _ (g .kopecks .given .1) (a .draw-lent .ensures)
 
 pub draw-turn-spec : {M : Type 1} → statement M
 draw-turn-spec =
@@ -24,5 +26,7 @@ draw-turn-spec =
     (λ c. search needs)
     (λ c κs. search needs)
     returns
+    (λ c κs. search needs)
+    (λ c κs. search needs)
     (λ c κs. search needs)
     returns-2)
