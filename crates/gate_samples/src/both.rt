@@ -3,11 +3,8 @@ use crate::lending;
 use crate::same;
 use crate::world::World;
 use calls::Call;
-use calls::What;
 use fields::number::Number;
-use gate::deliver;
 use ledger::Reply;
-use settlement::settle;
 use table::Gate;
 use table::Record;
 use table::rows;
@@ -51,36 +48,6 @@ fn held(nums: &[[u64; 6]], numbers: &[[u8; 30]], dates: &[[[u8; 19]; 3]]) -> [Re
     [a, b, c, d]
 }
 
-// The call over the rows, by what it asks for.
-fn over_rows(
-    nums: &mut [[u64; 6]],
-    numbers: &mut [[u8; 30]],
-    dates: &mut [[[u8; 19]; 3]],
-    gate: Gate,
-    call: Call,
-    text: &[u8],
-    out: &mut [u8],
-) -> Reply {
-    let what = call.what;
-    let clock = call.clock;
-    let day = call.day;
-    let number = call.number;
-    match what {
-        What::Request => deliver::deliver(nums, numbers, dates, gate, clock, text, out),
-        What::Registry => settle::settle(nums, numbers, dates, gate, clock, day, text, out),
-        What::Opening => opening::open_account(nums, numbers, dates, gate, number, call.kind),
-        What::Drawing => opening::draw_funds(
-            nums,
-            numbers,
-            dates,
-            gate,
-            number,
-            call.kind,
-            call.kopecks,
-        ),
-    }
-}
-
 // The call over what is lent of the rows.
 fn over_lent(
     nums: &mut [[u64; 6]],
@@ -94,7 +61,7 @@ fn over_lent(
     let n = line::least(w.lent, nums.len());
     let m = line::least(w.lent, numbers.len());
     let d = line::least(w.lent_dates, dates.len());
-    over_rows(
+    calls::call_on(
         &mut nums[..n],
         &mut numbers[..m],
         &mut dates[..d],
