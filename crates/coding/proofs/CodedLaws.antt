@@ -15,7 +15,7 @@ use Rattle.texts.proofs.ListLaws.{every-append}
 use Rattle.texts.proofs.DigitLaws.{within-low, within-high}
 use Rattle.coding.specs.Url.{isHex, hexValue, wellCoded, decoded, isPlain, hexDigit, codedByte, coded, isByte}
 use Rattle.coding.specs.Units.{isCode, codeSize}
-use Rattle.coding.proofs.RangeLaws.{inside}
+use Rattle.texts.proofs.RangeLaws.{inside}
 use Rattle.texts.proofs.FindLaws.{tests-differ, find-absent, find-append}
 use Rattle.coding.proofs.UnitLaws.{decoded-unit, well-unit, unit-other}
 use Rattle.coding.proofs.WriteLaws.{code-length}

@@ -1,4 +1,3 @@
-pub mod RangeLaws
 pub mod UnitLaws
 pub mod WriteLaws
 pub mod CodedLaws

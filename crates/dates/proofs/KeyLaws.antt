@@ -17,7 +17,7 @@ use Rattle.texts.proofs.Tests.{and-left, and-right, same-bool}
 use Rattle.texts.proofs.ListLaws.{every-weaker}
 use Rattle.texts.proofs.ScanLaws.{eqList-true, eqList-refl}
 use Rattle.texts.proofs.DigitLaws.{within-high}
-use Rattle.fields.proofs.NumberLaws.{text-of, text-length, text-bytes, text-same, same-text, same-length}
+use Rattle.fields.proofs.NumberLaws.{byte-above-blank, byte-below-256, text-of, text-length, text-bytes, text-same, same-text, same-length}
 use Rattle.dates.proofs.DateLaws.{date-bytes}
 
 -- ---- texts
@@ -101,12 +101,10 @@ valid-same n m k j h e v =
     }
 
 number-byte : (b : ℕ) → numberByte b ≡ true → nonzeroByte b ≡ true
-unfolding numberByte nonzeroByte
+unfolding nonzeroByte
 number-byte b h =
-    let l : 33 ≤ b = leb-true 33 b (and-left (leb 33 b) (leb b 126) h) in
-    let m : b ≤ 126 = leb-true b 126 (and-right (leb 33 b) (leb b 126) h) in
-    let x : 1 ≤ b = omega arith in
-    let y : b ≤ 255 = omega arith in
+    let x : 1 ≤ b = omega (arith, byte-above-blank b h) in
+    let y : b ≤ 255 = omega (arith, byte-below-256 b h) in
     rw (le-leb 1 b x, le-leb b 255 y)
 
 module _ (n m : Number) (k j : ℕ) (v : Valid n k) (u : Valid m j) where

@@ -3,8 +3,8 @@ use Prim.Native.Nat.{ℕ, _+_, _≤_, _<_}
 use native.Mathlib.Omega.{arith}
 use native.Mathlib.Nat.{zero-add}
 use mathlib.Core.Path.{_≡_, refl, sym, _∙_}
-use mathlib.Core.List.{List}
-use mathlib.Core.Bool.{Bool, true, false, _&&_, and-false}
+use mathlib.Core.List.{List, [], _∷_}
+use mathlib.Core.Bool.{Bool, true, false, not, _&&_, and-false}
 use lib.Dec.{eqb, leb}
 use lib.ListN.{length, getD, drop, replicate, length-append, length-drop, length-replicate}
 use lib.Seq.{take-append-seam, length-take-le}
@@ -13,29 +13,45 @@ use Rattle.fields.specs.declared.number.Number.{Number}
 use Rattle.fields.specs.declared.number.NumberRead.{NumberRead}
 use Rattle.texts.specs.Lists.{every, eqList, written, cursorAfter}
 use Rattle.fields.specs.Number.{numberByte, numberText, isNumber, isNumberText, padded, numberOf, noNumber, numberRead, sameNumber}
-use Rattle.texts.proofs.Tests.{and-left, and-right}
+use Rattle.texts.specs.Digits.{within}
+use Rattle.texts.proofs.Tests.{and-left, and-right, or-elim}
+use Rattle.texts.proofs.DigitLaws.{within-low, within-high}
 use Rattle.texts.proofs.ListLaws.{every-step, every-fails, every-all}
 use Rattle.texts.proofs.OutLaws.{written-over}
 use Rattle.texts.proofs.ScanLaws.{eqList-refl, eqList-true}
 
 -- ---- the bytes of a number
 module _ (b : ℕ) where
-  pub byte-low : b < 33 → false ≡ numberByte b
-  unfolding numberByte
-  byte-low h = simp (lt-leb _ _ h)
+  pub one-byte : (n : ℕ) → b ≡ n → true ≡ eqb b n
+  one-byte n e = sym (eq-eqb b n e)
 
-  pub byte-not-low : 33 ≤ b → leb b 126 ≡ numberByte b
+  pub not-byte : (n : ℕ) → (b ≡ n → ⊥) → false ≡ eqb b n
+  not-byte n e = sym (ne-eqb b n e)
+
+  byte-between : numberByte b ≡ true → (32 < b) × (b < 256)
   unfolding numberByte
-  byte-not-low h = simp (le-leb _ _ h)
+  byte-between =
+      let one : (n : ℕ) → 32 < n → n < 256 → eqb b n ≡ true → (32 < b) × (b < 256) = λ n l h p. let e : b ≡ n = eqb-true b n p in (omega arith, omega arith) in
+      let some : (low high : ℕ) → 32 < low → high < 256 → within low high b ≡ true → (32 < b) × (b < 256) = λ low high l h p. (omega (arith, within-low low high b p), omega (arith, within-high low high b p)) in
+      or-elim (within 33 126 b) _ (some 33 126 (omega arith) (omega arith))
+      (or-elim (eqb b 168) _ (one 168 (omega arith) (omega arith))
+      (or-elim (eqb b 184) _ (one 184 (omega arith) (omega arith)) (some 192 255 (omega arith) (omega arith))))
 
   -- no control byte and no blank, so that a number never meets a separator of lines or fields
   pub byte-above-blank : numberByte b ≡ true → 32 < b
-  unfolding numberByte
-  byte-above-blank h = leb-true 33 b (and-left (leb 33 b) (leb b 126) h)
+  byte-above-blank h = (byte-between h) .0
 
   pub byte-below-256 : numberByte b ≡ true → b < 256
-  unfolding numberByte
-  byte-below-256 h = omega (arith, leb-true b 126 (and-right (leb 33 b) (leb b 126) h))
+  byte-below-256 h = (byte-between h) .1
+
+-- the ends of each range, and what stands beside them
+pub ends-in : every numberByte (33 ∷ 126 ∷ 168 ∷ 184 ∷ 192 ∷ 255 ∷ []) ≡ true
+unfolding every numberByte
+ends-in = refl
+
+pub ends-out : every (λ (b : ℕ). not (numberByte b)) (32 ∷ 127 ∷ 167 ∷ 169 ∷ 183 ∷ 185 ∷ 191 ∷ 256 ∷ []) ≡ true
+unfolding every numberByte
+ends-out = refl
 
 module _ (s : List ℕ) (i : ℕ) (passed : every numberByte s ≡ every numberByte (drop i s)) where
   pub bytes-step : (t : Bool) → t ≡ numberByte (getD s i 0) → t ≡ true → i < length s → every numberByte s ≡ every numberByte (drop (i + 1) s)

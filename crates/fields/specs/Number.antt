@@ -1,16 +1,17 @@
 -- Document 01, "Fields": numbers, which name an account together with a type.
 use Prim.Native.Nat.{ℕ}
 use mathlib.Core.List.{List, _++_}
-use mathlib.Core.Bool.{Bool, true, false, cond, _&&_}
+use mathlib.Core.Bool.{Bool, true, false, cond, _&&_, _||_}
 use lib.ListN.{length, take, drop, replicate}
 use lib.Dec.{leb, eqb}
 use Rattle.fields.specs.declared.number.Number.{Number}
 use Rattle.fields.specs.declared.number.NumberRead.{NumberRead}
+use Rattle.texts.specs.Digits.{within}
 use Rattle.texts.specs.Lists.{every, eqList}
 
--- the bytes that a number may have
+-- the bytes that a number may have: 21 to 7E, A8, B8, C0 to FF
 unfoldable pub numberByte : ℕ → Bool
-numberByte b = leb 33 b && leb b 126
+numberByte b = within 33 126 b || (eqb b 168 || (eqb b 184 || within 192 255 b))
 
 -- the bytes that count: those past the length are never looked at
 abbrev pub numberText : Number → List ℕ

@@ -1,4 +1,4 @@
-// Numbers of accounts: 1 to 30 bytes, each 0x21 to 0x7E.
+// Numbers of accounts: 1 to 30 bytes, each 0x21 to 0x7E or a letter of windows-1251.
 use texts::out;
 use texts::scan;
 ghost use mathlib.Core.Path.{_≡_};
@@ -24,10 +24,13 @@ pub struct NumberRead {
 fn is_number_byte(b: u8) -> bool
     ensures { λ r. ⌜ r ≡ numberByte b ⌝ }
 {
-    if b < 33 {
-        return false;
+    match b {
+        b'!'..=b'~' => true,
+        0xA8 => true,
+        0xB8 => true,
+        0xC0..=0xFF => true,
+        _ => false,
     }
-    b <= b'~'
 }
 
 // Whether each of the bytes is one that a number may have.

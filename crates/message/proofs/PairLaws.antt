@@ -13,7 +13,7 @@ use Rattle.texts.proofs.Tests.{both}
 use Rattle.texts.proofs.ListLaws.{every-weaker}
 use Rattle.coding.specs.Url.{isPlain, coded, isByte}
 use Rattle.coding.specs.Params.{pieces}
-use Rattle.coding.proofs.RangeLaws.{above}
+use Rattle.texts.proofs.RangeLaws.{above}
 use Rattle.texts.proofs.FindLaws.{tests-differ, find-absent, find-seam, find-both, find-other}
 use Rattle.coding.proofs.ParamLaws.{split-last, split-append}
 use Rattle.coding.proofs.CodedLaws.{coded-marks, decode-coded, coded-well, coded-plain, coded-find}

@@ -12,7 +12,7 @@ pub fn number(s: &[u8]) {
         let n = x.write(&mut space, 0);
         io::print_decimal(1, x.len as u64);
         io::write_all(1, b" bytes ");
-        io::write_all(1, scan::first_bytes(&space, n));
+        print::bytes(scan::first_bytes(&space, n));
     } else {
         print::fault(2);
     }

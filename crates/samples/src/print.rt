@@ -40,8 +40,8 @@ pub fn day(d: Day) {
 // The bytes of an account's number.
 pub fn account(x: Number) {
     let n = x.len;
-    let bytes = x.bytes;
-    io::write_all(1, scan::first_bytes(&bytes, n));
+    let held = x.bytes;
+    bytes(scan::first_bytes(&held, n));
 }
 
 // A byte, or \x and its digits where it does not print.

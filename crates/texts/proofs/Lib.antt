@@ -1,4 +1,5 @@
 pub mod Tests
+pub mod RangeLaws
 pub mod ListLaws
 pub mod OutLaws
 pub mod ScanLaws

@@ -2,7 +2,7 @@
 use Prim.Native.Nat.{ℕ, _≤_}
 use native.Mathlib.Omega.{arith}
 use mathlib.Core.Path.{_≡_, refl, sym}
-use mathlib.Core.Bool.{Bool, true, false, cond, _&&_}
+use mathlib.Core.Bool.{Bool, true, false, cond, _&&_, _||_}
 
 -- a test that failed shows nothing
 pub no-claim : {A : Type 0} → false ≡ true → A
@@ -32,6 +32,11 @@ and-both t u p q = rw (p, q)
 pub and-then : (t : Bool) {u w : Bool} → (u ≡ true → w ≡ true) → t && u ≡ true → t && w ≡ true
 and-then true f k = f k
 and-then false f k = k
+
+-- what each of two tests shows, one that either passes shows
+pub or-elim : {P : Type 0} (t u : Bool) → (t ≡ true → P) → (u ≡ true → P) → t || u ≡ true → P
+or-elim true u f g h = f refl
+or-elim false u f g h = g h
 
 -- what is picked has a property that both choices have
 pub cond-elim : {A : Type 0} (P : A → Type 0) (t : Bool) (a b : A) → (t ≡ true → P a) → (t ≡ false → P b) → P (cond t a b)

@@ -6,7 +6,15 @@ use roosteryore::{Date, Day, Number, Payment};
 const STARTS: [Day; 4] = [Day::new(2024, 2, 27), Day::new(2005, 12, 29), Day::new(2099, 12, 29), Day::new(2005, 9, 19)];
 
 /// The numbers of accounts.
-const NAMES: [&[u8]; 5] = [b"account12", b"a", b"a1", b"+7(916)643-84-76", b"~!\"#$%&'()*+,-./:;<=>?@[]^_`{"];
+const NAMES: [&[u8]; 7] = [
+    b"account12",
+    b"a",
+    b"a1",
+    b"+7(916)643-84-76",
+    b"~!\"#$%&'()*+,-./:;<=>?@[]^_`{",
+    b"\xD5\xEE\xF0-\xA8\xB8",
+    b"\xC0\xC1\xC2\xC3\xC4\xC5\xC6\xC7\xC8\xC9\xCA\xCB\xCC\xCD\xCE\xEF\xF0\xF1\xF2\xF3\xF4\xF5\xF6\xF7\xF8\xF9\xFA\xFB\xFC\xFF",
+];
 
 /// What may stand in the place of a byte.
 const BYTES: &[u8] = b"0159-.:TZ \t\r\n<>&=%+/?a\0\x7F\xFF";
@@ -77,6 +85,7 @@ pub fn any_number(chance: &mut Chance) -> Number {
         3 => number.bytes[0] = b' ',
         4 => number.bytes[0] = 0x7F,
         5 => number.bytes[29] = 0xFF,
+        6 => number.bytes[0] = chance.pick(&[0xA7, 0xA8, 0xA9, 0xB7, 0xB8, 0xB9, 0xBF, 0xC0]),
         _ => {}
     }
     number
@@ -157,10 +166,10 @@ fn receipt_text(chance: &mut Chance, receipt: u64) -> String {
     }
 }
 
-/// A value url-coded, with more escapes than it needs, of either case.
+/// A value url-coded, with more escapes than it needs, of either case; letters of windows-1251 stand raw too.
 fn push_coded(chance: &mut Chance, value: &[u8], out: &mut Vec<u8>) {
     for &byte in value {
-        let plain = byte.is_ascii_alphanumeric() || b"-.:+".contains(&byte);
+        let plain = byte.is_ascii_alphanumeric() || b"-.:+".contains(&byte) || !byte.is_ascii();
         match (plain && !chance.one_in(20), chance.one_in(2)) {
             (true, _) => out.push(byte),
             (false, true) => out.extend(format!("%{byte:02X}").bytes()),
@@ -242,9 +251,10 @@ pub fn payment_request(payment: &Payment) -> String {
 /// The registry of these payments.
 pub fn good_registry(payments: impl Iterator<Item = Payment>) -> Vec<u8> {
     let line = |Payment { receipt, number, kind, kopecks, date }: Payment| {
-        format!("{number}\t{kind}\t{}\t{}\t{receipt}\r\n", date.escape_ascii(), amount(kopecks))
+        let rest = format!("\t{kind}\t{}\t{}\t{receipt}\r\n", date.escape_ascii(), amount(kopecks));
+        [number.as_bytes(), rest.as_bytes()].concat()
     };
-    payments.map(line).collect::<String>().into_bytes()
+    payments.flat_map(line).collect()
 }
 
 /// A registry's text of these payments; some have something wrong.

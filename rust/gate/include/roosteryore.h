@@ -28,7 +28,8 @@ extern "C" {
 #define ROOSTERYORE_REQUEST_ROOM 512
 #define ROOSTERYORE_REGISTRY_ROOM 65536
 
-/* An account's number: the first `len` bytes count, 1 to 30 of them, each from ! to ~. */
+/* An account's number: the first `len` bytes count, 1 to 30 of them, each from ! to ~ or a
+ * letter of windows-1251 (C0 to FF, A8, B8). */
 typedef struct {
     uint8_t bytes[30];
     size_t len;

@@ -13,19 +13,31 @@ pub struct NotANumber;
 
 impl fmt::Display for NotANumber {
     fn fmt(&self, f: &mut fmt::Formatter<'_>) -> fmt::Result {
-        f.write_str("give a number of 1 to 30 bytes, each from ! to ~")
+        f.write_str("give a number of 1 to 30 bytes, each from ! to ~ or a letter of windows-1251")
     }
 }
 
 impl Error for NotANumber {}
 
+/// What a byte of a number stands for in windows-1251; none where a number may not have it.
+const fn letter(byte: u8) -> Option<char> {
+    match byte {
+        b'!'..=b'~' => Some(byte as char),
+        0xA8 => Some('Ё'),
+        0xB8 => Some('ё'),
+        0xC0..=0xFF => char::from_u32('А' as u32 + (byte - 0xC0) as u32),
+        _ => None,
+    }
+}
+
 impl Number {
     /// The number of these bytes.
     ///
     /// # Errors
-    /// Where they are none or more than thirty, or one is not from `!` to `~`.
+    /// Where they are none or more than thirty, or one is neither from `!` to `~` nor a letter of windows-1251 (`А` to
+    /// `я`, `Ё`, `ё`).
     pub fn new(text: &[u8]) -> Result<Number, NotANumber> {
-        if text.is_empty() || text.len() > 30 || !text.iter().all(u8::is_ascii_graphic) {
+        if text.is_empty() || text.len() > 30 || !text.iter().all(|&byte| letter(byte).is_some()) {
             return Err(NotANumber);
         }
         let mut bytes = [0; 30];
@@ -39,17 +51,20 @@ impl Number {
     }
 }
 
+/// The number that these characters are in windows-1251.
 impl FromStr for Number {
     type Err = NotANumber;
 
     fn from_str(text: &str) -> Result<Number, NotANumber> {
-        Number::new(text.as_bytes())
+        let byte = |sign: char| (0..=u8::MAX).find(|&byte| letter(byte) == Some(sign)).ok_or(NotANumber);
+        Number::new(&text.chars().map(byte).collect::<Result<Vec<u8>, NotANumber>>()?)
     }
 }
 
 impl fmt::Display for Number {
     fn fmt(&self, f: &mut fmt::Formatter<'_>) -> fmt::Result {
-        f.pad(&String::from_utf8_lossy(self.as_bytes()))
+        let sign = |&byte| letter(byte).unwrap_or(char::REPLACEMENT_CHARACTER);
+        f.pad(&self.as_bytes().iter().map(sign).collect::<String>())
     }
 }
 
@@ -85,9 +100,23 @@ mod tests {
         assert_eq!("account12".parse::<Number>().unwrap().as_bytes(), b"account12");
         assert_eq!("account12".parse::<Number>().unwrap().to_string(), "account12");
         assert!("~".repeat(30).parse::<Number>().is_ok());
-        for text in ["", "a b", "\u{e9}", "\x7f", &"1".repeat(31)] {
+        for text in ["", "a b", "\u{e9}", "\x7f", "©", "Є", "Ѓ", &"1".repeat(31), &"Я".repeat(31)] {
             assert_eq!(text.parse::<Number>(), Err(NotANumber), "{text:?}");
         }
+    }
+
+    #[test]
+    fn letters_of_windows_1251() {
+        let choir: Number = "Хор-Ёё-АЯая".parse().unwrap();
+        assert_eq!(choir.as_bytes(), b"\xD5\xEE\xF0-\xA8\xB8-\xC0\xDF\xE0\xFF");
+        assert_eq!(choir.to_string(), "Хор-Ёё-АЯая");
+        for byte in 0..=u8::MAX {
+            let good = matches!(byte, 0x21..=0x7E | 0xA8 | 0xB8 | 0xC0..=0xFF);
+            assert_eq!(Number::new(&[byte]).is_ok(), good, "{byte:02X}");
+        }
+        // two bytes a letter in UTF-8, of which some pass
+        assert!(Number::new("Хор".as_bytes()).is_err() && Number::new("ши".as_bytes()).is_err());
+        assert_eq!(Number::new("и".as_bytes()).unwrap().to_string(), "Рё");
     }
 
     #[test]

@@ -80,8 +80,14 @@ fn room(chance: &mut Chance) -> usize {
 fn number(chance: &mut Chance) -> Number {
     match chance.below(12) {
         0 => texts::any_number(chance),
-        _ => format!("choir-{}", chance.below(CHOIRS)).parse().expect("a number"),
+        _ => choir(chance.below(CHOIRS)),
     }
+}
+
+/// A choir's number; every other one is in Cyrillic letters.
+fn choir(place: usize) -> Number {
+    let word = if place % 2 == 0 { "choir" } else { "хор" };
+    format!("{word}-{place}").parse().expect("a number")
 }
 
 fn kind(chance: &mut Chance) -> u64 {

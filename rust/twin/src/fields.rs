@@ -25,7 +25,7 @@ impl Number {
         number.is_good().then_some(number)
     }
 
-    /// Whether it has 1 to 30 bytes, all of them visible characters.
+    /// Whether it has 1 to 30 bytes, all of them such as a number may have.
     pub(crate) fn is_good(&self) -> bool {
         index::is_number(&self.bytes, self.len as u64)
     }

@@ -10,9 +10,14 @@ const PRIME: u64 = 0x9E37_79B9_7F4A_7C55;
 /// The bytes that a number has room for.
 pub(crate) const NUMBER_BYTES: usize = 30;
 
-/// Whether these are 1 to 30 visible characters.
+/// Whether a number may have this byte: a visible character of ASCII, or a Cyrillic letter of windows-1251.
+const fn may_name(byte: u8) -> bool {
+    byte.is_ascii_graphic() || byte >= 0xC0 || byte == 0xA8 || byte == 0xB8
+}
+
+/// Whether these are 1 to 30 bytes that a number may have.
 pub(crate) fn is_number(bytes: &[u8; NUMBER_BYTES], len: u64) -> bool {
-    counted(bytes, len).is_some_and(|text| text.iter().all(|byte| (0x21..=0x7E).contains(byte)))
+    counted(bytes, len).is_some_and(|text| text.iter().all(|&byte| may_name(byte)))
 }
 
 /// The bytes that count; none where the length is out of range.
@@ -151,7 +156,8 @@ mod tests {
         {
             let mut bytes = [b'5'; 30];
             bytes[at as usize] = byte;
-            assert_eq!(is_number(&bytes, len), at >= len || (0x21..=0x7E).contains(&byte));
+            let good = matches!(byte, 0x21..=0x7E | 0xA8 | 0xB8 | 0xC0..=0xFF);
+            assert_eq!(is_number(&bytes, len), at >= len || good);
         }
         assert!(!is_number(&[b'5'; 30], 0) && !is_number(&[b'5'; 30], 31) && !is_number(&[b'5'; 30], u64::MAX));
     }

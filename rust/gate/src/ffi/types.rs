@@ -2,7 +2,8 @@
 use crate::ACCOUNTS_MOST;
 use std::mem::{align_of, offset_of, size_of};
 
-/// An account's number: the first `len` bytes count, one to thirty of them, each from `!` to `~`.
+/// An account's number: the first `len` bytes count, one to thirty of them, each from `!` to `~` or a
+/// letter of windows-1251 (C0 to FF, A8, B8).
 #[repr(C)]
 #[derive(Clone, Copy, Debug)]
 pub struct Number {

@@ -1,5 +1,5 @@
 use borrow.Author.Needs.{needs}
-use Rattle.coding.proofs.RangeLaws.{inside, below, above, cond-here, cond-next}
+use Rattle.texts.proofs.RangeLaws.{inside, below, above, cond-here, cond-next}
 use Rattle.coding.specs.Url.{hexValue}
 use Rattle.coding.proofs.url.hex_value.Statement.{statement}
 use Rattle.coding.proofs.url.hex_value.Tie as tie

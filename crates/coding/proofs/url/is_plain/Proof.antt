@@ -1,5 +1,5 @@
 use borrow.Author.Needs.{needs}
-use Rattle.coding.proofs.RangeLaws.{inside, below, above, or-first, or-second, or-none}
+use Rattle.texts.proofs.RangeLaws.{inside, below, above, or-first, or-second, or-none}
 use Rattle.coding.specs.Url.{isPlain}
 use Rattle.coding.proofs.url.is_plain.Statement.{statement}
 use Rattle.coding.proofs.url.is_plain.Tie as tie
