@@ -44,6 +44,10 @@ module _ (b : ℕ) where
   pub byte-below-256 : numberByte b ≡ true → b < 256
   byte-below-256 h = (byte-between h) .1
 
+  pub byte-visible : 33 ≤ b → b ≤ 126 → true ≡ numberByte b
+  unfolding numberByte
+  byte-visible p q = simp (le-leb 33 b p, le-leb b 126 q)
+
 -- the ends of each range, and what stands beside them
 pub ends-in : every numberByte (33 ∷ 126 ∷ 168 ∷ 184 ∷ 192 ∷ 255 ∷ []) ≡ true
 unfolding every numberByte
@@ -56,6 +60,9 @@ ends-out = refl
 module _ (s : List ℕ) (i : ℕ) (passed : every numberByte s ≡ every numberByte (drop i s)) where
   pub bytes-step : (t : Bool) → t ≡ numberByte (getD s i 0) → t ≡ true → i < length s → every numberByte s ≡ every numberByte (drop (i + 1) s)
   bytes-step t e y h = every-step numberByte s i passed h (sym e ∙ y)
+
+  pub bytes-pass : 33 ≤ getD s i 0 → getD s i 0 ≤ 126 → i < length s → every numberByte s ≡ every numberByte (drop (i + 1) s)
+  bytes-pass p q h = bytes-step true (byte-visible (getD s i 0) p q) refl h
 
   pub bytes-fail : (t : Bool) → t ≡ numberByte (getD s i 0) → t ≡ false → i < length s → false ≡ every numberByte s
   bytes-fail t e n h = sym (every-fails numberByte s i passed h (sym e ∙ n))

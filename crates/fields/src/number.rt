@@ -3,7 +3,7 @@ use texts::out;
 use texts::scan;
 ghost use mathlib.Core.Path.{_≡_};
 ghost use Prim.Native.Nat.{_≤_};
-ghost use lib.ListN.{length};
+ghost use lib.ListN.{length, drop};
 ghost use Rattle.texts.specs.Lists.{every, written, cursorAfter};
 ghost use Rattle.fields.specs.Number.{numberByte, numberText, isNumber, isNumberText, numberOf, noNumber, numberRead, sameNumber};
 
@@ -33,11 +33,29 @@ fn is_number_byte(b: u8) -> bool
     }
 }
 
+// Passes the first bytes that are 21 to 7E, as those of most names all are: one range is told quicker than four.
+fn pass_visible(s: &[u8]) -> usize
+    ensures { λ r. ⌜ (r ≤ length (now (s .entry))) × (every numberByte (now (s .entry)) ≡ every numberByte (drop r (now (s .entry)))) ⌝ }
+{
+    let mut i: usize = 0;
+    while i < s.len() {
+        let b = s[i];
+        if b < 33 {
+            return i;
+        }
+        if b'~' < b {
+            return i;
+        }
+        i += 1;
+    }
+    i
+}
+
 // Whether each of the bytes is one that a number may have.
 fn all_number_bytes(s: &[u8]) -> bool
     ensures { λ r. ⌜ r ≡ every numberByte (now (s .entry)) ⌝ }
 {
-    let mut i: usize = 0;
+    let mut i = pass_visible(s);
     while i < s.len() {
         if is_number_byte(s[i]) {
             i += 1;

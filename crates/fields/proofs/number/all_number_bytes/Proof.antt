@@ -22,6 +22,7 @@ all-number-bytes-spec =
     (tie.spec
     Inv-loop
     μ-loop
+    (λ c κs. search laws)
     (λ c. search laws)
     (λ c. search laws)
     (λ c κs. search laws)
