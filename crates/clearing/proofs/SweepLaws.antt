@@ -26,16 +26,15 @@ use Rattle.index.specs.Index.{slotOf, Chained}
 use Rattle.index.proofs.ChainLaws.{slot-below, chained-same}
 use Rattle.index.proofs.WalkLaws.{Walk, walk-from, walk-hit, walk-next, walk-none, found-any}
 use Rattle.lists.specs.Lists.{firstFrom, isFound}
-use borrow.Author.Tests.{eq-eqb, ne-eqb, not-true, not-false}
+use borrow.Author.Tests.{not-true, not-false}
 use Rattle.lists.specs.declared.Found.{Found}
 use Rattle.lists.specs.declared.Found.the-variants.{At, Nothing}
 use Rattle.days.specs.declared.calendar.Day.{Day}
-use Rattle.days.specs.Calendar.{onDay}
-use Rattle.dates.specs.Date.{dateDay}
 use Rattle.lines.specs.declared.line.Line.{Line}
 use Rattle.table.specs.declared.Gate.{Gate}
 use Rattle.table.specs.declared.Record.{Record}
-use Rattle.table.specs.Table.{Rows, recordAt, recordsOf, rowsFrom, rowsWith, noRecord}
+use Rattle.table.specs.Table.{Rows, recordAt, recordsOf, rowsFrom, rowsWith, noRecord, done}
+use Rattle.table.specs.Daily.{standsOn}
 use Rattle.table.specs.Accounts.{findAccount, balanceAt, gateBalance, Funds}
 use Rattle.ledger.specs.Change.{revoked, debitedAt}
 use Rattle.texts.proofs.Tests.{cond-elim}
@@ -76,18 +75,14 @@ module _ (u : LineRows) (n : ℕ) (r : Record) where
 
 -- ---- whether a record is a stray
 module _ (day : Day) (xs : List Line) (r : Record) where
-  pub not-done : (r .state ≡ 1 → ⊥) → false ≡ isStray day xs r
-  unfolding isStray
-  not-done d = rw (ne-eqb _ _ d)
-
-  module _ (done : r .state ≡ 1) (s : Bool) (es : s ≡ onDay day (dateDay (r .date))) where
+  module _ (s : Bool) (es : s ≡ standsOn day done r) where
     pub other-day : not s ≡ true → false ≡ isStray day xs r
     unfolding isStray
-    other-day n = rw (eq-eqb _ _ done, ← es, not-true s n)
+    other-day n = rw (← es, not-true s n)
 
     pub of-day : not s ≡ false → (b : Bool) → b ≡ anyMatches xs r → not b ≡ isStray day xs r
     unfolding isStray
-    of-day n b eb = rw (eq-eqb _ _ done, ← es, not-false s n, eb)
+    of-day n b eb = rw (← es, not-false s n, eb)
 
 set-same : (rs : List Record) (i : ℕ) (z : Record) → set rs i (getD rs i z) ≡ rs
 set-same [] i z = refl

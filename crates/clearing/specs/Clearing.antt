@@ -3,14 +3,14 @@ use Prim.Native.Nat.{ℕ}
 use mathlib.Core.List.{List, [], _∷_, map}
 use mathlib.Core.Bool.{Bool, false, cond, not, _&&_, _||_}
 use Rattle.days.specs.declared.calendar.Day.{Day}
-use Rattle.days.specs.Calendar.{onDay}
-use Rattle.dates.specs.Date.{dateDay}
 use Rattle.lines.specs.declared.line.Line.{Line}
 use Rattle.table.specs.declared.Record.{Record}
 use Rattle.table.specs.declared.Gate.{Gate}
 use Rattle.table.specs.Accounts.{accountsOf, findAccount}
 use Rattle.ledger.specs.Change.{revoked, debitedAt}
-use Rattle.posting.specs.Posting.{matches, isDone, Ledger, settleLine}
+use Rattle.table.specs.Table.{done}
+use Rattle.table.specs.Daily.{isDone, standsOn}
+use Rattle.posting.specs.Posting.{matches, Ledger, settleLine}
 
 -- the lines in their order
 unfoldable pub settleLines : List ℕ → ℕ → List Line → Ledger → Ledger
@@ -23,7 +23,7 @@ anyMatches [] r = false
 anyMatches (x ∷ xs) r = matches x r || anyMatches xs r
 
 unfoldable pub isStray : Day → List Line → Record → Bool
-isStray day xs r = isDone r && (onDay day (dateDay (r .date)) && not (anyMatches xs r))
+isStray day xs r = standsOn day done r && not (anyMatches xs r)
 
 unfoldable pub sweptRecord : List ℕ → Day → List Line → Record → Record
 sweptRecord clock day xs r = cond (isStray day xs r) (revoked clock r) r

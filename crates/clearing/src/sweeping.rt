@@ -1,5 +1,4 @@
 // The sweep: what is done on the day and stands in no line is cancelled.
-use dates::date;
 use days::calendar::Day;
 use ledger::change;
 use line_rows::reading;
@@ -8,6 +7,7 @@ use posting::matching;
 use table::Gate;
 use table::Record;
 use table::accounts;
+use table::daily;
 use table::rows;
 ghost use mathlib.Core.Path.{_≡_};
 ghost use Prim.Native.Nat.{ℕ, _<_, _≤_};
@@ -77,11 +77,7 @@ fn is_stray(
     requires { ⌜ Read (linesLent values holders days) count × Chained (receiptIn (now values)) 0 count (now heads) (now next) ⌝ }
     ensures { λ b. ⌜ b ≡ isStray day (linesOf (linesBefore values holders days) count) r ⌝ }
 {
-    if r.state != table::DONE {
-        return false;
-    }
-    let d = r.date;
-    if !date::is_on(day, d) {
+    if !daily::stands_on(r, day, table::DONE) {
         return false;
     }
     !any_matches(values, holders, days, count, heads, next, r)

@@ -27,7 +27,7 @@ use Rattle.table.specs.declared.Gate.{Gate}
 use Rattle.table.specs.Table.{Rows}
 use Rattle.gate.specs.Deliver.{deliver}
 use Rattle.orders.specs.Order.{Console}
-use Rattle.orders.specs.Order.{startTurn, openTurn, drawOf, drawTurn, askTurn, orderTurn, lineTurn}
+use Rattle.orders.specs.Order.{startTurn, openTurn, drawOf, drawTurn, askTurn, listTurn, orderTurn, lineTurn}
 use Rattle.line_fields.specs.LineFields.{fieldCount, fieldAt, hasLetter, afterSpace, paramsIn}
 
 -- ---- a line cut: m bytes of this field, 31 of each of the fields up to the jth space, and of the rest what e leaves
@@ -261,6 +261,10 @@ module _ (x : Console) (t : Rows) (u l : List ℕ) where
     unfolding startTurn
     start-cut a b = rw (a, b, first, day-cut (fieldAt 1 l))
 
+    list-cut : listTurn x t u ≡ listTurn x t l
+    unfolding listTurn
+    list-cut = rw (first, day-cut (fieldAt 1 l))
+
     ask-cut : paramsIn u ≡ take 2049 (paramsIn l) → askTurn x t u ≡ askTurn x t l
     unfolding askTurn
     ask-cut p =
@@ -280,15 +284,17 @@ module _ (x : Console) (t : Rows) (u l : List ℕ) where
           of (Value n) = rw (first, number-cut (fieldAt 1 l), second, kind-cut (fieldAt 2 l))
 
   order-ask : hasLetter 79 u ≡ false → hasLetter 79 l ≡ false → hasLetter 68 u ≡ false → hasLetter 68 l ≡ false
+      → hasLetter 80 u ≡ false → hasLetter 80 l ≡ false
       → hasLetter 82 u ≡ hasLetter 82 l → leb 3 (fieldCount u) ≡ leb 3 (fieldCount l) → askTurn x t u ≡ askTurn x t l → orderTurn x t u ≡ orderTurn x t l
   unfolding orderTurn
-  order-ask a b c d f g h = rw (a, b, c, d, f, g, h)
+  order-ask a b c d p q f g h = rw (a, b, c, d, p, q, f, g, h)
 
   order-other : hasLetter 82 u ≡ false → hasLetter 82 l ≡ false → hasLetter 79 u ≡ hasLetter 79 l → eqb (fieldCount u) 3 ≡ eqb (fieldCount l) 3
       → hasLetter 68 u ≡ hasLetter 68 l → eqb (fieldCount u) 4 ≡ eqb (fieldCount l) 4
-      → openTurn x t u ≡ openTurn x t l → drawTurn x t u ≡ drawTurn x t l → orderTurn x t u ≡ orderTurn x t l
+      → hasLetter 80 u ≡ hasLetter 80 l → eqb (fieldCount u) 2 ≡ eqb (fieldCount l) 2
+      → openTurn x t u ≡ openTurn x t l → drawTurn x t u ≡ drawTurn x t l → listTurn x t u ≡ listTurn x t l → orderTurn x t u ≡ orderTurn x t l
   unfolding orderTurn
-  order-other a b c d f g h k = rw (a, b, c, d, f, g, h, k)
+  order-other a b c d f g p q h k m = rw (a, b, c, d, f, g, p, q, h, k, m)
 
   line-same : orderTurn x t u ≡ orderTurn x t l → startTurn x t u ≡ startTurn x t l → lineTurn x t u ≡ lineTurn x t l
   unfolding lineTurn
@@ -318,6 +324,7 @@ module _ (x : Console) (t : Rows) (l : List ℕ) where
       let nou : (k : ℕ) → (k ≡ 82 → ⊥) → hasLetter k u ≡ false = λ k n. letter-kept e 2 l k (omega arith) ∙ no k n in
       line-same x t u l
       (order-ask x t u l (nou 79 (λ q. absurd (omega arith))) (no 79 (λ q. absurd (omega arith))) (nou 68 (λ q. absurd (omega arith))) (no 68 (λ q. absurd (omega arith)))
+      (nou 80 (λ q. absurd (omega arith))) (no 80 (λ q. absurd (omega arith)))
       (letter-kept e 2 l 82 (omega arith)) (kept-count e 3 2 l 31 (omega arith)) (ask-cut x t u l (kept-field e 1 2 l (omega arith)) p))
       (unread-turn x t u l (nou 67 (λ q. absurd (omega arith))) (no 67 (λ q. absurd (omega arith))))
 
@@ -331,7 +338,8 @@ module _ (x : Console) (t : Rows) (l : List ℕ) where
       let second : fieldAt 2 u ≡ take 31 (fieldAt 2 l) = kept-field e 2 4 l (omega arith) in
       line-same x t u l
       (order-other x t u l (letter 82 ∙ n) n (letter 79) (count-kept e 4 l 3 (omega arith)) (letter 68) (count-kept e 4 l 4 (omega arith))
-      (open-cut x t u l first second) (draw-cut x t u l first second (kept-field e 3 4 l (omega arith))))
+      (letter 80) (count-kept e 4 l 2 (omega arith))
+      (open-cut x t u l first second) (draw-cut x t u l first second (kept-field e 3 4 l (omega arith))) (list-cut x t u l first))
       (start-cut x t u l first (letter 67) (count-kept e 4 l 2 (omega arith)))
 
   pub cut-turn : lineTurn x t (cut l) ≡ lineTurn x t l

@@ -1,15 +1,15 @@
 -- An input that is fed in parts, whatever the parts are, prints what the session prints of the whole.
 use Prim.Native.Nat.{ℕ, zero, suc, _+_, _≤_, _<_}
-use native.Mathlib.Nat.{not-suc-le-zero}
+use native.Mathlib.Nat.{not-suc-le-zero, add-zero}
 use native.Mathlib.Numerals.{add-one}
 use native.Mathlib.Omega.{arith}
 use mathlib.Core.Path.{_≡_, refl, sym, ap, _∙_}
 use mathlib.Core.List.{List, [], _∷_, _++_, append-nil, append-assoc}
 use mathlib.Core.Bool.{Bool, true, false, cond}
-use lib.Dec.{eqb, ltb}
+use lib.Dec.{eqb, leb, ltb}
 use lib.ListN.{length, take, drop, length-set, length-drop, length-replicate}
 use lib.Seq.{take-nil, drop-drop}
-use borrow.Author.Tests.{lt-ltb, eqb-true, ltb-true, ltb-false}
+use borrow.Author.Tests.{lt-ltb, le-ltb, lt-leb, le-leb, eqb-true, ltb-true, ltb-false}
 use Rattle.texts.specs.Lists.{find}
 use Rattle.coding.specs.Params.{splitAt}
 use Rattle.coding.proofs.ParamLaws.{split-append, split-last}
@@ -18,7 +18,7 @@ use Rattle.table.specs.Table.{Rows}
 use Rattle.gathering.specs.Held.{Held}
 use Rattle.orders.specs.Order.{Turn, lineTurn, turnText}
 use Rattle.gathering.specs.Held.{heldText, pushed, inParams, absorbed, absorbAll, emptied}
-use Rattle.console.specs.Feed.{Fed, ended, fedByte, fed, finished}
+use Rattle.console.specs.Feed.{Fed, ended, fedByte, fed, finished, Fill, filled}
 use Rattle.gathering.specs.Gather.{Gathered}
 use Rattle.gathering.specs.Gather.{gathered}
 use Rattle.gathering.specs.Held.{newHeld}
@@ -161,24 +161,38 @@ find-further : (b : ℕ) (u : List ℕ) → eqb b 10 ≡ false → find 10 (b �
 unfolding find
 find-further b u t = rw t
 
-line-end : (u : List ℕ) (f : Fed) → find 10 u < length u
-    → fed f u ≡ fed (ended (holding f (absorbAll (f .held) (take (find 10 u) u)))) (drop (suc (find 10 u)) u)
-unfolding fed fedByte absorbAll
-line-end [] f h = absurd (not-suc-le-zero h)
-line-end (b ∷ u) f h =
-    by-test (eqb b 10) (λ t. rw (find-first b u t, t))
-    (λ t.
-    let l : find 10 u < length u = omega (arith, h, find-further b u t) in
-    rw (find-further b u t, t) (line-end u (holding f (absorbed (f .held) b)) l))
+module _ (need room : ℕ) where
+  -- no more is taken without room for a line
+  pub fill-stop : (f : Fed) (n : ℕ) (s : List ℕ) → room < length (f .text) + need → filled need room f n s ≡ record { fed = f; taken = n }
+  unfolding filled
+  fill-stop f n [] h = refl
+  fill-stop f n (b ∷ s) h = rw (lt-leb _ _ h)
 
-line-rest : (u : List ℕ) (f : Fed) → length u ≤ find 10 u → fed f u ≡ holding f (absorbAll (f .held) (take (find 10 u) u))
-unfolding fed fedByte absorbAll
-line-rest [] f h = rw take-nil
-line-rest (b ∷ u) f h =
-    by-test (eqb b 10) (λ t. absurd (omega (arith, h, find-first b u t)))
-    (λ t.
-    let l : length u ≤ find 10 u = omega (arith, h, find-further b u t) in
-    rw (find-further b u t, t) (line-rest u (holding f (absorbed (f .held) b)) l))
+  line-end : (u : List ℕ) (f : Fed) (n : ℕ) → length (f .text) + need ≤ room → find 10 u < length u
+      → filled need room f n u ≡ filled need room (ended (holding f (absorbAll (f .held) (take (find 10 u) u)))) (n + (find 10 u + 1)) (drop (suc (find 10 u)) u)
+  unfolding filled fedByte absorbAll
+  line-end [] f n fit h = absurd (not-suc-le-zero h)
+  line-end (b ∷ u) f n fit h =
+      by-test (eqb b 10) (λ t. rw (le-leb _ _ fit, find-first b u t, t))
+      (λ t.
+      let l : find 10 u < length u = omega (arith, h, find-further b u t) in
+      let k : n + 1 + (find 10 u + 1) ≡ n + (suc (find 10 u) + 1) = omega arith in
+      rw (le-leb _ _ fit, find-further b u t, t)
+      (line-end u (holding f (absorbed (f .held) b)) (n + 1) fit l
+      ∙ ap (λ (m : ℕ). filled need room (ended (holding f (absorbAll (absorbed (f .held) b) (take (find 10 u) u)))) m (drop (suc (find 10 u)) u)) k))
+
+  line-rest : (u : List ℕ) (f : Fed) (n : ℕ) → length (f .text) + need ≤ room → length u ≤ find 10 u
+      → filled need room f n u ≡ record { fed = holding f (absorbAll (f .held) (take (find 10 u) u)); taken = n + find 10 u }
+  unfolding filled fedByte absorbAll find
+  line-rest [] f n fit h = ap (λ (m : ℕ). record { fed = f; taken = m }) (sym (add-zero n))
+  line-rest (b ∷ u) f n fit h =
+      by-test (eqb b 10) (λ t. absurd (omega (arith, h, find-first b u t)))
+      (λ t.
+      let l : length u ≤ find 10 u = omega (arith, h, find-further b u t) in
+      let k : n + 1 + find 10 u ≡ n + suc (find 10 u) = omega arith in
+      rw (le-leb _ _ fit, find-further b u t, t)
+      (line-rest u (holding f (absorbed (f .held) b)) (n + 1) fit l
+      ∙ ap (λ (m : ℕ). record { fed = holding f (absorbAll (absorbed (f .held) b) (take (find 10 u) u)); taken = m }) k))
 
 -- the session after the part from `at` on: on behind the line that has ended, or at the end of the part
 module _ (f : Fed) (s : List ℕ) (at : ℕ) (g : Gathered) (e : g ≡ gathered (f .held) (drop at s) at) where
@@ -204,12 +218,44 @@ module _ (f : Fed) (s : List ℕ) (at : ℕ) (g : Gathered) (e : g ≡ gathered 
     pub gathered-in : g .at ≤ length s
     gathered-in = omega (arith, end-at, end-inside, length-drop at s)
 
-    pub fed-ended : fed f (drop at s) ≡ fed (ended (holding f (g .held))) (drop (g .at) s)
-    fed-ended =
-        line-end (drop at s) f end-inside
+    pub fill-ended : (need room : ℕ) → length (f .text) + need ≤ room → filled need room f at (drop at s) ≡ filled need room (ended (holding f (g .held))) (g .at) (drop (g .at) s)
+    fill-ended need room fit =
+        line-end need room (drop at s) f at fit end-inside
         ∙ rw (← held-is, drop-drop, ← add-one (find 10 (drop at s)), ← end-at)
 
-  pub fed-rest : g .ended ≡ false → fed f (drop at s) ≡ holding f (g .held)
-  fed-rest t =
+  pub fill-rest : g .ended ≡ false → (need room : ℕ) → length (f .text) + need ≤ room → filled need room f at (drop at s) ≡ record { fed = holding f (g .held); taken = g .at }
+  unfolding gathered
+  fill-rest t need room fit =
       let l : length (drop at s) ≤ find 10 (drop at s) = ltb-false (find 10 (drop at s)) (length (drop at s)) (sym ended-is ∙ t) in
-      line-rest (drop at s) f l ∙ rw (← held-is)
+      let k : g .at ≡ at + find 10 (drop at s) = ap (λ (x : Gathered). x .at) e ∙ rw (le-ltb (find 10 (drop at s)) (length (drop at s)) l) in
+      line-rest need room (drop at s) f at fit l ∙ rw (← held-is, ← k)
+
+-- ---- what a part leaves is fed again: whatever the parts and the room, the session is the same
+module _ (need room : ℕ) where
+  fill-from : (s : List ℕ) (f : Fed) (n : ℕ) → (k : ℕ) × ((filled need room f n s) .taken ≡ n + k) × (k ≤ length s) × (fed ((filled need room f n s) .fed) (drop k s) ≡ fed f s)
+  unfolding filled fed
+  fill-from [] f n = (0, omega arith, omega arith, refl)
+  fill-from (b ∷ s) f n = go (leb (length (f .text) + need) room) (fill-from s (fedByte f b) (n + 1))
+    where
+      go : (z : Bool) → (k : ℕ) × ((filled need room (fedByte f b) (n + 1) s) .taken ≡ n + 1 + k) × (k ≤ length s) × (fed ((filled need room (fedByte f b) (n + 1) s) .fed) (drop k s) ≡ fed (fedByte f b) s)
+          → (k : ℕ) × ((cond z (filled need room (fedByte f b) (n + 1) s) (record { fed = f; taken = n })) .taken ≡ n + k) × (k ≤ suc (length s))
+          × (fed ((cond z (filled need room (fedByte f b) (n + 1) s) (record { fed = f; taken = n })) .fed) (drop k (b ∷ s)) ≡ fed (fedByte f b) s)
+      go true q = (suc (q .0), omega (arith, q .1), omega (arith, q .2), q .3)
+      go false q = (0, omega arith, omega arith, refl)
+
+  -- no more is taken than there is
+  pub fill-within : (s : List ℕ) (f : Fed) → (filled need room f 0 s) .taken ≤ length s
+  fill-within s f = let q = fill-from s f 0 in omega (arith, q .1, q .2)
+
+  -- and feeding the rest ends where feeding all ends
+  pub fill-again : (s : List ℕ) (f : Fed) → fed ((filled need room f 0 s) .fed) (drop ((filled need room f 0 s) .taken) s) ≡ fed f s
+  fill-again s f =
+      let q = fill-from s f 0 in
+      let k : (filled need room f 0 s) .taken ≡ q .0 = omega (arith, q .1) in
+      ap (λ (m : ℕ). fed ((filled need room f 0 s) .fed) (drop m s)) k ∙ q .3
+
+  -- with room for a line a part is not left whole
+  pub fill-some : (s : List ℕ) (f : Fed) → length (f .text) + need ≤ room → 0 < length s → 0 < (filled need room f 0 s) .taken
+  unfolding filled
+  fill-some [] f fit h = h
+  fill-some (b ∷ s) f fit h = let q = fill-from s (fedByte f b) 1 in rw (le-leb _ _ fit) (omega (arith, q .1))

@@ -1,4 +1,5 @@
 pub mod SummableLaws
+pub mod ShownLaws
 pub mod CutLaws
 pub mod HeldLaws
 pub mod FeedLaws

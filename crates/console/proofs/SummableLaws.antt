@@ -48,7 +48,7 @@ use Rattle.validity.proofs.GoodLaws.{Near, near-table}
 use Rattle.gate_theorems.proofs.RowsLaws.{SameNames, names-moved, names-debited}
 use Rattle.gate_theorems.proofs.CallLaws.{near-debited, opened-other, opened-new}
 use Rattle.orders.specs.Order.{Console}
-use Rattle.orders.specs.Order.{Turn, kindIn, drawOf, startOn, startTurn, openTurn, drawTurn, askTurn, orderTurn, lineTurn}
+use Rattle.orders.specs.Order.{Turn, kindIn, drawOf, startOn, startTurn, openTurn, drawTurn, askTurn, listOf, listTurn, orderTurn, lineTurn}
 use Rattle.line_fields.specs.LineFields.{fieldAt, fieldCount, hasLetter, paramsIn}
 use Rattle.figures.specs.Sums.{Summable}
 
@@ -174,8 +174,12 @@ module _ (x : Console) (t : Rows) (l : List ℕ) (s : Summable (x .gate)) where
   draw-of-summable Malformed = s
   draw-of-summable (Value m) = draw-summable (x .gate) s t ((numberRead (fieldAt 1 l)) .number) (kindIn (kindRead (fieldAt 2 l))) m
 
+  list-of-summable : (d : DayRead) → Left (listOf x t d)
+  list-of-summable NoDate = s
+  list-of-summable (Good d) = cond-elim Left (tableGood (x .gate) t) _ _ (λ _. s) (λ _. s)
+
   order-summable : Left (orderTurn x t l)
-  unfolding orderTurn openTurn drawTurn askTurn
+  unfolding orderTurn openTurn drawTurn askTurn listTurn
   order-summable =
       cond-elim Left (hasLetter 79 l && eqb (fieldCount l) 3) _ _
       (λ _. open-summable (x .gate) s t ((numberRead (fieldAt 1 l)) .number) (kindIn (kindRead (fieldAt 2 l))))
@@ -183,7 +187,9 @@ module _ (x : Console) (t : Rows) (l : List ℕ) (s : Summable (x .gate)) where
       (λ _. draw-of-summable (digitsRead 15 (fieldAt 3 l)))
       (λ _. cond-elim Left (hasLetter 82 l && leb 3 (fieldCount l)) _ _
       (λ _. deliver-summable (x .gate) s t ((dateRead (fieldAt 1 l)) .date) (paramsIn l) (replicate 512 0))
-      (λ _. s)))
+      (λ _. cond-elim Left (hasLetter 80 l && eqb (fieldCount l) 2) _ _
+      (λ _. list-of-summable (dayRead (fieldAt 1 l)))
+      (λ _. s))))
 
   -- balances that can be summed stay so
   pub turn-summable : Summable ((lineTurn x t l) .console .gate)

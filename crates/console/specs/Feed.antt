@@ -1,8 +1,9 @@
 -- How a session reads its input a part at a time.
-use Prim.Native.Nat.{ℕ}
+use Prim.Native.Nat.{ℕ, _+_, _*_}
 use mathlib.Core.List.{List, [], _∷_, _++_}
 use mathlib.Core.Bool.{cond}
-use lib.Dec.{eqb, ltb}
+use lib.Dec.{eqb, leb, ltb}
+use lib.ListN.{length}
 use Rattle.table.specs.Table.{Rows}
 use Rattle.orders.specs.Order.{Console}
 use Rattle.gathering.specs.Held.{Held}
@@ -33,3 +34,18 @@ fed f (b ∷ s) = fed (fedByte f b) s
 -- the end of the input: a last line without 0A is read too
 unfoldable pub finished : Fed → Fed
 finished f = cond (ltb 0 (f .held .len)) (ended f) f
+
+-- ---- a part of the input, taken as far as there is room for what a line can print
+-- 64 bytes for each line that it prints: P prints one for each record, of which a table has at most 4,096, and two more
+unfoldable pub lineRoom : ℕ → ℕ
+lineRoom records = 64 * (cond (ltb records 4096) records 4096 + 2)
+
+pub record Fill : Type 0 where
+  pub fed : Fed
+  pub taken : ℕ
+
+-- `need` is that room, n the number of bytes taken before
+unfoldable pub filled : ℕ → ℕ → Fed → ℕ → List ℕ → Fill
+filled need room f n [] = record { fed = f; taken = n }
+filled need room f n (b ∷ s) =
+    cond (leb (length (f .text) + need) room) (filled need room (fedByte f b) (n + 1) s) (record { fed = f; taken = n })

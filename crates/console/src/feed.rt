@@ -1,26 +1,28 @@
 // A session's input, fed in parts, or whole. Accounts and the bytes of a line that has not ended are lent.
+use crate::show;
 use crate::start;
-use figures::print;
 use gathering::Mark;
 use orders::ConsoleHead;
 use orders::turn;
 use table::columns;
 use texts::scan;
 ghost use mathlib.Core.Path.{_≡_};
-ghost use Prim.Native.Nat.{_+_, _*_, _≤_};
+ghost use Prim.Native.Nat.{_+_, _≤_};
 ghost use lib.ListN.{length};
 ghost use Rattle.table.specs.Lent.{before, after};
 ghost use Rattle.table.specs.Columns.{gateOf, columnsLent, columnsBefore, columnsAfter};
 ghost use Rattle.figures.specs.Sums.{Summable};
 ghost use Rattle.gathering.specs.Held.{heldOf};
 ghost use Rattle.orders.specs.Order.{consoleOf};
+ghost use Rattle.console.specs.Feed.{lineRoom};
 ghost use Rattle.console.specs.Parts.{partOf, feedPart, lastPart, runOf, runAll, EndedAt};
 
-// A session between two parts of its input: its console, where the held line stands, and how many bytes the last part printed.
+// A session between two parts of its input: its console, where the held line stands, how many bytes the last part printed, and how many of its bytes were taken.
 pub struct Part {
     pub console: ConsoleHead,
     pub mark: Mark,
     pub size: usize,
+    pub taken: usize,
 }
 
 // The whole of a session that was run; `ok` is false where the buffer is refused.
@@ -49,7 +51,7 @@ pub(crate) fn end_line(
     out: &mut [u8],
     at: usize,
 ) -> Printed
-    requires { ⌜ Summable (gateOf (x .head) (columnsLent names keys balances)) × (at + 64 ≤ length (now out)) ⌝ }
+    requires { ⌜ Summable (gateOf (x .head) (columnsLent names keys balances)) × (at + lineRoom (length (now nums)) ≤ length (now out)) ⌝ }
     ensures { λ r. ⌜ EndedAt (consoleOf x (columnsBefore names keys balances)) (heldOf (now (bytes .entry)) m) (before nums numbers dates) (now (out .entry)) at
         (consoleOf (r .console) (columnsAfter names keys balances)) (after nums numbers dates) (now (out .exit)) (r .size) ⌝ }
     ensures { λ r. ⌜ Summable (gateOf (r .console .head) (columnsAfter names keys balances)) ⌝ }
@@ -57,11 +59,11 @@ pub(crate) fn end_line(
     let line = scan::first_bytes(bytes, m.len);
     let r = turn::line_turn(nums, numbers, dates, names, keys, balances, x, line);
     let console = r.console;
-    let size = print::write_turn(r.code, balances, console.head, out, at);
+    let size = show::write_shown(nums, numbers, dates, balances, r, out, at);
     Printed { console, size }
 }
 
-// Feeds a part of the input; what its lines print goes to the start of the buffer.
+// Feeds a part of the input; what its lines print goes to the start of the buffer. Where that has no more room for a line, the rest is left to be fed again.
 pub fn feed(
     nums: &mut [[u64; 6]],
     numbers: &mut [[u8; 30]],
@@ -75,16 +77,17 @@ pub fn feed(
     input: &[u8],
     out: &mut [u8],
 ) -> Part
-    requires { ⌜ Summable (gateOf (x .head) (columnsLent names keys balances)) × (64 * length (now input) ≤ length (now out)) ⌝ }
+    requires { ⌜ Summable (gateOf (x .head) (columnsLent names keys balances)) ⌝ }
     ensures { λ r. ⌜ partOf r (columnsAfter names keys balances) (now (bytes .exit)) (after nums numbers dates) (now (out .exit))
         ≡ feedPart (consoleOf x (columnsBefore names keys balances)) (heldOf (now (bytes .entry)) m) (before nums numbers dates) (now (input .entry)) (now (out .entry)) ⌝ }
     ensures { λ r. ⌜ Summable (gateOf (r .console .head) (columnsAfter names keys balances)) ⌝ }
 {
+    let need = show::line_room(nums.len());
     let mut console = x;
     let mut mark = m;
     let mut size: usize = 0;
     let mut at: usize = 0;
-    while at < input.len() {
+    while show::goes_on(at, input.len(), size, out.len(), need) {
         let g = gathering::gather(bytes, mark, input, at);
         let held = g.mark;
         if !g.ended {
@@ -92,6 +95,7 @@ pub fn feed(
                 console,
                 mark: held,
                 size,
+                taken: g.at,
             };
         }
         let s = end_line(
@@ -116,6 +120,7 @@ pub fn feed(
         console,
         mark,
         size,
+        taken: at,
     }
 }
 
@@ -133,7 +138,7 @@ pub fn finish(
     out: &mut [u8],
     at: usize,
 ) -> Part
-    requires { ⌜ Summable (gateOf (x .head) (columnsLent names keys balances)) × (at + 64 ≤ length (now out)) ⌝ }
+    requires { ⌜ Summable (gateOf (x .head) (columnsLent names keys balances)) × (at + lineRoom (length (now nums)) ≤ length (now out)) ⌝ }
     ensures { λ r. ⌜ partOf r (columnsAfter names keys balances) (now (bytes .entry)) (after nums numbers dates) (now (out .exit))
         ≡ lastPart (consoleOf x (columnsBefore names keys balances)) (heldOf (now (bytes .entry)) m) (before nums numbers dates) (now (out .entry)) at ⌝ }
 {
@@ -142,6 +147,7 @@ pub fn finish(
             console: x,
             mark: m,
             size: at,
+            taken: 0,
         };
     }
     let s = end_line(
@@ -162,10 +168,11 @@ pub fn finish(
         console,
         mark: gathering::new_mark(),
         size: s.size,
+        taken: 0,
     }
 }
 
-// Runs a whole session; the output has to have room for 64 bytes a line.
+// Runs a whole session; the output has to have room for what a line can print, at each byte and once more.
 pub fn run_session(
     nums: &mut [[u64; 6]],
     numbers: &mut [[u8; 30]],
@@ -175,7 +182,7 @@ pub fn run_session(
 ) -> Run
     ensures { λ r. ⌜ runOf r (after nums numbers dates) (now (out .exit)) ≡ runAll (before nums numbers dates) (now (input .entry)) (now (out .entry)) ⌝ }
 {
-    if out.len() / 64 <= input.len() {
+    if out.len() / show::line_room(nums.len()) <= input.len() {
         return Run { ok: false, size: 0 };
     }
     let mut names = columns::empty_names();

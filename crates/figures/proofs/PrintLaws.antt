@@ -1,6 +1,6 @@
 -- Laws of what a line prints.
 use Prim.Native.Nat.{ℕ, suc, _+_, _-_, _≤_}
-use native.Mathlib.Nat.{not-suc-le-zero}
+use native.Mathlib.Nat.{not-suc-le-zero, add-assoc}
 use native.Mathlib.Omega.{arith}
 use mathlib.Core.Path.{_≡_, refl, sym, ap, _∙_, subst}
 use mathlib.Core.List.{List, [], _∷_, _++_, append-assoc}
@@ -14,15 +14,17 @@ use mir.Syntax.{w64}
 use mir.Val.{Fits, SFits, toZ, ofZ}
 use borrow.Author.Tests.{eq-eqb, ne-eqb, le-ltb, ltb-true}
 use Rattle.texts.specs.Digits.{fixed, leadZeros, decimal}
-use Rattle.texts.specs.Lists.{written, cursorAfter}
+use Rattle.texts.specs.Lists.{over, written, cursorAfter}
 use Rattle.texts.proofs.Tests.{cond-elim, no-claim}
-use Rattle.texts.proofs.OutLaws.{cursor-moves, written-over, cursor-then, written-then}
+use Rattle.texts.proofs.OutLaws.{over-length, over-over, cursor-moves, written-over}
 use Rattle.texts.proofs.DecimalLaws.{decimal-size}
 use Rattle.table.specs.declared.Gate.{Gate}
 use Rattle.table.specs.Accounts.{accountsOf}
 use Rattle.table.proofs.SignedLaws.{small, back}
 use Rattle.figures.specs.Figures.{sumBalances, signedText, figures, printed}
 use Rattle.figures.specs.Sums.{countsText}
+use Rattle.figures.specs.Daily.{sumText}
+use Rattle.figures.specs.Listing.{Put}
 
 -- ---- the size of a number
 before-zero : (a : ℕ) → ltb a 0 ≡ true → ⊥
@@ -92,14 +94,17 @@ module _ (d : List ℕ) (at : ℕ) (xs ys : List ℕ) where
   text-written e p q = rw (← q) p
 
 -- the text that stands before the cursor
-first-written : (d : List ℕ) (at : ℕ) (xs : List ℕ) → at + length xs ≤ length d → take (cursorAfter d at xs) (written d at xs) ≡ take at d ++ xs
-first-written d at xs fit =
+first-over : (d : List ℕ) (at : ℕ) (xs : List ℕ) → at + length xs ≤ length d → take (at + length xs) (over d at xs) ≡ take at d ++ xs
+first-over d at xs fit =
     let l : length (take at d) ≡ at = length-take-le at d (omega arith) in
     let h : length (take at d ++ xs) ≡ at + length xs = rw (length-append, l) in
-    rw (← cursor-moves d at xs fit, ← written-over d at xs fit, ← append-assoc (take at d) xs (drop (at + length xs) d)) (take-at (take at d ++ xs) (drop (at + length xs) d) (at + length xs) h)
+    rw (← append-assoc (take at d) xs (drop (at + length xs) d)) (take-at (take at d ++ xs) (drop (at + length xs) d) (at + length xs) h)
+
+first-written : (d : List ℕ) (at : ℕ) (xs : List ℕ) → at + length xs ≤ length d → take (cursorAfter d at xs) (written d at xs) ≡ take at d ++ xs
+first-written d at xs fit = rw (← cursor-moves d at xs fit, ← written-over d at xs fit) (first-over d at xs fit)
 
 -- a number has at most twenty digits
-decimal-twenty : (n : ℕ) → length (decimal n) ≤ 20
+pub decimal-twenty : (n : ℕ) → length (decimal n) ≤ 20
 decimal-twenty n = let e = decimal-size n (leadZeros (fixed 20 n)) (fixed 20 n) refl refl in omega arith
 
 pub led-text : (lead n k : ℕ) (e f : List ℕ) → f ≡ take k e → k ≡ cursorAfter (replicate 24 lead) 1 (decimal n) → e ≡ written (replicate 24 lead) 1 (decimal n) → f ≡ lead ∷ decimal n
@@ -128,18 +133,24 @@ module _ (z : ℤ) (f : SFits w64 z) (n : ℕ) (en : n ≡ natAbs (toZ w64 (ofZ 
   pub signed-above : ltZ (toZ w64 (ofZ w64 z)) (pos 0) ≡ false → decimal n ≡ signedText z
   signed-above h = rw (en, self z f) (above-text z (over-zero z f h))
 
--- ---- the figures, put one behind the other
-record Put (d xs : List ℕ) (p : ℕ) (e : List ℕ) : Type 0 where
-  cursor : p ≡ cursorAfter d 0 xs
-  text : e ≡ written d 0 xs
+-- ---- texts put one behind the other
+pub put-first : {d : List ℕ} {at : ℕ} {xs : List ℕ} → at + length xs ≤ length d → (p : ℕ) (e : List ℕ) → p ≡ cursorAfter d at xs → e ≡ written d at xs → Put d at xs p e
+put-first {d} {at} {xs} fit p e ep ee = record { fits = fit; cursor = ep ∙ sym (cursor-moves d at xs fit); text = ee ∙ sym (written-over d at xs fit) }
 
-put-then : (d xs ys : List ℕ) (p q : ℕ) (e f : List ℕ) → Put d xs p e → length xs + length ys ≤ length d → q ≡ cursorAfter e p ys → f ≡ written e p ys → Put d (xs ++ ys) q f
-put-then d xs ys p q e f put fit eq ef =
-    let room : 0 + (length xs + length ys) ≤ length d = omega arith in
-    record {
-      cursor = eq ∙ rw (put .cursor, put .text) (cursor-then d 0 xs ys room);
-      text = ef ∙ rw (put .cursor, put .text) (written-then d 0 xs ys room);
-    }
+module _ {d : List ℕ} {at : ℕ} {xs : List ℕ} {p : ℕ} {e : List ℕ} (a : Put d at xs p e) where
+  pub put-length : length e ≡ length d
+  put-length = ap length (a .text) ∙ over-length d at xs (a .fits)
+
+  pub put-both : {ys : List ℕ} {q : ℕ} {f : List ℕ} → Put e p ys q f → Put d at (xs ++ ys) q f
+  put-both {ys} {q} {f} b =
+      record {
+        fits = rw (length-append xs ys) (omega (arith, b .fits, a .cursor, put-length));
+        cursor = b .cursor ∙ rw (length-append xs ys, a .cursor) (add-assoc at (length xs) (length ys));
+        text = b .text ∙ rw (a .text, a .cursor) (over-over d at xs (a .fits) ys);
+      }
+
+  put-then : (ys : List ℕ) → at + (length xs + length ys) ≤ length d → (q : ℕ) (f : List ℕ) → q ≡ cursorAfter e p ys → f ≡ written e p ys → Put d at (xs ++ ys) q f
+  put-then ys fit q f eq ef = put-both (put-first (omega (arith, a .cursor, put-length)) q f eq ef)
 
 -- at most 64 bytes
 figures-length : (code : ℕ) (g : Gate) → length (figures code g) ≤ 64
@@ -152,50 +163,60 @@ unfolding printed
 printed-length code g =
     cond-elim (λ (x : List ℕ). length x ≤ 64) (eqb code 99) (57 ∷ (57 ∷ (10 ∷ []))) (figures code g) (λ _. omega arith) (λ _. figures-length code g)
 
-module _ (d : List ℕ) (fit : 64 ≤ length d) where
-  counts-length : (code used : ℕ) → length (countsText code used) ≤ 42
-  counts-length code used = rw (length-append, length-append) (omega (arith, decimal-twenty code, decimal-twenty used))
+-- two numbers, a space between them
+module _ (d : List ℕ) (at : ℕ) (fit : at + 64 ≤ length d) (m n : ℕ)
+    (p₁ : ℕ) (c₁ : p₁ ≡ cursorAfter d at (decimal m)) (e₁ : List ℕ) (t₁ : e₁ ≡ written d at (decimal m))
+    (p₂ : ℕ) (c₂ : p₂ ≡ cursorAfter e₁ p₁ (32 ∷ decimal n)) (e₂ : List ℕ) (t₂ : e₂ ≡ written e₁ p₁ (32 ∷ decimal n)) where
+  two-length : length (decimal m ++ (32 ∷ decimal n)) ≤ 41
+  two-length = rw (length-append (decimal m)) (omega (arith, decimal-twenty m, decimal-twenty n))
 
-  module _ (code used : ℕ) (p₁ : ℕ) (c₁ : p₁ ≡ cursorAfter d 0 (decimal code)) (e₁ : List ℕ) (t₁ : e₁ ≡ written d 0 (decimal code))
-      (p₂ : ℕ) (c₂ : p₂ ≡ cursorAfter e₁ p₁ (32 ∷ decimal used)) (e₂ : List ℕ) (t₂ : e₂ ≡ written e₁ p₁ (32 ∷ decimal used)) where
-    put-counts : (q : ℕ) (e : List ℕ) → q ≡ cursorAfter e₂ p₂ (32 ∷ []) → e ≡ written e₂ p₂ (32 ∷ []) → Put d (countsText code used) q e
-    put-counts q e eq ee =
-        let a = decimal-twenty code in
-        let b = decimal-twenty used in
-        put-then d _ _ p₂ q e₂ e
-        (put-then d _ _ p₁ p₂ e₁ e₂ (record { cursor = c₁; text = t₁ }) (omega arith) c₂ t₂)
-        (rw length-append (omega arith)) eq ee
+  two-put : Put d at (decimal m ++ (32 ∷ decimal n)) p₂ e₂
+  two-put =
+      put-then (put-first (omega (arith, decimal-twenty m)) p₁ e₁ c₁ t₁) (32 ∷ decimal n) (omega (arith, decimal-twenty m, decimal-twenty n)) p₂ e₂ c₂ t₂
 
-    pub counts-cursor : (q : ℕ) → q ≡ cursorAfter e₂ p₂ (32 ∷ []) → q ≡ cursorAfter d 0 (countsText code used)
-    counts-cursor q eq = (put-counts q (written e₂ p₂ (32 ∷ [])) eq refl) .cursor
+  pub counts-put : (q : ℕ) (e : List ℕ) → q ≡ cursorAfter e₂ p₂ (32 ∷ []) → e ≡ written e₂ p₂ (32 ∷ []) → Put d at (countsText m n) q e
+  counts-put q e eq ee = put-then two-put (32 ∷ []) (omega (arith, two-length)) q e eq ee
 
-    pub counts-written : (e : List ℕ) → e ≡ written e₂ p₂ (32 ∷ []) → e ≡ written d 0 (countsText code used)
-    counts-written e ee = (put-counts (cursorAfter e₂ p₂ (32 ∷ [])) e refl ee) .text
+  pub sum-put : (q : ℕ) (e : List ℕ) → q ≡ cursorAfter e₂ p₂ (10 ∷ []) → e ≡ written e₂ p₂ (10 ∷ []) → Put d at (sumText m n) q e
+  unfolding sumText
+  sum-put q e eq ee =
+      subst (λ (x : List ℕ). Put d at x q e) (append-assoc (decimal m) (32 ∷ decimal n) (10 ∷ []))
+      (put-then two-put (10 ∷ []) (omega (arith, two-length)) q e eq ee)
 
-  module _ (code : ℕ) (g : Gate) (z : ℤ) (ez : z ≡ sumBalances (accountsOf g)) (near : mag z ≤ 6000000000000000)
-      (p₁ : ℕ) (c₁ : p₁ ≡ cursorAfter d 0 (countsText code (g .used))) (e₁ : List ℕ) (t₁ : e₁ ≡ written d 0 (countsText code (g .used)))
-      (p₂ : ℕ) (c₂ : p₂ ≡ cursorAfter e₁ p₁ (signedText (toZ w64 (ofZ w64 z)))) (e₂ : List ℕ) (t₂ : e₂ ≡ written e₁ p₁ (signedText (toZ w64 (ofZ w64 z)))) where
-    sum-now : toZ w64 (ofZ w64 z) ≡ sumBalances (accountsOf g)
-    sum-now = back z (omega arith) ∙ ez
+  -- and a third
+  module _ (k p₃ : ℕ) (c₃ : p₃ ≡ cursorAfter e₂ p₂ (32 ∷ decimal k)) (e₃ : List ℕ) (t₃ : e₃ ≡ written e₂ p₂ (32 ∷ decimal k)) where
+    pub three-put : (q : ℕ) (e : List ℕ) → q ≡ cursorAfter e₃ p₃ (10 ∷ []) → e ≡ written e₃ p₃ (10 ∷ [])
+        → Put d at (decimal m ++ ((32 ∷ decimal n) ++ ((32 ∷ decimal k) ++ (10 ∷ [])))) q e
+    three-put q e eq ee =
+        let three : Put d at ((decimal m ++ (32 ∷ decimal n)) ++ (32 ∷ decimal k)) p₃ e₃
+        = put-then two-put (32 ∷ decimal k) (omega (arith, two-length, decimal-twenty k)) p₃ e₃ c₃ t₃ in
+        let most : length ((decimal m ++ (32 ∷ decimal n)) ++ (32 ∷ decimal k)) ≤ 62
+        = rw (length-append (decimal m ++ (32 ∷ decimal n))) (omega (arith, two-length, decimal-twenty k)) in
+        subst (λ (x : List ℕ). Put d at x q e)
+        (append-assoc (decimal m ++ (32 ∷ decimal n)) (32 ∷ decimal k) (10 ∷ []) ∙ append-assoc (decimal m) (32 ∷ decimal n) ((32 ∷ decimal k) ++ (10 ∷ [])))
+        (put-then three (10 ∷ []) (omega (arith, most)) q e eq ee)
 
-    figures-are : (countsText code (g .used) ++ signedText (toZ w64 (ofZ w64 z))) ++ (10 ∷ []) ≡ figures code g
-    unfolding figures
-    figures-are = rw sum-now (simp append-assoc)
+-- the figures of a line
+module _ (d : List ℕ) (fit : 64 ≤ length d) (code : ℕ) (g : Gate) (z : ℤ) (ez : z ≡ sumBalances (accountsOf g)) (near : mag z ≤ 6000000000000000)
+    (p₁ : ℕ) (e₁ : List ℕ) (put : Put d 0 (countsText code (g .used)) p₁ e₁)
+    (p₂ : ℕ) (c₂ : p₂ ≡ cursorAfter e₁ p₁ (signedText (toZ w64 (ofZ w64 z)))) (e₂ : List ℕ) (t₂ : e₂ ≡ written e₁ p₁ (signedText (toZ w64 (ofZ w64 z)))) where
+  sum-now : toZ w64 (ofZ w64 z) ≡ sumBalances (accountsOf g)
+  sum-now = back z (omega arith) ∙ ez
 
-    put-all : (q : ℕ) (e : List ℕ) → q ≡ cursorAfter e₂ p₂ (10 ∷ []) → e ≡ written e₂ p₂ (10 ∷ []) → Put d (figures code g) q e
-    put-all q e eq ee =
-        let a = counts-length code (g .used) in
-        let y = signed-length (toZ w64 (ofZ w64 z)) in
-        subst (λ (x : List ℕ). Put d x q e) figures-are
-        (put-then d (countsText code (g .used) ++ signedText (toZ w64 (ofZ w64 z))) (10 ∷ []) p₂ q e₂ e
-        (put-then d (countsText code (g .used)) (signedText (toZ w64 (ofZ w64 z))) p₁ p₂ e₁ e₂ (record { cursor = c₁; text = t₁ }) (omega arith) c₂ t₂)
-        (rw (length-append (countsText code (g .used))) (omega arith)) eq ee)
+  figures-are : (countsText code (g .used) ++ signedText (toZ w64 (ofZ w64 z))) ++ (10 ∷ []) ≡ figures code g
+  unfolding figures
+  figures-are = rw sum-now (simp append-assoc)
 
-    pub figures-cursor : (q : ℕ) → q ≡ cursorAfter e₂ p₂ (10 ∷ []) → q ≡ cursorAfter d 0 (figures code g)
-    figures-cursor q eq = (put-all q (written e₂ p₂ (10 ∷ [])) eq refl) .cursor
+  counts-length : length (countsText code (g .used)) ≤ 42
+  counts-length = rw (length-append, length-append) (omega (arith, decimal-twenty code, decimal-twenty (g .used)))
 
-    pub figures-written : (e : List ℕ) → e ≡ written e₂ p₂ (10 ∷ []) → e ≡ written d 0 (figures code g)
-    figures-written e ee = (put-all (cursorAfter e₂ p₂ (10 ∷ [])) e refl ee) .text
+  pub figures-put : (q : ℕ) (e : List ℕ) → q ≡ cursorAfter e₂ p₂ (10 ∷ []) → e ≡ written e₂ p₂ (10 ∷ []) → Put d 0 (figures code g) q e
+  figures-put q e eq ee =
+      let y = signed-length (toZ w64 (ofZ w64 z)) in
+      let most : length (countsText code (g .used) ++ signedText (toZ w64 (ofZ w64 z))) ≤ 63
+      = rw (length-append (countsText code (g .used))) (omega (arith, counts-length)) in
+      subst (λ (x : List ℕ). Put d 0 x q e) figures-are
+      (put-then (put-then put (signedText (toZ w64 (ofZ w64 z))) (omega (arith, counts-length)) p₂ e₂ c₂ t₂) (10 ∷ []) (omega (arith, most)) q e eq ee)
 
 -- ---- what a line prints
 module _ (code : ℕ) (g : Gate) where
@@ -203,9 +224,6 @@ module _ (code : ℕ) (g : Gate) where
   unfolding printed
   prints-99 e = rw (eq-eqb _ _ e)
 
-  pub prints-figures : (code ≡ 99 → ⊥) → (k : ℕ) (e f : List ℕ) → f ≡ take k e → k ≡ cursorAfter (replicate 64 0) 0 (figures code g) → e ≡ written (replicate 64 0) 0 (figures code g)
-      → f ≡ printed code g
+  pub prints-figures : (code ≡ 99 → ⊥) → (k : ℕ) (e f : List ℕ) → f ≡ take k e → Put (replicate 64 0) 0 (figures code g) k e → f ≡ printed code g
   unfolding printed
-  prints-figures n k e f ef ek ee =
-      let fit : 0 + length (figures code g) ≤ length {A = ℕ} (replicate 64 0) = omega (arith, figures-length code g) in
-      ef ∙ rw (ek, ee, ne-eqb _ _ n) (first-written (replicate 64 0) 0 (figures code g) fit)
+  prints-figures n k e f ef put = ef ∙ rw (ne-eqb _ _ n) (ap (λ (x : List ℕ). take k x) (put .text) ∙ rw (put .cursor) (first-over (replicate 64 0) 0 (figures code g) (put .fits)))

@@ -1,2 +1,4 @@
 pub mod Figures
 pub mod Sums
+pub mod Daily
+pub mod Listing

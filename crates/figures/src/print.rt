@@ -13,6 +13,7 @@ ghost use Rattle.texts.specs.Digits.{decimal};
 ghost use Rattle.texts.specs.Lists.{written, cursorAfter};
 ghost use Rattle.figures.specs.Figures.{signedText, figures, printed};
 ghost use Rattle.figures.specs.Sums.{Summable, nameless, countsText};
+ghost use Rattle.figures.specs.Listing.{Put};
 
 // How far a number is from 0; the least of 64 bits has no opposite among them.
 fn size_of(z: i64) -> u64
@@ -22,7 +23,7 @@ fn size_of(z: i64) -> u64
 }
 
 // Writes a byte and a number behind it at the cursor, where both have room.
-fn write_led(lead: u8, n: u64, dst: &mut [u8], at: usize) -> usize
+pub(crate) fn write_led(lead: u8, n: u64, dst: &mut [u8], at: usize) -> usize
     ensures { λ r. ⌜ (r ≡ cursorAfter (now (dst .entry)) at (lead ∷ decimal n)) × (now (dst .exit) ≡ written (now (dst .entry)) at (lead ∷ decimal n)) ⌝ }
 {
     let mut row = [lead; 24];
@@ -45,7 +46,7 @@ fn write_signed(z: i64, dst: &mut [u8], at: usize) -> usize
 // Puts code and records used into a row that has room for any, each with a space behind it.
 fn put_counts(code: u64, used: u64, row: &mut [u8]) -> usize
     requires { ⌜ 64 ≤ length (now row) ⌝ }
-    ensures { λ r. ⌜ (r ≡ cursorAfter (now (row .entry)) 0 (countsText code used)) × (now (row .exit) ≡ written (now (row .entry)) 0 (countsText code used)) ⌝ }
+    ensures { λ r. ⌜ Put (now (row .entry)) 0 (countsText code used) r (now (row .exit)) ⌝ }
 {
     let a = digits::write_digits(code, row, 0);
     let b = write_led(b' ', used, row, a);
@@ -56,7 +57,7 @@ fn put_counts(code: u64, used: u64, row: &mut [u8]) -> usize
 fn put_figures(code: u64, balances: &[i64; 256], h: Head, row: &mut [u8]) -> usize
     requires { ⌜ Summable (nameless h (now balances)) ⌝ }
     requires { ⌜ 64 ≤ length (now row) ⌝ }
-    ensures { λ r. ⌜ (r ≡ cursorAfter (now (row .entry)) 0 (figures code (nameless h (now (balances .entry))))) × (now (row .exit) ≡ written (now (row .entry)) 0 (figures code (nameless h (now (balances .entry))))) ⌝ }
+    ensures { λ r. ⌜ Put (now (row .entry)) 0 (figures code (nameless h (now (balances .entry)))) r (now (row .exit)) ⌝ }
 {
     let sum = sums::sum_balances(balances, h);
     let used = h.used as u64;

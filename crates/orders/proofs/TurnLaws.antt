@@ -21,11 +21,13 @@ use Rattle.days.specs.Calendar.{dayRead}
 use Rattle.dates.specs.Date.{dateRead}
 use Rattle.table.specs.Table.{Rows}
 use Rattle.table.specs.Accounts.{withClosed}
+use Rattle.validity.specs.Valid.{tableGood}
 use Rattle.ledger.specs.declared.Reply.{Reply}
 use Rattle.opening.specs.Opening.{openAccount, drawFunds}
 use Rattle.gate.specs.Deliver.{deliver}
 use Rattle.admission.specs.Delivery.{Delivery}
-use Rattle.orders.specs.Order.{Console, Turn, unread, replied, answered, kindIn, startTurn, openTurn, drawTurn, askTurn, orderTurn, lineTurn}
+use Rattle.orders.specs.declared.turn.Shown.the-variants.{Figures, Payments}
+use Rattle.orders.specs.Order.{Console, Turn, unread, replied, answered, kindIn, startTurn, openTurn, drawTurn, askTurn, listTurn, orderTurn, lineTurn}
 use Rattle.line_fields.specs.LineFields.{fieldAt, fieldCount, hasLetter, paramsIn}
 
 -- ---- the account that a line names
@@ -73,6 +75,21 @@ module _ (x : Console) (t : Rows) (l : List ℕ) (r : Turn) where
   unfolding askTurn
   ask-done f ef d ed p ep a ea er = er ∙ rw (ea, ep, ed, ef)
 
+  -- ---- P
+  module _ (f : List ℕ) (ef : f ≡ fieldAt 1 l) (d : DayRead) (ed : d ≡ dayRead f) where
+    pub list-none : d ≡ NoDate → r ≡ unread x t → r ≡ listTurn x t l
+    unfolding listTurn
+    list-none n e = e ∙ rw (← ef, ← ed, n)
+
+    module _ (day : Day) (n : d ≡ Good day) (b : Bool) (eb : b ≡ tableGood (x .gate) t) where
+      pub list-faulty : not b ≡ true → r ≡ record { code = 68; console = x; rows = t; shown = Figures } → r ≡ listTurn x t l
+      unfolding listTurn
+      list-faulty h e = e ∙ rw (← ef, ← ed, n, ← eb, not-true b h)
+
+      pub list-day : not b ≡ false → r ≡ record { code = 0; console = x; rows = t; shown = Payments day } → r ≡ listTurn x t l
+      unfolding listTurn
+      list-day h e = e ∙ rw (← ef, ← ed, n, ← eb, not-false b h)
+
   -- ---- the letter decides
   module _ (b₁ : Bool) (e₁ : b₁ ≡ hasLetter 79 l && eqb (fieldCount l) 3) where
     pub order-open : b₁ ≡ true → r ≡ openTurn x t l → r ≡ orderTurn x t l
@@ -89,9 +106,14 @@ module _ (x : Console) (t : Rows) (l : List ℕ) (r : Turn) where
         unfolding orderTurn
         order-ask h e = e ∙ rw (← e₁, n₁, ← e₂, n₂, ← e₃, h)
 
-        pub order-none : b₃ ≡ false → r ≡ unread x t → r ≡ orderTurn x t l
-        unfolding orderTurn
-        order-none h e = e ∙ rw (← e₁, n₁, ← e₂, n₂, ← e₃, h)
+        module _ (n₃ : b₃ ≡ false) (b₄ : Bool) (e₄ : b₄ ≡ hasLetter 80 l && eqb (fieldCount l) 2) where
+          pub order-list : b₄ ≡ true → r ≡ listTurn x t l → r ≡ orderTurn x t l
+          unfolding orderTurn
+          order-list h e = e ∙ rw (← e₁, n₁, ← e₂, n₂, ← e₃, n₃, ← e₄, h)
+
+          pub order-none : b₄ ≡ false → r ≡ unread x t → r ≡ orderTurn x t l
+          unfolding orderTurn
+          order-none h e = e ∙ rw (← e₁, n₁, ← e₂, n₂, ← e₃, n₃, ← e₄, h)
 
   -- ---- a started session, and one that is not
   pub turn-order : x .started ≡ true → r ≡ orderTurn x t l → r ≡ lineTurn x t l

@@ -14,16 +14,20 @@ use Rattle.fields.specs.Number.{numberRead}
 use Rattle.days.specs.Calendar.{dayFault, dayRead}
 use Rattle.dates.specs.Date.{dateRead}
 use Rattle.table.specs.declared.Gate.{Gate}
-use Rattle.table.specs.Table.{Rows}
+use Rattle.table.specs.Table.{Rows, recordsOf}
 use Rattle.table.specs.Columns.{Columns, gateOf}
 use Rattle.table.specs.Accounts.{withClosed}
+use Rattle.validity.specs.Valid.{tableGood}
 use Rattle.ledger.specs.declared.Reply.{Reply}
 use Rattle.opening.specs.Opening.{openAccount, drawFunds}
 use Rattle.gate.specs.Deliver.{deliver}
 use Rattle.admission.specs.Delivery.{Delivery}
 use Rattle.line_fields.specs.LineFields.{fieldCount, fieldAt, hasLetter, paramsIn}
 use Rattle.figures.specs.Figures.{printed}
+use Rattle.figures.specs.Daily.{dayText}
 use Rattle.orders.specs.declared.ConsoleHead.{ConsoleHead}
+use Rattle.orders.specs.declared.turn.Shown.{Shown}
+use Rattle.orders.specs.declared.turn.Shown.the-variants.{Figures, Payments}
 use Rattle.orders.specs.declared.turn.Turn.{Turn as Given}
 
 -- the gate of a session, once a closed day has started it; its accounts are lent in columns
@@ -35,20 +39,21 @@ abbrev pub consoleOf : ConsoleHead → Columns → Console
 consoleOf x a = record { started = x .started; gate = gateOf (x .head) a }
 
 -- ---- what a line does
--- its code, or 99; the console and the rows after it
+-- its code, or 99; the console and the rows after it; what of them it prints
 pub record Turn : Type 0 where
   pub code : ℕ
   pub console : Console
   pub rows : Rows
+  pub shown : Shown
 
 abbrev pub turnOf : Given → Columns → Rows → Turn
-turnOf r a rows = record { code = r .code; console = consoleOf (r .console) a; rows = rows }
+turnOf r a rows = record { code = r .code; console = consoleOf (r .console) a; rows = rows; shown = r .shown }
 
 abbrev pub unread : Console → Rows → Turn
-unread x t = record { code = 99; console = x; rows = t }
+unread x t = record { code = 99; console = x; rows = t; shown = Figures }
 
 abbrev pub replied : Rows → Reply → Turn
-replied t r = record { code = r .code; console = record { started = true; gate = r .gate }; rows = t }
+replied t r = record { code = r .code; console = record { started = true; gate = r .gate }; rows = t; shown = Figures }
 
 -- C day: a day that is a date starts the session, and a day that is none is 99
 abbrev pub startAt : Console → DayRead → Console
@@ -56,7 +61,7 @@ startAt x NoDate = x
 startAt x (Good d) = record { started = true; gate = withClosed (x .gate) d }
 
 abbrev pub startOn : Console → Rows → DayRead → Turn
-startOn x t d = record { code = dayFault 99 d; console = startAt x d; rows = t }
+startOn x t d = record { code = dayFault 99 d; console = startAt x d; rows = t; shown = Figures }
 
 unfoldable pub startTurn : Console → Rows → List ℕ → Turn
 startTurn x t l = cond (hasLetter 67 l && eqb (fieldCount l) 2) (startOn x t (dayRead (fieldAt 1 l))) (unread x t)
@@ -80,21 +85,35 @@ drawTurn x t l = drawOf x t l (digitsRead 15 (fieldAt 3 l))
 
 -- R clock parameters: the answer goes into a buffer of 512 bytes
 abbrev pub answered : Delivery → Turn
-answered d = record { code = d .code; console = record { started = true; gate = d .gate }; rows = d .rows }
+answered d = record { code = d .code; console = record { started = true; gate = d .gate }; rows = d .rows; shown = Figures }
 
 unfoldable pub askTurn : Console → Rows → List ℕ → Turn
 askTurn x t l = answered (deliver (x .gate) t ((dateRead (fieldAt 1 l)) .date) (paramsIn l) (replicate 512 0))
+
+-- P day: a day that is a date is printed; as with every call, not from a table that is out of its ranges
+abbrev pub listOf : Console → Rows → DayRead → Turn
+listOf x t NoDate = unread x t
+listOf x t (Good d) =
+    cond (tableGood (x .gate) t) (record { code = 0; console = x; rows = t; shown = Payments d }) (record { code = 68; console = x; rows = t; shown = Figures })
+
+unfoldable pub listTurn : Console → Rows → List ℕ → Turn
+listTurn x t l = listOf x t (dayRead (fieldAt 1 l))
 
 -- the letter decides; another letter or field count is 99, and so is every C of a started session
 unfoldable pub orderTurn : Console → Rows → List ℕ → Turn
 orderTurn x t l =
     cond (hasLetter 79 l && eqb (fieldCount l) 3) (openTurn x t l)
     (cond (hasLetter 68 l && eqb (fieldCount l) 4) (drawTurn x t l)
-    (cond (hasLetter 82 l && leb 3 (fieldCount l)) (askTurn x t l) (unread x t)))
+    (cond (hasLetter 82 l && leb 3 (fieldCount l)) (askTurn x t l)
+    (cond (hasLetter 80 l && eqb (fieldCount l) 2) (listTurn x t l) (unread x t))))
 
 unfoldable pub lineTurn : Console → Rows → List ℕ → Turn
 lineTurn x t l = cond (x .started) (orderTurn x t l) (startTurn x t l)
 
--- what it prints
+-- what it prints: the usual line, or the payments of a day
+unfoldable pub shownText : Shown → ℕ → Gate → Rows → List ℕ
+shownText Figures code g t = printed code g
+shownText (Payments d) code g t = dayText d (recordsOf t (g .used))
+
 abbrev pub turnText : Turn → List ℕ
-turnText r = printed (r .code) (r .console .gate)
+turnText r = shownText (r .shown) (r .code) (r .console .gate) (r .rows)

@@ -2,6 +2,7 @@
 use crate::ConsoleHead;
 use dates::date;
 use days::calendar;
+use days::calendar::Day;
 use days::calendar::DayRead;
 use fields::codes;
 use fields::number;
@@ -10,6 +11,7 @@ use gate::deliver;
 use ledger::HeadReply;
 use texts::digits;
 use texts::digits::Digits;
+use validity::valid;
 ghost use mathlib.Core.Path.{_≡_};
 ghost use mathlib.Core.Bool.{true};
 ghost use Rattle.fields.specs.Codes.{kindRead};
@@ -19,12 +21,19 @@ ghost use Rattle.table.specs.Lent.{before, after};
 ghost use Rattle.table.specs.Columns.{Columns, columnsBefore, columnsAfter, columnsMoved};
 ghost use Rattle.opening.specs.Opening.{lentReply};
 ghost use Rattle.line_fields.specs.LineFields.{fieldAt};
-ghost use Rattle.orders.specs.Order.{consoleOf, turnOf, unread, replied, kindIn, startTurn, openTurn, drawTurn, askTurn, orderTurn, lineTurn};
+ghost use Rattle.orders.specs.Order.{consoleOf, turnOf, unread, replied, kindIn, startTurn, openTurn, drawTurn, askTurn, listTurn, orderTurn, lineTurn};
 
-// A line's code, or 99, and the console after it.
+// What a line prints: its figures, or the payments of a day.
+pub enum Shown {
+    Figures,
+    Payments(Day),
+}
+
+// A line's code, or 99, the console after it, and what it prints.
 pub struct Turn {
     pub code: u64,
     pub console: ConsoleHead,
+    pub shown: Shown,
 }
 
 // The account that a line names.
@@ -40,6 +49,7 @@ fn not_read(x: ConsoleHead) -> Turn
     Turn {
         code: 99,
         console: x,
+        shown: Shown::Figures,
     }
 }
 
@@ -54,6 +64,7 @@ fn answered(r: HeadReply) -> Turn
             started: true,
             head,
         },
+        shown: Shown::Figures,
     }
 }
 
@@ -188,6 +199,37 @@ fn ask_turn(
     ))
 }
 
+// P: the payments of a day are printed.
+fn list_turn(
+    nums: &[[u64; 6]],
+    numbers: &[[u8; 30]],
+    dates: &[[[u8; 19]; 3]],
+    names: &[[u8; 30]; 256],
+    keys: &[[u64; 2]; 256],
+    balances: &[i64; 256],
+    x: ConsoleHead,
+    line: &[u8],
+) -> Turn
+    ensures { λ r. ⌜ turnOf r (columnsBefore names keys balances) (before nums numbers dates)
+        ≡ listTurn (consoleOf x (columnsBefore names keys balances)) (before nums numbers dates) (now (line .entry)) ⌝ }
+{
+    let DayRead::Good(d) = calendar::read_day(line_fields::field_at(line, 1)) else {
+        return not_read(x);
+    };
+    if !valid::table_good(nums, numbers, dates, names, keys, balances, x.head) {
+        return Turn {
+            code: 68,
+            console: x,
+            shown: Shown::Figures,
+        };
+    }
+    Turn {
+        code: 0,
+        console: x,
+        shown: Shown::Payments(d),
+    }
+}
+
 // A line of a started session, by its letter.
 fn order_turn(
     nums: &mut [[u64; 6]],
@@ -210,6 +252,9 @@ fn order_turn(
     }
     if line_fields::has_least(line, b'R', 3) {
         return ask_turn(nums, numbers, dates, names, keys, balances, x, line);
+    }
+    if line_fields::has_form(line, b'P', 2) {
+        return list_turn(nums, numbers, dates, names, keys, balances, x, line);
     }
     not_read(x)
 }

@@ -27,7 +27,8 @@ use Rattle.table.specs.Accounts.{Funds}
 use Rattle.table.specs.Table.{noRecord}
 use Rattle.planning.specs.Plan.{isFull}
 use Rattle.ledger.specs.Change.{makeRecord, creditedAt}
-use Rattle.posting.specs.Posting.{matches, isDone, postVerdict, matchVerdict, verdictOf, restored, postedRecord, Ledger, Verdict, Keeps, Restores, Posts, Unposted, applied, settleLine, ledgerOf}
+use Rattle.table.specs.Daily.{isDone}
+use Rattle.posting.specs.Posting.{matches, postVerdict, matchVerdict, verdictOf, restored, postedRecord, Ledger, Verdict, Keeps, Restores, Posts, Unposted, applied, settleLine, ledgerOf}
 use Rattle.posting.specs.Steps.{Held, Left}
 
 -- ---- balances

@@ -21,7 +21,8 @@ use Rattle.table.specs.declared.Gate.{Gate}
 use Rattle.table.specs.Table.{Rows, recordAt, recordsOf, noRecord}
 use Rattle.table.specs.Accounts.{accountsOf, findAccount}
 use Rattle.table.proofs.TableLaws.{length-records, getD-records}
-use Rattle.posting.specs.Posting.{matches, isDone, verdictOf, restored, postedRecord, Ledger, Verdict, Keeps, Restores, Posts, Unposted, applied, settleLine, ledgerOf}
+use Rattle.table.specs.Daily.{isDone}
+use Rattle.posting.specs.Posting.{matches, verdictOf, restored, postedRecord, Ledger, Verdict, Keeps, Restores, Posts, Unposted, applied, settleLine, ledgerOf}
 use Rattle.posting.specs.Steps.{Held, Left}
 use Rattle.posting.proofs.HeldLaws.{credit-used, line-step, left-records}
 use Rattle.posting.proofs.PostLaws.{line-applied}

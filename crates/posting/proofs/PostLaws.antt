@@ -22,7 +22,8 @@ use Rattle.planning.specs.Plan.{Within, isFull}
 use Rattle.directory.specs.Directory.{holdersOf, Listed}
 use Rattle.directory.proofs.FindLaws.{listed-find, holder-in}
 use Rattle.ledger.specs.Change.{creditedAt}
-use Rattle.posting.specs.Posting.{matches, isDone, postVerdict, verdictOf, restored, postedRecord, Ledger, Verdict, Keeps, Restores, Posts, Unposted, applied, settleLine, ledgerOf}
+use Rattle.table.specs.Daily.{isDone}
+use Rattle.posting.specs.Posting.{matches, postVerdict, verdictOf, restored, postedRecord, Ledger, Verdict, Keeps, Restores, Posts, Unposted, applied, settleLine, ledgerOf}
 use Rattle.posting.specs.declared.applying.Due.{Due}
 use Rattle.posting.specs.Lookup.{SameReceipt, fits}
 use Rattle.posting.specs.Steps.{Left, Placed, paid, Applied}

@@ -6,7 +6,8 @@ use lib.ListN.{getD}
 use Rattle.lines.specs.declared.line.Line.{Line}
 use Rattle.table.specs.declared.Record.{Record}
 use Rattle.table.specs.Table.{hasReceipt}
-use Rattle.posting.specs.Posting.{matches, isDone}
+use Rattle.table.specs.Daily.{isDone}
+use Rattle.posting.specs.Posting.{matches}
 pub use Rattle.posting.specs.declared.lookup.Sought.{Sought}
 pub use Rattle.posting.specs.declared.lookup.Sought.the-variants.{SameReceipt, Matched, MatchedDone}
 

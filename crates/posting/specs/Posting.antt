@@ -15,6 +15,7 @@ use Rattle.lists.specs.declared.Found.{Found}
 use Rattle.lists.specs.declared.Found.the-variants.{At, Nothing}
 use Rattle.lists.specs.Lists.{firstFrom}
 use Rattle.table.specs.Table.{Rows, recordsOf, done, noRecord, findRecord}
+use Rattle.table.specs.Daily.{isDone}
 use Rattle.table.specs.Accounts.{accountsOf, findAccount, withUsed}
 use Rattle.planning.specs.Plan.{isFull}
 use Rattle.ledger.specs.Change.{makeRecord, creditedAt}
@@ -27,9 +28,6 @@ matches x r =
     eqb (r .receipt) (x .receipt)
     && (sameNumber (r .number) (x .number)
     && (eqb (r .kind) (x .kind) && (eqb (r .amount) (x .amount) && eqList (r .date) (x .date))))
-
-abbrev pub isDone : Record → Bool
-isDone r = eqb (r .state) done
 
 -- ---- the verdict on one line
 -- a receipt that is not recorded is posted where its account is known and there is room

@@ -12,7 +12,8 @@ ghost use lib.ListN.{length};
 ghost use Rattle.index.specs.Index.{Chained};
 ghost use Rattle.table.specs.Table.{recordsOf, Whole};
 ghost use Rattle.table.specs.Lent.{lent, before};
-ghost use Rattle.posting.specs.Posting.{isDone, postVerdict, verdictOf, Keeps, Restores};
+ghost use Rattle.table.specs.Daily.{isDone};
+ghost use Rattle.posting.specs.Posting.{postVerdict, verdictOf, Keeps, Restores};
 ghost use Rattle.posting.specs.Lookup.{receiptAt};
 ghost use Rattle.directory.specs.Directory.{Keyed, Listed};
 

@@ -39,6 +39,7 @@ use Rattle.registry.specs.Report as ReReport
 use Rattle.lists.specs.Lent as LiLent
 use Rattle.lists.specs.Lists as LiLists
 use Rattle.table.specs.Accounts as TaAccounts
+use Rattle.table.specs.Daily as TaDaily
 use Rattle.table.specs.Table as TaTable
 use Rattle.validity.specs.Valid as VaValid
 use Rattle.rules.specs.Decision as RuDecision
@@ -359,7 +360,7 @@ unfolding FiAmount.kopecksAfter FiAmount.amountRead FiAmount.amountBytes
     AsAsking.mayWrite AsAsking.writtenEntry AsAsking.requestOf AsAsking.formsGood AsAsking.isOpen AgWriting.writeAt AgWriting.writeRequest
     AsAsking.checkOf AgWriting.writeCheck
     MaMarking.markedState MaMarking.marked ReReporting.awaits ReReporting.reportOn ReReporting.takeReport
-    doneSum drawnSum doneOn creditedOn placed byNumber total
+    doneSum drawnSum TaDaily.recordsOn creditedOn placed byNumber total
     requestArrives registryArrives answerArrives reportArrives opening drawing accepting checking writing freezing listing run codes
 ran =
     record {

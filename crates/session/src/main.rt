@@ -5,10 +5,11 @@ use console::start;
 use table::columns;
 use texts::scan;
 ghost use mathlib.Core.Path.{_≡_};
-ghost use Prim.Native.Nat.{_*_, _≤_};
+ghost use Prim.Native.Nat.{_≤_};
 ghost use lib.ListN.{length};
 ghost use Rattle.table.specs.Columns.{gateOf, columnsLent, columnsAfter};
 ghost use Rattle.figures.specs.Sums.{Summable};
+ghost use Rattle.console.specs.Feed.{lineRoom};
 ghost use Rattle.console.specs.Session.{newHead};
 
 // A session, whether its input goes on, and whether what it printed was written.
@@ -37,11 +38,11 @@ fn empty_dates() -> [[[u8; 19]; 3]; 256]
     [[[0u8; 19]; 3]; 256]
 }
 
-// A part of the input: what it can make a session print fits 65,536 bytes.
-fn input_part() -> [u8; 1024]
-    ensures { λ r. ⌜ 1024 ≡ length r ⌝ }
+// What is printed before it is written: room for all that one line can print, 16,512 bytes, and for some hundred usual lines.
+fn output_part() -> [u8; 20480]
+    ensures { λ r. ⌜ 20480 ≡ length r ⌝ }
 {
-    [0u8; 1024]
+    [0u8; 20480]
 }
 
 // A session that has not begun.
@@ -52,12 +53,63 @@ fn begin() -> Part
         console: start::new_console(),
         mark: gathering::new_mark(),
         size: 0,
+        taken: 0,
     }
 }
 
 // Says on standard error what went wrong.
 fn complain(text: &[u8]) {
     io::write_all(2, text);
+}
+
+// Feeds what was read, again where the buffer had no room for all of it, and prints.
+fn feed_read(
+    nums: &mut [[u64; 6]],
+    numbers: &mut [[u8; 30]],
+    dates: &mut [[[u8; 19]; 3]],
+    names: &mut [[u8; 30]; 256],
+    keys: &mut [[u64; 2]; 256],
+    balances: &mut [i64; 256],
+    bytes: &mut [u8; 2177],
+    input: &[u8],
+    out: &mut [u8],
+    s: Part,
+) -> Stage
+    requires { ⌜ Summable (gateOf (s .console .head) (columnsLent names keys balances)) × (lineRoom (length (now nums)) ≤ length (now out)) ⌝ }
+    ensures { λ r. ⌜ Summable (gateOf (r .session .console .head) (columnsAfter names keys balances)) ⌝ }
+{
+    let mut session = s;
+    let mut at: usize = 0;
+    while at < input.len() {
+        let console = session.console;
+        let mark = session.mark;
+        session = feed::feed(
+            nums,
+            numbers,
+            dates,
+            names,
+            keys,
+            balances,
+            bytes,
+            console,
+            mark,
+            &input[at..],
+            out,
+        );
+        if !io::write_all(1, scan::first_bytes(out, session.size)) {
+            return Stage {
+                session,
+                going: false,
+                written: false,
+            };
+        }
+        at += session.taken;
+    }
+    Stage {
+        session,
+        going: true,
+        written: true,
+    }
 }
 
 // Reads once, feeds what came and prints.
@@ -73,7 +125,7 @@ fn feed_some(
     out: &mut [u8],
     s: Part,
 ) -> Stage
-    requires { ⌜ Summable (gateOf (s .console .head) (columnsLent names keys balances)) × (64 * length (now input) ≤ length (now out)) ⌝ }
+    requires { ⌜ Summable (gateOf (s .console .head) (columnsLent names keys balances)) × (lineRoom (length (now nums)) ≤ length (now out)) ⌝ }
     ensures { λ r. ⌜ Summable (gateOf (r .session .console .head) (columnsAfter names keys balances)) ⌝ }
 {
     let got = libc::read(0, input);
@@ -88,9 +140,7 @@ fn feed_some(
             written: true,
         };
     }
-    let console = s.console;
-    let mark = s.mark;
-    let next = feed::feed(
+    feed_read(
         nums,
         numbers,
         dates,
@@ -98,17 +148,10 @@ fn feed_some(
         keys,
         balances,
         bytes,
-        console,
-        mark,
         &input[..n],
         out,
-    );
-    let written = io::write_all(1, scan::first_bytes(out, next.size));
-    Stage {
-        session: next,
-        going: written,
-        written,
-    }
+        s,
+    )
 }
 
 // Feeds all of the input. A proved loop has to end, so it counts its turns down from a number that no run uses up.
@@ -124,7 +167,7 @@ fn feed_all(
     out: &mut [u8],
     s: Part,
 ) -> Stage
-    requires { ⌜ Summable (gateOf (s .console .head) (columnsLent names keys balances)) × (64 * length (now input) ≤ length (now out)) ⌝ }
+    requires { ⌜ Summable (gateOf (s .console .head) (columnsLent names keys balances)) × (lineRoom (length (now nums)) ≤ length (now out)) ⌝ }
     ensures { λ r. ⌜ Summable (gateOf (r .session .console .head) (columnsAfter names keys balances)) ⌝ }
 {
     let mut session = s;
@@ -164,11 +207,11 @@ fn print_last(
     keys: &mut [[u64; 2]; 256],
     balances: &mut [i64; 256],
     bytes: &[u8; 2177],
+    out: &mut [u8],
     s: Part,
 ) -> bool
-    requires { ⌜ Summable (gateOf (s .console .head) (columnsLent names keys balances)) ⌝ }
+    requires { ⌜ Summable (gateOf (s .console .head) (columnsLent names keys balances)) × (lineRoom (length (now nums)) ≤ length (now out)) ⌝ }
 {
-    let mut out = [0u8; 64];
     let console = s.console;
     let mark = s.mark;
     let last = feed::finish(
@@ -181,10 +224,10 @@ fn print_last(
         bytes,
         console,
         mark,
-        &mut out,
+        out,
         0,
     );
-    io::write_all(1, scan::first_bytes(&out, last.size))
+    io::write_all(1, scan::first_bytes(out, last.size))
 }
 
 fn main() {
@@ -195,8 +238,8 @@ fn main() {
     let mut keys = columns::empty_keys();
     let mut balances = columns::empty_balances();
     let mut bytes = gathering::new_bytes();
-    let mut input = input_part();
-    let mut out = io::large_buffer();
+    let mut input = [0u8; 4096];
+    let mut out = output_part();
     let stage = feed_all(
         &mut nums,
         &mut numbers,
@@ -220,6 +263,7 @@ fn main() {
             &mut keys,
             &mut balances,
             &bytes,
+            &mut out,
             session,
         );
     }

@@ -76,8 +76,8 @@ fn lines(s: &[u8], input: &mut [u8], output: &mut [u8], shown: &mut [u8]) {
 fn main() {
     let mut buffer = io::large_buffer();
     let mut input = [0u8; 512];
-    let mut output = [0u8; 32832];
-    let mut shown = [0u8; 32832];
+    let mut output = [0u8; 196992];
+    let mut shown = [0u8; 196992];
     let n = io::read_full(0, &mut buffer);
     if n == buffer.len() {
         io::write_all(1, b"the input is too long\n");

@@ -38,7 +38,8 @@ use Rattle.ledger.specs.Change.{revoked, debitedAt}
 use Rattle.ledger.proofs.ChangeLaws.{debit-used}
 use Rattle.posting.specs.declared.verdict.Verdict.{Verdict}
 use Rattle.posting.specs.declared.verdict.Verdict.the-variants.{Keeps, Restores, Posts, Unposted}
-use Rattle.posting.specs.Posting.{matches, isDone, postVerdict, matchVerdict, verdictOf, restored, postedRecord, Ledger, ledgerOf, applied, settleLine}
+use Rattle.table.specs.Daily.{isDone}
+use Rattle.posting.specs.Posting.{matches, postVerdict, matchVerdict, verdictOf, restored, postedRecord, Ledger, ledgerOf, applied, settleLine}
 use Rattle.gate_theorems.proofs.RecordsLaws.{SameKey, key-equal, key-revoked}
 use Rattle.clearing.specs.Clearing.{settleLines, anyMatches, isStray, sweptRecord, sweptGate, sweepGates, swept, anyDone, reportOf}
 use Rattle.settlement.specs.Settle.{settleRead, settle}
@@ -91,7 +92,7 @@ pub swept-other : (clock : List ℕ) (day : Day) (xs : List Line) (r : Record) �
 unfolding sweptRecord isStray
 swept-other clock day xs r h = go (isDone r) (onDay day (dateDay (r .date))) h
   where
-    go : (t u : Bool) → u ≡ false → cond (t && (u && not (anyMatches xs r))) (revoked clock r) r ≡ r
+    go : (t u : Bool) → u ≡ false → cond ((t && u) && not (anyMatches xs r)) (revoked clock r) r ≡ r
     go true u e = rw e
     go false u e = refl
 

@@ -2,3 +2,4 @@ pub mod TableLaws
 pub mod SignedLaws
 pub mod AccountLaws
 pub mod ColumnLaws
+pub mod DailyLaws

@@ -1,6 +1,7 @@
 // The gate's state: accounts, and the payment table in three lent rows.
 pub mod accounts;
 pub mod columns;
+pub mod daily;
 pub mod rows;
 
 use days::calendar::Day;

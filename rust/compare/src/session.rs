@@ -41,6 +41,7 @@ pub fn lines(chance: &mut Chance, count: usize) -> Vec<u8> {
                 account_line(chance, b"D ", &mut text);
                 text.extend(format!(" {}", texts::any_kopecks(chance)).bytes());
             }
+            5 => text.extend(format!("P {}", texts::any_day(chance, day)).bytes()),
             _ => {
                 text.extend(b"R ");
                 text.extend(texts::any_date(chance, day));

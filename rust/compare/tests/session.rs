@@ -10,9 +10,13 @@ fn same(input: &[u8], what: &str) {
     let (ours, theirs) = (lines(&proved), lines(&twin));
     let first = (0..ours.len().max(theirs.len())).find(|&at| ours.get(at) != theirs.get(at));
     if let Some(at) = first {
-        let line = input.split(|&byte| byte == b'\n').nth(at).unwrap_or_default().escape_ascii();
         let told = |text: Option<&Vec<u8>>| text.map(|text| text.escape_ascii().to_string());
-        panic!("{what}, line {}: {line}\nproved {:?}\ntwin   {:?}", at + 1, told(ours.get(at)), told(theirs.get(at)));
+        panic!(
+            "{what}, line {} of the output\nproved {:?}\ntwin   {:?}",
+            at + 1,
+            told(ours.get(at)),
+            told(theirs.get(at))
+        );
     }
 }
 
@@ -26,6 +30,24 @@ fn random_sessions() {
 #[test]
 fn the_sample_day() {
     same(include_bytes!("../../../examples/day.txt"), "examples/day.txt");
+}
+
+/// A full table, asked for again and again: far more is printed than the program's buffer holds.
+#[test]
+fn a_full_day_is_printed_in_parts() {
+    let mut text = b"C 2005-09-19\nO a 1\n".to_vec();
+    for receipt in 999_999_999_999_744..=999_999_999_999_999_u64 {
+        let payment = format!("action=payment&number=a&amount=9999999.99&receipt={receipt}&date=2005-09-20T09:00:00");
+        text.extend(format!("R 2005-09-20T10:00:00 {payment}\n").bytes());
+    }
+    for asked in [1, 2, 3, 500] {
+        let mut asking = text.clone();
+        asking.extend(b"P 2005-09-20\n".repeat(asked));
+        same(&asking, &format!("{asked} times"));
+        // A last line without its end prints as much as any.
+        asking.pop();
+        same(&asking, &format!("{asked} times, unended"));
+    }
 }
 
 #[test]

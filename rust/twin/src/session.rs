@@ -1,6 +1,6 @@
 //! The session program: a gate with a table of 256 records, driven by lines of text.
 
-use crate::date::{Date, Day, NO_DATE, read_day};
+use crate::date::{Date, Day, NO_DATE, date_key, read_day};
 use crate::fields::{self, Number};
 use crate::lent::{Head, Rows};
 
@@ -8,6 +8,13 @@ use crate::lent::{Head, Rows};
 const ROOM: usize = 256;
 /// What a line that is not understood prints.
 const UNREAD: &str = "99";
+/// Where a record's numbers stand among its six, and the states.
+const RECEIPT: usize = 0;
+const AMOUNT: usize = 3;
+const STATE: usize = 4;
+const AUTHCODE: usize = 5;
+const DONE: u64 = 1;
+const CANCELLED: u64 = 2;
 
 /// A session; it has a gate once a day was read.
 pub struct Session {
@@ -49,6 +56,20 @@ impl Gate {
         head.deliver(rows, &clock, parameters, &mut [0; 512]).0
     }
 
+    /// The done payments of a day, a line each, then number and kopecks of the done and of the cancelled.
+    fn payments(&self, day: Day) -> String {
+        let records = || self.nums[..self.head.used].iter().zip(&self.dates);
+        let standing = |state: u64| {
+            records().filter(move |(nums, dates)| nums[STATE] == state && date_key(&dates[0]) == day.key())
+        };
+        let totals = |state: u64| {
+            let (count, kopecks) = standing(state).fold((0, 0), |(n, sum), (nums, _)| (n + 1, sum + nums[AMOUNT]));
+            format!("{count} {kopecks}")
+        };
+        let done = standing(DONE).map(|(nums, _)| format!("{} {} {}", nums[RECEIPT], nums[AMOUNT], nums[AUTHCODE]));
+        done.chain([totals(DONE), totals(CANCELLED)]).collect::<Vec<_>>().join("\n")
+    }
+
     fn sum(&self) -> i64 {
         self.head.accounts[..self.head.count].iter().map(|account| account.balance).sum()
     }
@@ -71,8 +92,11 @@ impl Session {
         Session { gate: None }
     }
 
-    /// What a line prints, without its end.
+    /// What a line prints, without its last end.
     pub fn line(&mut self, line: &[u8]) -> String {
+        if let Some(text) = self.listed(line) {
+            return text;
+        }
         match self.code(line) {
             None => UNREAD.to_owned(),
             Some(code) => {
@@ -82,7 +106,13 @@ impl Session {
         }
     }
 
-    /// The code of a line that is understood.
+    /// What a line prints that asks for a day's payments.
+    fn listed(&self, line: &[u8]) -> Option<String> {
+        let gate = self.gate.as_ref()?;
+        Some(gate.payments(read_day(line.strip_prefix(b"P ")?)?))
+    }
+
+    /// The code of any other line that is understood.
     fn code(&mut self, line: &[u8]) -> Option<u64> {
         let fields: Vec<&[u8]> = line.splitn(5, |&byte| byte == b' ').collect();
         match (self.gate.as_mut(), fields.as_slice()) {
@@ -132,6 +162,27 @@ mod tests {
             prints(&format!("{START}{line}\n"), "0 0 0\n0 0 0\n99\n");
         }
         prints(&format!("{START}D account12 1 0000000000000001"), "0 0 0\n0 0 0\n99\n");
+    }
+
+    #[test]
+    fn a_day_is_printed_by_the_payments_own_dates() {
+        let request = |clock: &str, text: &str| format!("R {clock}T10:00:00 action={text}\n");
+        let pay = |receipt: u64, date: &str, amount: &str| {
+            request(
+                "2005-09-21",
+                &format!("payment&number=account12&amount={amount}&receipt={receipt}&date={date}T09:00:00"),
+            )
+        };
+        let payments = [pay(7, "2005-09-20", "10.12"), pay(3, "2005-09-21", "1"), pay(5, "2005-09-20", "2")].concat();
+        let cancel = request("2005-09-21", "cancel&receipt=7&mes=1");
+        prints(
+            &format!("{START}P 2005-09-20\n{payments}P 2005-09-20\n{cancel}P 2005-09-20\nP 2005-09-21"),
+            "0 0 0\n0 0 0\n0 0\n0 0\n0 1 1012\n0 2 1112\n0 3 1312\n7 1012 1\n5 200 3\n2 1212\n0 0\n0 3 300\n5 200 3\n1 200\n1 1012\n3 100 2\n1 100\n0 0\n",
+        );
+        prints("P 2005-09-20\n", "99\n");
+        for line in ["P", "P ", "P 2005-02-29", "P 2005-09-20 ", "P  2005-09-20", "P 2005-09-20 x", "p 2005-09-20"] {
+            prints(&format!("{START}{line}\n"), "0 0 0\n0 0 0\n99\n");
+        }
     }
 
     #[test]

@@ -20,6 +20,7 @@ use Rattle.lists.specs.Lent.{lentWell}
 use Rattle.table.specs.declared.Gate.{Gate}
 use Rattle.table.specs.declared.Record.{Record}
 use Rattle.table.specs.Table.{Rows, recordsOf}
+use Rattle.table.specs.Daily.{recordsOn}
 use Rattle.validity.specs.Valid.{lentGood, tableGood}
 use Rattle.ledger.specs.declared.Reply.{Reply}
 use Rattle.admission.specs.Delivery.{Delivery, undelivered}
@@ -334,7 +335,7 @@ module _ (u : World) (g : BadTable u) (b : BadBook u) where
   run-idle (s ∷ ss) = ap (run ss) (idle s) ∙ run-idle ss
 
   idle-safe : (ss : List Step) → Safe u ss (run ss u)
-  unfolding creditedOn doneOn
+  unfolding creditedOn recordsOn
   idle-safe ss = subst (λ (v : World). Safe u ss v) (sym (run-idle ss)) here
     where
       here : Safe u ss u

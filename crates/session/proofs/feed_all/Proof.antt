@@ -3,6 +3,7 @@ use mathlib.Core.Path.{_≡_, _∙_}
 use lib.ListN.{length}
 use Rattle.table.specs.Columns.{gateOf, columnsOf}
 use Rattle.figures.specs.Sums.{Summable}
+use Rattle.console.proofs.PartLaws.{room-kept}
 use borrow.Author.Needs.{needs}
 use Rattle.session.proofs.feed_all.Statement.{statement}
 use Rattle.session.proofs.feed_all.Tie as tie
@@ -20,7 +21,7 @@ feed-some-requires c κs =
     let l = c .before .before .before .before .before .before .before .before .before .before in
     let v = l .loop .inv in
     let s = l .before .before .before in
-    (v .5, omega (arith, v .3, v .4, s .pre .1))
+    (v .5, room-kept _ _ _ _ (v .0) (v .4) (s .pre .1))
 
 loop-again : tie.Need-loop-again Inv-loop μ-loop
 loop-again c =
@@ -42,8 +43,8 @@ feed-all-spec =
     (λ c. let w = c .before .before .before .before .before .before .before .before .before in w .feed-some .kept .1 .1 .1 .1 .1 .1 .1 .0 ∙ w .before .before .before .before .before .before .before .before .before .before .before .loop .inv .3)
     (λ c. let w = c .before .before .before .before .before .before .before .before .before in w .feed-some .kept .1 .1 .1 .1 .1 .1 .1 .1 .0 ∙ w .before .before .before .before .before .before .before .before .before .before .before .loop .inv .4)
     (λ c. c .before .before .before .before .before .before .before .before .before .feed-some .ensures)
-    (λ c. search needs)
-    (λ c. search needs)
+    (λ c. omega (arith, c .before .before .before .before .before .before .before .before .before .before .before .before .before .before .before .before .before .before .before .before .loop-test .taken))
+    (λ c. omega (arith, c .before .before .before .before .before .before .before .before .before .before .before .before .before .before .before .before .before .before .before .before .loop-test .taken))
     loop-again
     (λ c. c .before .loop .inv .0)
     (λ c. c .before .loop .inv .1)

@@ -1,5 +1,5 @@
 use native.Mathlib.Omega.{arith}
-use mathlib.Core.Path.{_≡_, _∙_}
+use mathlib.Core.Path.{_≡_, sym, _∙_}
 use Prim.Native.Nat.{_-_}
 use lib.ListN.{length}
 use borrow.Author.Needs.{needs}
@@ -7,68 +7,72 @@ use Rattle.table.specs.Columns.{columnsOf}
 use Rattle.gathering.specs.Held.{heldOf}
 use Rattle.orders.specs.Order.{consoleOf}
 use Rattle.console.specs.Parts.{before}
-use Rattle.console.proofs.PartLaws.{Going, going-start, line-room, part-on, part-in, going-on, part-rest, part-end, feed-is, line-new}
+use Rattle.console.proofs.PartLaws.{Going, going-start, part-rest, part-stops, line-room, part-on, part-in, going-on, feed-is, line-new, room-same}
 use Rattle.console.proofs.feed.feed.Statement.{statement}
 use Rattle.console.proofs.feed.feed.Tie as tie
 
 abbrev Inv-loop : tie.InvT-loop
-Inv-loop nums₀ numbers₀ dates₀ names₀ keys₀ balances₀ bytes₀ input out₀ console₀ mark₀ size₀ at₀ nums numbers dates names keys balances bytes out console mark size at =
+Inv-loop nums₀ numbers₀ dates₀ names₀ keys₀ balances₀ bytes₀ input out₀ need console₀ mark₀ size₀ at₀ nums numbers dates names keys balances bytes out console mark size at =
     (length nums ≡ length nums₀) × (length numbers ≡ length numbers₀) × (length dates ≡ length dates₀) × (length out ≡ length out₀)
-    × Going (before (consoleOf console₀ (columnsOf names₀ keys₀ balances₀)) (heldOf bytes₀ mark₀) (record { nums = nums₀; numbers = numbers₀; dates = dates₀ })) input out₀
+    × Going need (before (consoleOf console₀ (columnsOf names₀ keys₀ balances₀)) (heldOf bytes₀ mark₀) (record { nums = nums₀; numbers = numbers₀; dates = dates₀ })) input out₀
     (record { nums = nums; numbers = numbers; dates = dates }) out (consoleOf console (columnsOf names keys balances)) (heldOf bytes mark) size at
 
 abbrev μ-loop : tie.MeasureT-loop
-μ-loop nums₀ numbers₀ dates₀ names₀ keys₀ balances₀ bytes₀ input out₀ console₀ mark₀ size₀ at₀ nums numbers dates names keys balances bytes out console mark size at = length input - at
+μ-loop nums₀ numbers₀ dates₀ names₀ keys₀ balances₀ bytes₀ input out₀ need console₀ mark₀ size₀ at₀ nums numbers dates names keys balances bytes out console mark size at = length input - at
+
+returns : tie.Need-returns Inv-loop μ-loop
+returns c =
+    let g = c .before .before .before in
+    let e = g .before .before in
+    let l = e .before .before in
+    let v = l .loop .inv .4 in
+    let r = l .before in
+    (feed-is _ _ _ _ _ _ (r .line-room .ensures) _ (part-rest _ _ _ _ _ _ _ _ _ _ v (sym (e .before .goes-on .ensures) ∙ e .if1 .taken) _ (g .gather .ensures) (c .if2 .taken)), v .sums)
 
 end-line-requires : tie.Need-end-line-requires Inv-loop μ-loop
 end-line-requires c κs =
-    let i = c .before .before .before .before .before .before .before .before .before .before .before .before .before in
-    let v = i .before .loop .inv .4 in
-    let s = i .before .before .before .before in
-    (v .sums, line-room _ _ _ (s .pre .1) _ _ _ _ _ _ v (i .loop-test .taken))
+    let e = c .before .before .before .before .before .before .before .before .before .before .before .before .before in
+    let l = e .before .before in
+    let v = l .loop .inv in
+    let r = l .before in
+    (v .4 .sums, line-room _ _ _ _ _ _ _ _ _ _ (v .4) (sym (e .before .goes-on .ensures) ∙ e .if1 .taken) _ _ (r .line-room .ensures) (v .0))
 
 loop-less : tie.Need-loop-less Inv-loop μ-loop
 loop-less c =
     let w = c .before .before .before .before .before .before .before in
-    let e = w .before .before .before .before .before .before .before .before .before in
-    let g = e .before .before .before in
-    let l = g .before .before .before in
-    let v = l .loop .inv .4 in
-    let s = l .before .before .before in
+    let b = w .before .before .before .before .before .before .before .before .before in
+    let g = b .before .before .before in
+    let e = g .before .before in
+    let v = e .before .before .loop .inv .4 in
+    let goes = sym (e .before .goes-on .ensures) ∙ e .if1 .taken in
     omega (
       arith,
-      part-on _ _ _ (s .pre .1) _ _ _ _ _ _ v _ (g .gather .ensures) (e .if1 .left),
-      part-in _ _ _ (s .pre .1) _ _ _ _ _ _ v _ (g .gather .ensures) (e .if1 .left),
+      part-on _ _ _ _ _ _ _ _ _ _ v goes _ (g .gather .ensures) (b .if2 .left),
+      part-in _ _ _ _ _ _ _ _ _ _ v goes _ (g .gather .ensures) (b .if2 .left),
     )
 
 loop-again : tie.Need-loop-again Inv-loop μ-loop
 loop-again c =
     let w = c .before .before .before .before .before .before .before in
-    let e = w .before .before .before .before .before .before .before .before .before in
-    let g = e .before .before .before in
-    let l = g .before .before .before in
+    let b = w .before .before .before .before .before .before .before .before .before in
+    let g = b .before .before .before in
+    let e = g .before .before in
+    let l = e .before .before in
     let v = l .loop .inv in
-    let s = l .before .before .before in (
+    let r = l .before in (
       w .end-line .kept .0 ∙ v .0,
       w .end-line .kept .1 .0 ∙ v .1,
       w .end-line .kept .1 .1 .0 ∙ v .2,
       w .end-line .kept .1 .1 .1 .1 .1 .1 .1 .1 .1 .0 ∙ v .3,
-      going-on _ _ _ (s .pre .1) _ _ _ _ _ _ (v .4) _ (g .gather .ensures) (e .if1 .left) _ _ (line-new _ _ (c .new-mark .ensures)) _ _ _ (w .end-line .ensures .0) (w .end-line .ensures .1),
+      going-on _ _ _ _ _ _ _ _ _ _ (v .4) (sym (e .before .goes-on .ensures) ∙ e .if1 .taken) _ (g .gather .ensures) (b .if2 .left) (room-same _ _ _ (r .line-room .ensures) (v .0)) _ _ (line-new _ _ (c .new-mark .ensures)) _ _ _ (w .end-line .ensures .0) (w .end-line .ensures .1),
     )
-
-returns : tie.Need-returns Inv-loop μ-loop
-returns c =
-    let g = c .before .before .before in
-    let l = g .before .before .before in
-    let v = l .loop .inv .4 in
-    let s = l .before .before .before in
-    (feed-is _ _ _ _ _ _ (part-rest _ _ _ (s .pre .1) _ _ _ _ _ _ v _ (g .gather .ensures) (c .if1 .taken)), v .sums)
 
 returns-2 : tie.Need-returns-2 Inv-loop μ-loop
 returns-2 c =
-    let v = c .before .loop .inv .4 in
-    let s = c .before .before .before .before in
-    (feed-is _ _ _ _ _ _ (part-end _ _ _ (s .pre .1) _ _ _ _ _ _ v (c .loop-test .left)), v .sums)
+    let l = c .before .before in
+    let v = l .loop .inv .4 in
+    let r = l .before in
+    (feed-is _ _ _ _ _ _ (r .line-room .ensures) _ (part-stops _ _ _ _ _ _ _ _ _ _ v (sym (c .before .goes-on .ensures) ∙ c .if1 .left)), v .sums)
 
 ruleset laws = (going-start, needs)
 
@@ -78,7 +82,9 @@ feed-spec =
     (tie.spec
     Inv-loop
     μ-loop
+    (λ c κs. search needs)
     (λ c. search laws)
+    (λ c κs. c .loop .inv .4 .fits)
     (λ c κs. search needs)
     (λ c. search needs)
     (λ c. search needs)

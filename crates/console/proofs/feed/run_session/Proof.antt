@@ -1,12 +1,11 @@
 use mathlib.Core.Path.{refl}
-use mathlib.Core.List.{[]}
 use borrow.Author.Needs.{needs}
-use Rattle.console.proofs.PartLaws.{run-refused, new-sums, console-new, held-new, feed-room, last-room, run-whole}
+use Rattle.console.proofs.PartLaws.{room-positive, run-refused, new-sums, console-new, held-new, last-room, run-whole}
 use Rattle.console.proofs.feed.run_session.Statement.{statement}
 use Rattle.console.proofs.feed.run_session.Tie as tie
 
 returns : tie.Need-returns
-returns c = run-refused _ _ _ (c .if1 .taken) _ refl _ refl
+returns c = run-refused _ _ _ _ (c .before .line-room .ensures) (c .if1 .taken) _ refl _ refl
 
 feed-requires : tie.Need-feed-requires
 feed-requires c κs =
@@ -16,10 +15,7 @@ feed-requires c κs =
     let q = b .before in
     let y = q .before in
     let m = y .before in
-    let e = m .before in
-    let new = console-new _ _ _ _ (x .new-console .ensures) (m .empty-names .ensures .1) (y .empty-keys .ensures .1) (q .empty-balances .ensures .1) in
-    let s = e .before .before .before in
-    (new-sums _ new, feed-room (record { nums = []; numbers = []; dates = [] }) (s .args .input .now) (s .args .out .now) (e .if1 .left))
+    new-sums _ (console-new _ _ _ _ (x .new-console .ensures) (m .empty-names .ensures .1) (y .empty-keys .ensures .1) (q .empty-balances .ensures .1))
 
 finish-requires : tie.Need-finish-requires
 finish-requires c κs =
@@ -32,7 +28,7 @@ finish-requires c κs =
     let m = y .before in
     let e = m .before in
     let new = console-new _ _ _ _ (x .new-console .ensures) (m .empty-names .ensures .1) (y .empty-keys .ensures .1) (q .empty-balances .ensures .1) in
-    (f .feed .ensures .1, last-room _ _ _ (e .if1 .left) _ _ new (held-new _ _ (b .new-bytes .ensures) (k .new-mark .ensures)) _ (f .feed .ensures .0))
+    (f .feed .ensures .1, last-room _ _ _ _ (e .before .line-room .ensures) (e .if1 .left) _ _ new (held-new _ _ (b .new-bytes .ensures) (k .new-mark .ensures)) _ (f .feed .ensures .0))
 
 returns-2 : tie.Need-returns-2
 returns-2 c =
@@ -46,12 +42,14 @@ returns-2 c =
     let m = y .before in
     let e = m .before in
     let new = console-new _ _ _ _ (x .new-console .ensures) (m .empty-names .ensures .1) (y .empty-keys .ensures .1) (q .empty-balances .ensures .1) in
-    run-whole _ _ _ (e .if1 .left) _ _ new (held-new _ _ (b .new-bytes .ensures) (k .new-mark .ensures)) _ (f .feed .ensures .0) _ (l .finish .ensures)
+    run-whole _ _ _ _ (e .before .line-room .ensures) (e .if1 .left) _ _ new (held-new _ _ (b .new-bytes .ensures) (k .new-mark .ensures)) _ (f .feed .ensures .0) _ (l .finish .ensures)
 
 pub run-session-spec : {M : Type 1} → statement M
 run-session-spec =
     tie.close
     (tie.spec
+    (λ c κs. search needs)
+    (λ c. room-positive _ _ (c .line-room .ensures))
     returns
     (λ c κs. search needs)
     (λ c κs. search needs)

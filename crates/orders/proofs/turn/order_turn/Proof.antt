@@ -1,5 +1,5 @@
 use borrow.Author.Needs.{needs}
-use Rattle.orders.proofs.TurnLaws.{order-open, order-draw, order-ask, order-none}
+use Rattle.orders.proofs.TurnLaws.{order-open, order-draw, order-ask, order-list, order-none}
 use Rattle.orders.proofs.turn.order_turn.Statement.{statement}
 use Rattle.orders.proofs.turn.order_turn.Tie as tie
 
@@ -24,10 +24,19 @@ returns-3 c =
 
 returns-4 : tie.Need-returns-4
 returns-4 c =
-    let k = c .before in
-    let g = k .before .before in
+    let k = c .before .before .before .before .before .before .before in
+    let h = k .before .before in
+    let g = h .before .before in
     let e = g .before .before in
-    order-none _ _ _ _ _ (e .before .has-form .ensures) (e .if1 .left) _ (g .before .has-form2 .ensures) (g .if2 .left) _ (k .before .has-least .ensures) (k .if3 .left) (c .not-read .ensures _ _)
+    order-list _ _ _ _ _ (e .before .has-form .ensures) (e .if1 .left) _ (g .before .has-form2 .ensures) (g .if2 .left) _ (h .before .has-least .ensures) (h .if3 .left) _ (k .before .has-form3 .ensures) (k .if4 .taken) (c .list-turn .ensures)
+
+returns-5 : tie.Need-returns-5
+returns-5 c =
+    let k = c .before in
+    let h = k .before .before in
+    let g = h .before .before in
+    let e = g .before .before in
+    order-none _ _ _ _ _ (e .before .has-form .ensures) (e .if1 .left) _ (g .before .has-form2 .ensures) (g .if2 .left) _ (h .before .has-least .ensures) (h .if3 .left) _ (k .before .has-form3 .ensures) (k .if4 .left) (c .not-read .ensures _ _)
 
 pub order-turn-spec : {M : Type 1} → statement M
 order-turn-spec =
@@ -52,4 +61,10 @@ order-turn-spec =
     (λ c. search needs)
     returns-3
     (λ c κs. search needs)
-    returns-4)
+    (λ c κs. search needs)
+    (λ c. search needs)
+    (λ c. search needs)
+    (λ c. search needs)
+    returns-4
+    (λ c κs. search needs)
+    returns-5)
