@@ -6,6 +6,8 @@ use mathlib.Core.List.{List, [], _∷_, map}
 use lib.Dec.{eqb, ltb}
 use lib.ListN.{length, length-map}
 use Rattle.texts.specs.Lists.{eqList}
+use Rattle.coding.specs.Params.{splitAt}
+use Rattle.days.specs.Calendar.{leapYear, daysIn, isDate, dayOf, twoDigits, dayPart, dayRead}
 use Rattle.texts.proofs.ScanLaws.{eqList-true}
 use Rattle.texts.proofs.Tests.{and-left, and-right}
 use Rattle.days.specs.declared.calendar.Day.{Day}
@@ -76,3 +78,8 @@ settled-print =
           let good : tableGood (u .gate) (u .table) ≡ true = (run-reached w ss w (start-reached w st lent)) .rep .gate .good in
           listed-text (u .gate) (u .table) l day asks good ∙ rw (counts w st ss day over, totals w st ss day over);
     }
+
+-- there are such lines: P 2005-09-20
+pub sample-asks : AsksFor (80 ∷ 32 ∷ 50 ∷ 48 ∷ 48 ∷ 53 ∷ 45 ∷ 48 ∷ 57 ∷ 45 ∷ 50 ∷ 48 ∷ []) (record { year = 2005; month = 9; day = 20 })
+unfolding splitAt eqList dayRead dayPart twoDigits dayOf isDate daysIn leapYear
+sample-asks = record { form = refl; date = refl }

@@ -10,6 +10,8 @@ use std::time::Instant;
 
 const RUNS: usize = 21;
 const LINES: usize = 40_000;
+/// How often a day is printed.
+const PRINTS: usize = 4_000;
 /// As the only word, it makes this program the twin.
 const TWIN: &str = "--as-twin";
 
@@ -82,4 +84,8 @@ fn main() {
         let [proved, twin] = [0, 1].map(|side| count / (times[side] - start[side]));
         println!("| {accounts} accounts, {records} records | {proved:.0} | {twin:.0} | {:.2} |", proved / twin);
     }
+    let day = session(16, 256, 256);
+    let (filled, printed) = (both(&day), both(&(day.clone() + &"P 2005-09-20\n".repeat(PRINTS))));
+    let [proved, twin] = [0, 1].map(|side| PRINTS as f64 / (printed[side] - filled[side]));
+    println!("| `P` of a day with 256 payments | {proved:.0} | {twin:.0} | {:.2} |", proved / twin);
 }
