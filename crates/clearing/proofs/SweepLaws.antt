@@ -16,7 +16,7 @@ use Rattle.table.proofs.TableLaws.{length-records, getD-records, rows-kept}
 use Rattle.posting.proofs.HeldLaws.{held-more, Step, left-records, left-held}
 use Rattle.clearing.proofs.LinesLaws.{from-from}
 use Rattle.clearing.proofs.RevokeLaws.{revokedAt, revoke-step, revoked-out, debited-none, debited-at}
-use Rattle.posting.proofs.LookupLaws.{match-receipt}
+use Rattle.posting.proofs.MatchLaws.{match-receipt}
 use Rattle.posting.proofs.PostLaws.{at-nums, at-numbers, at-dates, found-within}
 use Rattle.posting.proofs.DueLaws.{due-place, due-balance, due-near}
 use Rattle.directory.specs.Directory.{holdersOf, Listed}

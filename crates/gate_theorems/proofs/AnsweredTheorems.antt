@@ -81,7 +81,7 @@ module _ (g : Gate) (t : Rows) (clock params : List ℕ) where
   plan-told good dated =
       go ((decision fault (asks params) s v) .change)
       (decided-told clock dated r (makeRecord g clock (q .details)) (revoked clock r) (unfold makeRecord nextAuthcode in omega (arith, used-few g t good)) (unfold makeRecord in refl) (unfold revoked in refl) (unfold revoked in refl)
-      fault (asks params) s v (known-found g t good (q .details .receipt) f refl))
+      fault (asks params) s v (known-found g t good q f refl))
     where
       fault : ℕ
       fault = (requestRead params) .fault
@@ -96,7 +96,7 @@ module _ (g : Gate) (t : Rows) (clock params : List ℕ) where
       r = recordFound (recordsOf t (g .used)) f
 
       s : Standing
-      s = standingOf f r
+      s = standingOf q f r
 
       v : View
       v = viewOf g (length (t .nums)) q r (accountOf g q r)

@@ -24,6 +24,7 @@ use Rattle.parameters.specs.Names.{actionOf}
 use Rattle.parameters.specs.Slots.{Slot, Absent, Gathered, Broken, Values, gathered}
 use Rattle.message.specs.Request.{held, receiptField, numberField, kindField, amountField, dateField, reasonField, refused, firstFault, fieldFault, fieldsRead, actionRead, valuesRead, requestRead}
 use Rattle.payments.specs.declared.Answer.{Answer}
+use Rattle.payments.specs.declared.Instruction.{Instruction}
 use Rattle.answers.specs.Answer.{answerBytes}
 use Rattle.answer_reader.specs.ReadBack.{answerAgain}
 use Rattle.answers.proofs.AnswerTextLaws.{answer-length-512}
@@ -35,14 +36,14 @@ use Rattle.table.specs.Table.{Rows, recordAt, recordsOf, findRecord}
 use Rattle.validity.specs.Valid.{stateGood, tableGood}
 use Rattle.table.proofs.TableLaws.{getD-records, receipt-within}
 use Rattle.rules.specs.declared.decision.Standing.{Standing}
-use Rattle.rules.specs.declared.decision.Standing.the-variants.{Unrecorded, Done, Cancelled}
+use Rattle.rules.specs.declared.decision.Standing.the-variants.{Unrecorded, Done, Cancelled, Other}
 use Rattle.rules.specs.declared.decision.View.{View}
 use Rattle.rules.specs.declared.decision.Change.{Change}
 use Rattle.rules.specs.declared.decision.Change.the-variants.{Keep, Append, Revoke}
 use Rattle.rules.specs.declared.decision.Decided.{Decided}
 use Rattle.rules.specs.Decision.{checkCode, paymentNew, cancelDone, decisionOn, isFault, faultCode, decision}
 use Rattle.table.specs.Table.{noRecord}
-use Rattle.planning.specs.Plan.{recordFound, standingOf}
+use Rattle.planning.specs.Plan.{recordFound, agrees, standingOf}
 use Rattle.rules.specs.Answering.{isCancel, answersAuthcode, answersDate, answerDate, answerOf}
 use Rattle.rules.proofs.DecisionLaws.{decision-cases}
 use Rattle.validity.proofs.GoodLaws.{record-good, used-few}
@@ -70,7 +71,7 @@ not-in c n l h = go (eqb c n) refl
     go false e = refl
 
 -- ---- the codes of a decision
-module _ (P : ℕ → Type 0) (zero : P 0) (two : P 2) (five : P 5) (six : P 6) (seven : P 7) (nine : P 9) (thirty : P 30) where
+module _ (P : ℕ → Type 0) (zero : P 0) (two : P 2) (four : P 4) (five : P 5) (six : P 6) (seven : P 7) (nine : P 9) (thirty : P 30) where
   abbrev PD : Decided → Type 0
   PD d = P (d .code)
 
@@ -81,12 +82,15 @@ module _ (P : ℕ → Type 0) (zero : P 0) (two : P 2) (five : P 5) (six : P 6) 
       cond-elim PD (v .closed) _ _ (λ _. five) (λ _. cond-elim PD (v .known) _ _ (λ _. cond-elim PD (v .full) _ _ (λ _. thirty) (λ _. zero)) (λ _. two))
   decision-on Payment Done v = zero
   decision-on Payment Cancelled v = seven
+  decision-on Payment Other v = four
   decision-on Status Unrecorded v = six
   decision-on Status Done v = zero
   decision-on Status Cancelled v = seven
+  decision-on Status Other v = six
   decision-on Cancel Unrecorded v = nine
   decision-on Cancel Done v = cond-elim PD (v .closed) _ _ (λ _. nine) (λ _. cond-elim PD (v .short) _ _ (λ _. nine) (λ _. zero))
   decision-on Cancel Cancelled v = zero
+  decision-on Cancel Other v = nine
 
 -- ---- the codes of a fault
 module _ (P : ℕ → Type 0) (one : P 1) (two : P 2) (three : P 3) (four : P 4) (five : P 5) (most : P 31) (reason : P 32) where
@@ -123,7 +127,7 @@ module _ (P : ℕ → Type 0) (one : P 1) (two : P 2) (three : P 3) (four : P 4)
 module _ (P : ℕ → Type 0) (zero : P 0) (one : P 1) (two : P 2) (three : P 3) (four : P 4) (five : P 5) (six : P 6) (seven : P 7) (nine : P 9) (thirty : P 30) (most : P 31) (reason : P 32) where
   pub decision-by : (f : ℕ) (a : Action) (s : Standing) (v : View) → P ((decision f a s v) .code)
   decision-by f a s v =
-      decision-cases (λ (d : Decided). P (d .code)) f a s v (λ _. decision-on P zero two five six seven nine thirty a s v) (λ _. fault-code-by P one two three four five most reason f)
+      decision-cases (λ (d : Decided). P (d .code)) f a s v (λ _. decision-on P zero two four five six seven nine thirty a s v) (λ _. fault-code-by P one two three four five most reason f)
 
 -- ---- the faults of a request
 module _ (P : ℕ → Type 0) (none : P 0) (one : P 1) (two : P 2) (three : P 3) (four : P 4) (five : P 5) (most : P 31) (reason : P 32) where
@@ -226,15 +230,18 @@ module _ (clock : List ℕ) (dated : isWritten clock ≡ true) where
         (λ _. told Payment 2 r refl refl (omega arith) (k .auth) dated))
     told-on Payment Done v k = told Payment 0 r refl refl (omega arith) (k .auth) (k .done refl)
     told-on Payment Cancelled v k = told Payment 7 r refl refl (omega arith) (k .auth) (k .void refl)
+    told-on Payment Other v k = told Payment 4 r refl refl (omega arith) (k .auth) dated
     told-on Status Unrecorded v k = told Status 6 r refl refl (omega arith) (k .auth) dated
     told-on Status Done v k = told Status 0 r refl refl (omega arith) (k .auth) (k .done refl)
     told-on Status Cancelled v k = told Status 7 r refl refl (omega arith) (k .auth) (k .void refl)
+    told-on Status Other v k = told Status 6 r refl refl (omega arith) (k .auth) dated
     told-on Cancel Unrecorded v k = told Cancel 9 r refl refl (omega arith) (k .auth) dated
     told-on Cancel Done v k =
         cond-elim (Tells Cancel) (v .closed) _ _ (λ _. told Cancel 9 r refl refl (omega arith) (k .auth) dated)
         (λ _. cond-elim (Tells Cancel) (v .short) _ _ (λ _. told Cancel 9 r refl refl (omega arith) (k .auth) dated)
         (λ _. told Cancel 0 gone refl refl (omega arith) (omega (arith, same, k .auth)) (ap isWritten cancel ∙ dated)))
     told-on Cancel Cancelled v k = told Cancel 0 r refl refl (omega arith) (k .auth) (k .void refl)
+    told-on Cancel Other v k = told Cancel 9 r refl refl (omega arith) (k .auth) dated
 
     -- what is decided for any fault, action, standing and view is told
     pub decided-told : (f : ℕ) (a : Action) (s : Standing) (v : View) → Known-of s r → Tells a (decision f a s v)
@@ -246,22 +253,24 @@ pub cancel-dated : (r : Record) → stateGood r ≡ true → eqb (r .state) 1 �
 unfolding stateGood
 cancel-dated r h e = and-right (eqb (r .state) 2) (isWritten (r .cancel)) (rw e at h)
 
-pub known-found : (g : Gate) (t : Rows) → tableGood g t ≡ true → (receipt : ℕ) (f : Found) → findRecord receipt (recordsOf t (g .used)) ≡ f
-    → Known-of (standingOf f (recordFound (recordsOf t (g .used)) f)) (recordFound (recordsOf t (g .used)) f)
-known-found g t good receipt Nothing e =
+pub known-found : (g : Gate) (t : Rows) → tableGood g t ≡ true → (q : Instruction) (f : Found) → findRecord (q .details .receipt) (recordsOf t (g .used)) ≡ f
+    → Known-of (standingOf q f (recordFound (recordsOf t (g .used)) f)) (recordFound (recordsOf t (g .used)) f)
+known-found g t good q Nothing e =
     record { auth = omega arith; done = λ h. let z : _≡_ {A = ℕ} 0 1 = cc in absurd (omega arith); void = λ h. let z : _≡_ {A = ℕ} 0 1 = cc in absurd (omega arith) }
-known-found g t good receipt (At i) e =
-    rw (getD-records t (g .used) i noRecord within) (record { auth = omega (arith, its .authcode, within, used-few g t good); done = λ _. its .credit; void = go (eqb ((recordAt t i) .state) 1) refl })
+known-found g t good q (At i) e =
+    rw (getD-records t (g .used) i noRecord within)
+    (record { auth = omega (arith, its .authcode, within, used-few g t good); done = λ _. its .credit; void = go (agrees (q .action) (q .details) (recordAt t i)) (eqb ((recordAt t i) .state) 1) refl })
   where
     within : i < g .used
-    within = receipt-within t (g .used) receipt i (findRecord receipt (recordsOf t (g .used))) refl e
+    within = receipt-within t (g .used) (q .details .receipt) i (findRecord (q .details .receipt) (recordsOf t (g .used))) refl e
 
     its : RecordParts i (recordAt t i)
     its = parts-of g i (recordAt t i) (record-good g t good i within)
 
-    go : (z : Bool) → eqb ((recordAt t i) .state) 1 ≡ z → cond z Done Cancelled ≡ Cancelled → isWritten ((recordAt t i) .cancel) ≡ true
-    go true q h = let z : _≡_ {A = ℕ} 0 1 = cc in absurd (omega arith)
-    go false q h = cancel-dated (recordAt t i) (its .state) q
+    go : (b z : Bool) → eqb ((recordAt t i) .state) 1 ≡ z → cond b (cond z Done Cancelled) Other ≡ Cancelled → isWritten ((recordAt t i) .cancel) ≡ true
+    go true true q h = let z : _≡_ {A = ℕ} 0 1 = cc in absurd (omega arith)
+    go false true q h = let z : _≡_ {A = ℕ} 0 1 = cc in absurd (omega arith)
+    go b false q h = cancel-dated (recordAt t i) (its .state) q
 
 -- ---- the texts
 -- an answer that is told has its date's nineteen bytes

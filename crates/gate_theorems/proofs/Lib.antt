@@ -9,3 +9,4 @@ pub mod AnswerGood
 pub mod CodeLaws
 pub mod AnsweredTheorems
 pub mod GivesTheorems
+pub mod RepeatTheorems

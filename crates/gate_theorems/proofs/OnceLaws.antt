@@ -73,8 +73,8 @@ unfolding planOf planWith
 once-decided g rs lent fault q i known h =
     let f : Found = findRecord (q .details .receipt) rs in
     let r : Record = recordFound rs f in
-    let b : Appends fault (q .action) (standingOf f r) (viewOf g lent q r (accountOf g q r)) = append-of fault (q .action) (standingOf f r) (viewOf g lent q r (accountOf g q r)) h in
-    let y : At i ≡ Nothing = sym known ∙ missing-of f r (b .standing) in
+    let b : Appends fault (q .action) (standingOf q f r) (viewOf g lent q r (accountOf g q r)) = append-of fault (q .action) (standingOf q f r) (viewOf g lent q r (accountOf g q r)) h in
+    let y : At i ≡ Nothing = sym known ∙ missing-of q f r (b .standing) in
     let z : _≡_ {A = ℕ} 0 1 = cc in
     omega arith
 

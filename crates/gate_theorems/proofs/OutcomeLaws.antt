@@ -17,14 +17,14 @@ use Rattle.lists.specs.declared.Found.the-variants.{At, Nothing}
 use Rattle.lists.specs.Lists.{isFound}
 use Rattle.table.specs.Table.{Rows, recordsOf, findRecord, rowsFrom}
 use Rattle.table.specs.Accounts.{accountsOf, findAccount, credited, withUsed}
-use Rattle.rules.specs.declared.decision.Standing.the-variants.{Unrecorded, Done, Cancelled}
+use Rattle.rules.specs.declared.decision.Standing.the-variants.{Unrecorded, Done, Cancelled, Other}
 use Rattle.rules.specs.declared.decision.View.{View}
 use Rattle.rules.specs.declared.decision.Change.{Change}
 use Rattle.rules.specs.declared.decision.Change.the-variants.{Keep, Append, Revoke}
 use Rattle.planning.specs.declared.plan.Plan.{Plan}
 use Rattle.rules.specs.declared.decision.Decided.{Decided}
 use Rattle.rules.specs.Decision.{isFault, faultCode}
-use Rattle.planning.specs.Plan.{recordFound, standingOf, dateClosed, accountOf, dateOf, isShort, isFull, viewOf, planWith, planOf}
+use Rattle.planning.specs.Plan.{recordFound, agrees, standingOf, dateClosed, accountOf, dateOf, isShort, isFull, viewOf, planWith, planOf}
 use Rattle.rules.specs.Answering.{isCancel}
 use Rattle.ledger.specs.Change.{makeRecord, revoked, creditedAt, debitedAt, changed}
 use Rattle.gate.specs.Deliver.{answered, respond}
@@ -44,22 +44,25 @@ pub data Outcome (g : Gate) (t : Rows) (clock : List ℕ) (q : Instruction) (d :
       → d .gate ≡ debitedAt g f (r .amount) → d .rows ≡ rowsFrom t (set (recordsOf t (g .used)) i (revoked clock r))
       → Outcome g t clock q d
 
-found-of : {A : Type 0} (f : Found) (r : Record) → ((i : ℕ) → f ≡ At i → r .state ≡ 1 → A) → standingOf f r ≡ Done → A
-found-of Nothing r k h = let z : _≡_ {A = ℕ} 0 1 = cc in absurd (omega arith)
-found-of (At i) r k h = k i refl (eqb-true (r .state) 1 (go (eqb (r .state) 1) h))
+-- a standing is told apart from the others
+other-standing : {A : Type 0} (b c : Bool) → cond b (cond c Done Cancelled) Other ≡ Unrecorded → A
+other-standing true true h = let z : _≡_ {A = ℕ} 0 1 = cc in absurd (omega arith)
+other-standing true false h = let z : _≡_ {A = ℕ} 0 1 = cc in absurd (omega arith)
+other-standing false c h = let z : _≡_ {A = ℕ} 0 1 = cc in absurd (omega arith)
+
+found-of : {A : Type 0} (q : Instruction) (f : Found) (r : Record) → ((i : ℕ) → f ≡ At i → r .state ≡ 1 → A) → standingOf q f r ≡ Done → A
+found-of q Nothing r k h = let z : _≡_ {A = ℕ} 0 1 = cc in absurd (omega arith)
+found-of q (At i) r k h = k i refl (eqb-true (r .state) 1 (go (agrees (q .action) (q .details) r) (eqb (r .state) 1) h))
   where
-    go : (b : Bool) → cond b Done Cancelled ≡ Done → b ≡ true
-    go true h = refl
-    go false h = let z : _≡_ {A = ℕ} 0 1 = cc in absurd (omega arith)
+    go : (a b : Bool) → cond a (cond b Done Cancelled) Other ≡ Done → b ≡ true
+    go a true h = refl
+    go true false h = let z : _≡_ {A = ℕ} 0 1 = cc in absurd (omega arith)
+    go false false h = let z : _≡_ {A = ℕ} 0 1 = cc in absurd (omega arith)
 
 -- what stands unrecorded was not found
-pub missing-of : (f : Found) (r : Record) → standingOf f r ≡ Unrecorded → f ≡ Nothing
-missing-of Nothing r h = refl
-missing-of (At i) r h = go (eqb (r .state) 1) h
-  where
-    go : (b : Bool) → cond b Done Cancelled ≡ Unrecorded → At i ≡ Nothing
-    go true h = let z : _≡_ {A = ℕ} 0 1 = cc in absurd (omega arith)
-    go false h = let z : _≡_ {A = ℕ} 0 1 = cc in absurd (omega arith)
+pub missing-of : (q : Instruction) (f : Found) (r : Record) → standingOf q f r ≡ Unrecorded → f ≡ Nothing
+missing-of q Nothing r h = refl
+missing-of q (At i) r h = other-standing (agrees (q .action) (q .details) r) (eqb (r .state) 1) h
 
 place-of : {A : Type 0} (f : Found) → ((i : ℕ) → f ≡ At i → A) → isFound f ≡ true → A
 place-of (At i) k h = k i refl
@@ -90,9 +93,9 @@ module _ (g : Gate) (t : Rows) (clock : List ℕ) (fault : ℕ) (q : Instruction
   outcome-at rs ers ef er Keep p ep ec = stays refl (rw ers)
   outcome-at rs ers ef er Append p ep ec =
       let v : View = viewOf g (length (t .nums)) q r (accountOf g q r) in
-      let b : Appends fault (q .action) (standingOf f r) v = append-of fault (q .action) (standingOf f r) v (sym (ap (λ (x : Plan). x .decided .change) ep) ∙ ec) in
+      let b : Appends fault (q .action) (standingOf q f r) v = append-of fault (q .action) (standingOf q f r) v (sym (ap (λ (x : Plan). x .decided .change) ep) ∙ ec) in
       place-of (accountOf g q r)
-      (λ a ea. appends a (b .action) (ap (findRecord (q .details .receipt)) (sym ers) ∙ sym ef ∙ missing-of f r (b .standing))
+      (λ a ea. appends a (b .action) (ap (findRecord (q .details .receipt)) (sym ers) ∙ sym ef ∙ missing-of q f r (b .standing))
       (sym (own-account g q r (b .action)) ∙ ea)
       (leb-false (length (t .nums)) (g .used) (b .room))
       (ap (dateClosed g) (sym (own-date g q r (b .action))) ∙ b .unclosed)
@@ -102,8 +105,8 @@ module _ (g : Gate) (t : Rows) (clock : List ℕ) (fault : ℕ) (q : Instruction
       (b .known)
   outcome-at rs ers ef er Revoke p ep ec =
       let v : View = viewOf g (length (t .nums)) q r (accountOf g q r) in
-      let b : Revokes fault (q .action) (standingOf f r) v = revoke-of fault (q .action) (standingOf f r) v (sym (ap (λ (x : Plan). x .decided .change) ep) ∙ ec) in
-      found-of f r
+      let b : Revokes fault (q .action) (standingOf q f r) v = revoke-of fault (q .action) (standingOf q f r) v (sym (ap (λ (x : Plan). x .decided .change) ep) ∙ ec) in
+      found-of q f r
       (λ i ei done. revokes i r (accountOf g q r) (b .action) (ap (findRecord (q .details .receipt)) (sym ers) ∙ sym ef ∙ ei)
       (er ∙ rw (ei, ers))
       (its-account g q r (b .action))

@@ -149,7 +149,7 @@ module _ (g : Gate) (t : Rows) (fault : ℕ) (q : Instruction) (p : Plan) (is : 
       let r : Record = recordFound (recordsOf t (g .used)) (findRecord (q .details .receipt) (recordsOf t (g .used))) in
       let f : Found = findRecord (q .details .receipt) (recordsOf t (g .used)) in
       let z : leb (length (t .nums)) (g .used) ≡ false =
-      (append-of fault (q .action) (standingOf f r) (viewOf g (length (t .nums)) q r (accountOf g q r)) (sym (ap (λ (x : Plan). x .decided .change) is) ∙ h)) .room in
+      (append-of fault (q .action) (standingOf q f r) (viewOf g (length (t .nums)) q r (accountOf g q r)) (sym (ap (λ (x : Plan). x .decided .change) is) ∙ h)) .room in
       leb-false (length (t .nums)) (g .used) z
 
   pub plan-found : tableGood g t ≡ true → Within (p .found) (g .used)

@@ -3,17 +3,19 @@ use Prim.Native.Nat.{ℕ, _≤_, _<_}
 use native.Mathlib.Nat.{zero-add}
 use native.Mathlib.Omega.{arith}
 use mathlib.Core.Path.{_≡_, refl, sym, ap, _∙_}
-use mathlib.Core.Bool.{Bool, true, false}
+use mathlib.Core.Bool.{Bool, true, false, not}
 use mathlib.Core.List.{List}
 use lib.Dec.{leb}
 use lib.IntN.{ℤ, pos}
 use lib.Signed.{ltZ}
 use lib.ListN.{length, getD}
 use lib.Seq.{length-take-le}
-use borrow.Author.Tests.{eq-eqb, ne-eqb}
+use borrow.Author.Tests.{eq-eqb, ne-eqb, not-true, not-false}
 use Rattle.days.specs.declared.calendar.Day.{Day}
 use Rattle.days.specs.Calendar.{upTo}
 use Rattle.dates.specs.Date.{dateDay}
+use Rattle.payments.specs.declared.Action.{Action}
+use Rattle.payments.specs.declared.Details.{Details}
 use Rattle.payments.specs.declared.Instruction.{Instruction}
 use Rattle.table.specs.declared.Record.{Record}
 use Rattle.table.specs.declared.Gate.{Gate}
@@ -32,12 +34,12 @@ use Rattle.validity.specs.Valid.{Sound, rangesGood, authcodeGood, recordGood, g
 use Rattle.table.proofs.TableLaws.{length-records, getD-records}
 use Rattle.lists.proofs.ListLaws.{search-within, all-at}
 use Rattle.rules.specs.declared.decision.Standing.{Standing}
-use Rattle.rules.specs.declared.decision.Standing.the-variants.{Done, Cancelled}
+use Rattle.rules.specs.declared.decision.Standing.the-variants.{Done, Cancelled, Other}
 use Rattle.rules.specs.declared.decision.View.{View}
 use Rattle.rules.specs.declared.decision.Decided.{Decided}
 use Rattle.planning.specs.declared.plan.Plan.{Plan}
 use Rattle.rules.specs.Decision.{decision}
-use Rattle.planning.specs.Plan.{planWith, Within, recordFound, standingOf, dateClosed, accountOf, dateOf, isShort, isFull, viewOf}
+use Rattle.planning.specs.Plan.{planWith, Within, recordFound, agrees, standingOf, dateClosed, accountOf, dateOf, isShort, isFull, viewOf}
 use Rattle.table.specs.Table.{noRecord}
 use Rattle.rules.specs.Answering.{isCancel}
 
@@ -46,12 +48,19 @@ pub place-below : (used n i : ℕ) (f : Found) → f ≡ At i → Within f used 
 place-below used n i f e w h = let l : i < used = w .at i e in omega arith
 
 -- ---- the record's standing
-module _ (f : Found) (r : Record) (i : ℕ) (is : f ≡ At i) where
-  pub stands-done : r .state ≡ 1 → (s : Standing) → s ≡ Done → s ≡ standingOf f r
-  stands-done e s q = q ∙ rw (is, eq-eqb _ _ e)
+pub told-at : (a a′ : Action) (d : Details) (r : Record) (t : Bool) → a ≡ a′ → t ≡ agrees a′ d r → t ≡ agrees a d r
+told-at a a′ d r t is e = e ∙ rw is
 
-  pub stands-cancelled : (r .state ≡ 1 → ⊥) → (s : Standing) → s ≡ Cancelled → s ≡ standingOf f r
-  stands-cancelled n s q = q ∙ rw (is, ne-eqb _ _ n)
+module _ (q : Instruction) (f : Found) (r : Record) (i : ℕ) (is : f ≡ At i) (t : Bool) (et : t ≡ agrees (q .action) (q .details) r) where
+  pub stands-other : not t ≡ true → (s : Standing) → s ≡ Other → s ≡ standingOf q f r
+  stands-other h s e = e ∙ rw (is, ← et, not-true t h)
+
+  module _ (same : not t ≡ false) where
+    pub stands-done : r .state ≡ 1 → (s : Standing) → s ≡ Done → s ≡ standingOf q f r
+    stands-done e s x = x ∙ rw (is, ← et, not-false t same, eq-eqb _ _ e)
+
+    pub stands-cancelled : (r .state ≡ 1 → ⊥) → (s : Standing) → s ≡ Cancelled → s ≡ standingOf q f r
+    stands-cancelled n s x = x ∙ rw (is, ← et, not-false t same, ne-eqb _ _ n)
 
 -- ---- dates and accounts that a request concerns
 module _ (g : Gate) (q : Instruction) (r : Record) (t : Bool) (et : t ≡ isCancel (q .action)) where
@@ -147,7 +156,7 @@ pub held-balance : (g : Gate) (f : Found) (h : Holding) → h ≡ holdingOf g f 
 held-balance g f h e = ap (λ (x : Holding). x .balance) e ∙ ap (λ (x : Holding). balanceOf g (x .at)) (sym e)
 
 pub plan-is : (g : Gate) (lent fault : ℕ) (q : Instruction) (f : Found) (r : Record) (h : Holding) (v : View) (s : Standing) (d : Decided)
-    → h ≡ holdingOf g (accountOf g q r) → v ≡ viewOf g lent q r (h .at) → s ≡ standingOf f r
+    → h ≡ holdingOf g (accountOf g q r) → v ≡ viewOf g lent q r (h .at) → s ≡ standingOf q f r
     → d ≡ decision fault (q .action) s v → _≡_ {A = Plan} (record { decided = d; found = f; payment = r; account = h .at }) (planWith g lent fault q f r)
 unfolding planWith
 plan-is g lent fault q f r h v s d eh ev es ed = rw (ed, ev, es, eh)

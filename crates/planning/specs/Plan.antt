@@ -2,23 +2,26 @@
 use Prim.Native.Nat.{ℕ, _<_}
 use mathlib.Core.Path.{_≡_}
 use mathlib.Core.List.{List}
-use mathlib.Core.Bool.{Bool, false, cond}
+use mathlib.Core.Bool.{Bool, true, false, cond}
 use lib.Dec.{eqb, leb}
 use lib.IntN.{pos}
 use lib.Signed.{ltZ}
 use lib.ListN.{length, getD}
 use Rattle.days.specs.Calendar.{upTo}
 use Rattle.dates.specs.Date.{dateDay}
+use Rattle.payments.specs.declared.Action.{Action}
+use Rattle.payments.specs.declared.Action.the-variants.{Check, Payment, Status, Cancel}
+use Rattle.payments.specs.declared.Details.{Details}
 use Rattle.payments.specs.declared.Instruction.{Instruction}
 use Rattle.table.specs.declared.Record.{Record}
 use Rattle.table.specs.declared.Gate.{Gate}
 use Rattle.lists.specs.declared.Found.{Found}
 use Rattle.lists.specs.declared.Found.the-variants.{At, Nothing}
 use Rattle.lists.specs.Lists.{isFound}
-use Rattle.table.specs.Table.{done, noRecord, Rows, findRecord}
+use Rattle.table.specs.Table.{done, noRecord, Rows, findRecord, samePayment}
 use Rattle.table.specs.Accounts.{accountsOf, findAccount, balanceAt}
 use Rattle.rules.specs.declared.decision.Standing.{Standing}
-use Rattle.rules.specs.declared.decision.Standing.the-variants.{Unrecorded, Done, Cancelled}
+use Rattle.rules.specs.declared.decision.Standing.the-variants.{Unrecorded, Done, Cancelled, Other}
 use Rattle.rules.specs.declared.decision.View.{View}
 use Rattle.rules.specs.declared.decision.Change.the-variants.{Append}
 use Rattle.planning.specs.declared.plan.Plan.{Plan}
@@ -29,14 +32,22 @@ use Rattle.rules.specs.Answering.{isCancel}
 pub record Within (f : Found) (n : ℕ) : Type 0 where
   pub at : (i : ℕ) → f ≡ At i → i < n
 
--- a receipt is known by the receipt alone
+-- the record that a receipt has
 abbrev pub recordFound : List Record → Found → Record
 recordFound rs (At i) = getD rs i noRecord
 recordFound rs Nothing = noRecord
 
-abbrev pub standingOf : Found → Record → Standing
-standingOf Nothing r = Unrecorded
-standingOf (At i) r = cond (eqb (r .state) done) Done Cancelled
+-- document 02, [3]: a payment tells number, type, amount and date, and its record is to have them; status and cancel tell a receipt only
+abbrev pub agrees : Action → Details → Record → Bool
+agrees Check d r = true
+agrees Payment d r = samePayment (d .number) (d .kind) (d .amount) (d .date) r
+agrees Status d r = true
+agrees Cancel d r = true
+
+-- how the receipt of an instruction stands, by the record that it has
+abbrev pub standingOf : Instruction → Found → Record → Standing
+standingOf q Nothing r = Unrecorded
+standingOf q (At i) r = cond (agrees (q .action) (q .details) r) (cond (eqb (r .state) done) Done Cancelled) Other
 
 -- whether the day of a date is closed
 unfoldable pub dateClosed : Gate → List ℕ → Bool
@@ -65,7 +76,7 @@ viewOf g lent q r account =
 unfoldable pub planWith : Gate → ℕ → ℕ → Instruction → Found → Record → Plan
 planWith g lent fault q found r =
     record {
-      decided = decision fault (q .action) (standingOf found r) (viewOf g lent q r (accountOf g q r));
+      decided = decision fault (q .action) (standingOf q found r) (viewOf g lent q r (accountOf g q r));
       found = found;
       payment = r;
       account = accountOf g q r;

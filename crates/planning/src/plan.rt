@@ -3,6 +3,8 @@ use dates::date;
 use days::calendar::Day;
 use fields::number::Number;
 use lists::Found;
+use payments::Action;
+use payments::Details;
 use payments::Instruction;
 use rules::answer;
 use rules::decision;
@@ -15,13 +17,14 @@ use table::Record;
 use table::accounts;
 use table::accounts::Holding;
 use table::columns;
+use table::payment;
 use table::rows;
 ghost use mathlib.Core.Path.{_≡_};
 ghost use Prim.Native.Nat.{_≤_, _<_};
 ghost use lib.ListN.{length};
 ghost use Rattle.table.specs.Table.{recordsOf};
 ghost use Rattle.table.specs.Lent.{lent, before};
-ghost use Rattle.planning.specs.Plan.{Within, recordFound, standingOf, accountOf, dateOf, isShort, viewOf, planWith};
+ghost use Rattle.planning.specs.Plan.{Within, recordFound, agrees, standingOf, accountOf, dateOf, isShort, viewOf, planWith};
 ghost use Rattle.table.specs.Table.{noRecord};
 ghost use Rattle.table.specs.Accounts.{balanceOf, holdingOf};
 ghost use Rattle.table.specs.Columns.{gateOf, columnsBefore};
@@ -54,19 +57,38 @@ pub fn no_record() -> Record
     }
 }
 
-// How a receipt that was looked for stands.
-pub fn standing(found: Found, r: Record) -> Standing
-    ensures { λ s. ⌜ s ≡ standingOf found r ⌝ }
+// Whether a record has what an action tells of its payment: a payment tells all four, status and cancel none of them.
+fn is_told(a: Action, d: Details, r: Record) -> bool
+    ensures { λ t. ⌜ t ≡ agrees a d r ⌝ }
 {
-    match found {
-        Found::Nothing => Standing::Unrecorded,
-        Found::At(_) => {
-            if r.state == table::DONE {
-                Standing::Done
-            } else {
-                Standing::Cancelled
-            }
+    match a {
+        Action::Check => true,
+        Action::Payment => {
+            let n = d.number;
+            let date = d.date;
+            payment::same_payment(n, d.kind, d.amount, date, r)
         }
+        Action::Status => true,
+        Action::Cancel => true,
+    }
+}
+
+// How the receipt of an instruction stands, by the record that was found.
+pub fn standing(q: Instruction, found: Found, r: Record) -> Standing
+    ensures { λ s. ⌜ s ≡ standingOf q found r ⌝ }
+{
+    let Found::At(_) = found else {
+        return Standing::Unrecorded;
+    };
+    let a = q.action;
+    let d = q.details;
+    if !is_told(a, d, r) {
+        return Standing::Other;
+    }
+    if r.state == table::DONE {
+        Standing::Done
+    } else {
+        Standing::Cancelled
     }
 }
 
@@ -164,7 +186,7 @@ pub fn make_plan(
     let v = view_of(closed, used, lent, q, payment, h);
     let a = q.action;
     let account = h.at;
-    let decided = decision::decide(fault, a, standing(found, payment), v);
+    let decided = decision::decide(fault, a, standing(q, found, payment), v);
     Plan {
         decided,
         found,

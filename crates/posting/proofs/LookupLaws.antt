@@ -9,7 +9,7 @@ use lib.Dec.{eqb}
 use lib.ListN.{length, getD, set, List·getD-append}
 use lib.Seq.{getD-set-same, getD-set-other}
 use borrow.Author.Tests.{eq-eqb, ne-eqb, eqb-true}
-use Rattle.texts.proofs.Tests.{and-left, and-right}
+use Rattle.texts.proofs.Tests.{and-right}
 use Rattle.lines.specs.declared.line.Line.{Line}
 use Rattle.lists.specs.declared.Found.the-variants.{At, Nothing}
 use Rattle.lists.specs.Lists.{firstFrom}
@@ -25,6 +25,7 @@ use Rattle.table.specs.Daily.{isDone}
 use Rattle.posting.specs.Posting.{matches, verdictOf, restored, postedRecord, Ledger, Verdict, Keeps, Restores, Posts, Unposted, applied, settleLine, ledgerOf}
 use Rattle.posting.specs.Steps.{Held, Left}
 use Rattle.posting.proofs.HeldLaws.{credit-used, line-step, left-records}
+use Rattle.posting.proofs.MatchLaws.{match-receipt}
 use Rattle.posting.proofs.PostLaws.{line-applied}
 use Rattle.posting.specs.Lookup.{Sought, SameReceipt, Matched, MatchedDone, receiptAt, fits}
 
@@ -43,10 +44,6 @@ module _ (w : Sought) (x : Line) (r : Record) (e : w ≡ MatchedDone) where
   not-done d = rw (e, ne-eqb _ _ d)
 
 -- what is sought has the line's receipt
-pub match-receipt : (x : Line) (r : Record) → matches x r ≡ true → r .receipt ≡ x .receipt
-unfolding matches
-match-receipt x r h = eqb-true _ _ (and-left _ _ h)
-
 fits-receipt : (w : Sought) (x : Line) (r : Record) → fits w x r ≡ true → r .receipt ≡ x .receipt
 fits-receipt SameReceipt x r h = eqb-true _ _ h
 fits-receipt Matched x r h = match-receipt x r h

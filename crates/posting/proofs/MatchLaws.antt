@@ -2,18 +2,18 @@
 use Prim.Native.Nat.{ℕ, _<_}
 use native.Mathlib.Omega.{arith}
 use mathlib.Core.Path.{_≡_, sym, _∙_}
-use mathlib.Core.Bool.{Bool, true, false, not}
-use borrow.Author.Tests.{eq-eqb, ne-eqb, not-true, not-false}
-use Rattle.texts.specs.Lists.{eqList}
-use Rattle.fields.specs.Number.{sameNumber}
+use mathlib.Core.Bool.{Bool, true, false}
+use borrow.Author.Tests.{eq-eqb, ne-eqb, eqb-true}
+use Rattle.texts.proofs.Tests.{and-left, and-right}
 use Rattle.lines.specs.declared.line.Line.{Line}
 use Rattle.table.specs.declared.Record.{Record}
 use Rattle.lists.specs.declared.Found.{Found}
 use Rattle.lists.specs.declared.Found.the-variants.{At}
 use Rattle.lists.specs.Lists.{firstFrom}
-use Rattle.table.specs.Table.{Rows, recordsOf}
+use Rattle.table.specs.Table.{Rows, recordsOf, hasReceipt, samePayment}
 use Rattle.lists.proofs.ListLaws.{search-within}
 use Rattle.table.proofs.TableLaws.{length-records}
+use Rattle.table.proofs.PaymentLaws.{SameFour, payment-four}
 use Rattle.posting.specs.Posting.{matches}
 
 -- ---- one record
@@ -22,23 +22,18 @@ module _ (x : Line) (r : Record) where
   unfolding matches
   other-receipt d = rw (ne-eqb _ _ d)
 
-  module _ (er : r .receipt ≡ x .receipt) (s : Bool) (es : s ≡ sameNumber (r .number) (x .number)) where
-    pub other-number : not s ≡ true → false ≡ matches x r
-    unfolding matches
-    other-number h = rw (eq-eqb _ _ er, ← es, not-true s h)
+  pub four-match : r .receipt ≡ x .receipt → (b : Bool) → b ≡ samePayment (x .number) (x .kind) (x .amount) (x .date) r → b ≡ matches x r
+  unfolding matches
+  four-match e b eb = eb ∙ rw (eq-eqb _ _ e)
 
-    module _ (n : not s ≡ false) where
-      pub other-kind : (r .kind ≡ x .kind → ⊥) → false ≡ matches x r
-      unfolding matches
-      other-kind d = rw (eq-eqb _ _ er, ← es, not-false s n, ne-eqb _ _ d)
+  -- a line and a record that match, taken apart
+  pub match-receipt : matches x r ≡ true → r .receipt ≡ x .receipt
+  unfolding matches
+  match-receipt h = eqb-true _ _ (and-left _ _ h)
 
-      pub other-amount : r .kind ≡ x .kind → (r .amount ≡ x .amount → ⊥) → false ≡ matches x r
-      unfolding matches
-      other-amount ek d = rw (eq-eqb _ _ er, ← es, not-false s n, eq-eqb _ _ ek, ne-eqb _ _ d)
-
-      pub same-date : r .kind ≡ x .kind → r .amount ≡ x .amount → (t : Bool) → t ≡ eqList (r .date) (x .date) → t ≡ matches x r
-      unfolding matches
-      same-date ek ea t e = e ∙ rw (eq-eqb _ _ er, ← es, not-false s n, eq-eqb _ _ ek, eq-eqb _ _ ea)
+  pub match-four : matches x r ≡ true → SameFour (x .number) (x .kind) (x .amount) (x .date) r
+  unfolding matches
+  match-four h = payment-four _ _ _ _ r (and-right (hasReceipt (x .receipt) r) _ h)
 
 -- ---- the first that matches
 pub match-within : (t : Rows) (n : ℕ) (x : Line) (i : ℕ) (f : Found) → f ≡ firstFrom (matches x) 0 (recordsOf t n) → f ≡ At i → i < n

@@ -2,11 +2,8 @@
 use Prim.Native.Nat.{ℕ, _+_}
 use mathlib.Core.List.{List, [], _∷_, _++_}
 use mathlib.Core.Bool.{Bool, cond, _&&_}
-use lib.Dec.{eqb}
 use lib.ListN.{getD, set}
-use Rattle.texts.specs.Lists.{eqList}
 use Rattle.dates.specs.Date.{emptyDate}
-use Rattle.fields.specs.Number.{sameNumber}
 use Rattle.payments.specs.declared.Details.{Details}
 use Rattle.lines.specs.declared.line.Line.{Line}
 use Rattle.table.specs.declared.Record.{Record}
@@ -14,7 +11,7 @@ use Rattle.table.specs.declared.Gate.{Gate}
 use Rattle.lists.specs.declared.Found.{Found}
 use Rattle.lists.specs.declared.Found.the-variants.{At, Nothing}
 use Rattle.lists.specs.Lists.{firstFrom}
-use Rattle.table.specs.Table.{Rows, recordsOf, done, noRecord, findRecord}
+use Rattle.table.specs.Table.{Rows, recordsOf, done, noRecord, hasReceipt, findRecord, samePayment}
 use Rattle.table.specs.Daily.{isDone}
 use Rattle.table.specs.Accounts.{accountsOf, findAccount, withUsed}
 use Rattle.planning.specs.Plan.{isFull}
@@ -22,12 +19,9 @@ use Rattle.ledger.specs.Change.{makeRecord, creditedAt}
 pub use Rattle.posting.specs.declared.verdict.Verdict.{Verdict}
 pub use Rattle.posting.specs.declared.verdict.Verdict.the-variants.{Keeps, Restores, Posts, Unposted}
 
--- a line speaks of a record that is the same in all four
+-- a line speaks of a record of its receipt that is the same in all four
 unfoldable pub matches : Line → Record → Bool
-matches x r =
-    eqb (r .receipt) (x .receipt)
-    && (sameNumber (r .number) (x .number)
-    && (eqb (r .kind) (x .kind) && (eqb (r .amount) (x .amount) && eqList (r .date) (x .date))))
+matches x r = hasReceipt (x .receipt) r && samePayment (x .number) (x .kind) (x .amount) (x .date) r
 
 -- ---- the verdict on one line
 -- a receipt that is not recorded is posted where its account is known and there is room

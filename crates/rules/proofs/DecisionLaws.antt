@@ -9,7 +9,7 @@ use Rattle.texts.proofs.Tests.{cond-elim}
 use Rattle.payments.specs.declared.Action.{Action}
 use Rattle.payments.specs.declared.Action.the-variants.{Check, Payment, Status, Cancel}
 use Rattle.rules.specs.declared.decision.Standing.{Standing}
-use Rattle.rules.specs.declared.decision.Standing.the-variants.{Unrecorded, Done, Cancelled}
+use Rattle.rules.specs.declared.decision.Standing.the-variants.{Unrecorded, Done, Cancelled, Other}
 use Rattle.rules.specs.declared.decision.View.{View}
 use Rattle.rules.specs.declared.decision.Change.{Change}
 use Rattle.rules.specs.declared.decision.Change.the-variants.{Keep, Append, Revoke}
@@ -96,12 +96,15 @@ append-on Check s v h = not-append h
 append-on Payment Unrecorded v h = payment-appends v h
 append-on Payment Done v h = not-append h
 append-on Payment Cancelled v h = not-append h
+append-on Payment Other v h = not-append h
 append-on Status Unrecorded v h = not-append h
 append-on Status Done v h = not-append h
 append-on Status Cancelled v h = not-append h
+append-on Status Other v h = not-append h
 append-on Cancel Unrecorded v h = not-append h
 append-on Cancel Done v h = absurd (cancel-keeps v h)
 append-on Cancel Cancelled v h = not-append h
+append-on Cancel Other v h = not-append h
 
 revoke-on : (a : Action) (s : Standing) (v : View) → (decisionOn a s v) .change ≡ Revoke → Revokes 0 a s v
 unfolding decisionOn
@@ -109,12 +112,15 @@ revoke-on Check s v h = not-revoke h
 revoke-on Payment Unrecorded v h = absurd (payment-keeps v h)
 revoke-on Payment Done v h = not-revoke h
 revoke-on Payment Cancelled v h = not-revoke h
+revoke-on Payment Other v h = not-revoke h
 revoke-on Status Unrecorded v h = not-revoke h
 revoke-on Status Done v h = not-revoke h
 revoke-on Status Cancelled v h = not-revoke h
+revoke-on Status Other v h = not-revoke h
 revoke-on Cancel Unrecorded v h = not-revoke h
 revoke-on Cancel Done v h = cancel-revokes v h
 revoke-on Cancel Cancelled v h = not-revoke h
+revoke-on Cancel Other v h = not-revoke h
 
 -- what a decision makes of a fault, and of none
 module _ (P : Decided → Type 0) (f : ℕ) (a : Action) (s : Standing) (v : View) where

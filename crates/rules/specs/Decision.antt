@@ -6,7 +6,7 @@ use Rattle.texts.specs.Digits.{within}
 use Rattle.payments.specs.declared.Action.{Action}
 use Rattle.payments.specs.declared.Action.the-variants.{Check, Payment, Status, Cancel}
 use Rattle.rules.specs.declared.decision.Standing.{Standing}
-use Rattle.rules.specs.declared.decision.Standing.the-variants.{Unrecorded, Done, Cancelled}
+use Rattle.rules.specs.declared.decision.Standing.the-variants.{Unrecorded, Done, Cancelled, Other}
 use Rattle.rules.specs.declared.decision.View.{View}
 use Rattle.rules.specs.declared.decision.Change.the-variants.{Keep, Append, Revoke}
 use Rattle.rules.specs.declared.decision.Decided.{Decided}
@@ -27,18 +27,22 @@ paymentNew v =
 unfoldable pub cancelDone : View → Decided
 cancelDone v = cond (v .closed) (keeps 9) (cond (v .short) (keeps 9) (record { code = 0; change = Revoke }))
 
--- a request without a fault
+-- a request without a fault. A payment whose receipt is another's gets 4 (document 02, [3]). Status and cancel cannot tell that: no standing of theirs is
+-- Other (`standingOf`), and their rows for it say what they say of a payment without a record
 unfoldable pub decisionOn : Action → Standing → View → Decided
 decisionOn Check s v = keeps (checkCode v)
 decisionOn Payment Unrecorded v = paymentNew v
 decisionOn Payment Done v = keeps 0
 decisionOn Payment Cancelled v = keeps 7
+decisionOn Payment Other v = keeps 4
 decisionOn Status Unrecorded v = keeps 6
 decisionOn Status Done v = keeps 0
 decisionOn Status Cancelled v = keeps 7
+decisionOn Status Other v = keeps 6
 decisionOn Cancel Unrecorded v = keeps 9
 decisionOn Cancel Done v = cancelDone v
 decisionOn Cancel Cancelled v = keeps 0
+decisionOn Cancel Other v = keeps 9
 
 -- what a reader may find at fault: action 1, number or type 2, amount 3, receipt 4, date 5, the text itself 31, reason 32; whatever other number it gave would be 31
 unfoldable pub isFault : ℕ → Bool

@@ -3,11 +3,12 @@ use payments::Action;
 ghost use mathlib.Core.Path.{_≡_};
 ghost use Rattle.rules.specs.Decision.{keeps, checkCode, paymentNew, cancelDone, decision};
 
-// How a receipt stands in the table.
+// How a receipt stands in the table. Other: its record is of another number, type, amount or date than the payment tells.
 pub enum Standing {
     Unrecorded,
     Done,
     Cancelled,
+    Other,
 }
 
 // What else a decision looks at: the account is known, the table is full, its day is closed, the balance is below the amount.
@@ -102,16 +103,19 @@ pub fn decide(fault: u64, a: Action, s: Standing, v: View) -> Decided
                 Standing::Unrecorded => payment_new(v),
                 Standing::Done => keep(0),
                 Standing::Cancelled => keep(7),
+                Standing::Other => keep(4),
             },
             Action::Status => match s {
                 Standing::Unrecorded => keep(6),
                 Standing::Done => keep(0),
                 Standing::Cancelled => keep(7),
+                Standing::Other => keep(6),
             },
             Action::Cancel => match s {
                 Standing::Unrecorded => keep(9),
                 Standing::Done => cancel_done(v),
                 Standing::Cancelled => keep(0),
+                Standing::Other => keep(9),
             },
         },
         1..=5 | 31..=32 => keep(fault),

@@ -339,7 +339,7 @@ unfolding FiAmount.kopecksAfter FiAmount.amountRead FiAmount.amountBytes
     LiLent.lentWell
     LiLists.tab LiLists.firstFrom LiLists.allFrom
     TaAccounts.isAccount TaAccounts.findAccount TaAccounts.credited TaAccounts.debited TaAccounts.opened
-    TaTable.recordsOf TaTable.rowsFrom TaTable.findRecord
+    TaTable.recordsOf TaTable.rowsFrom TaTable.findRecord TaTable.samePayment
     VaValid.near VaValid.accountGood VaValid.gateGood VaValid.stateGood VaValid.rangesGood VaValid.accountKnown VaValid.authcodeGood VaValid.recordGood
     VaValid.tableGood
     RuDecision.checkCode RuDecision.paymentNew RuDecision.cancelDone RuDecision.decisionOn RuDecision.isFault RuDecision.faultCode RuDecision.decision

@@ -42,7 +42,7 @@ use Rattle.settlement_theorems.specs.Cases.{opens, atStart, pays, paysAg
 
 -- every definition on the way is computed
 pub cases : K
-unfolding opens atStart pays paysAgain draws cancelsDrawn cancels paysCancelled settlesNone settlesLine paysLate settlesLater T.recordsOf TL.tab TL.firstFrom TL.allFrom A.isAccount A.findAccount VA.tableGood LE.lentWell VA.gateGood VA.accountGood VA.near VA.recordGood VA.rangesGood VA.stateGood VA.accountKnown VA.authcodeGood L.every L.eqList N.numberByte N.isNumber N.sameNumber C.leapYear C.daysIn C.isDate C.dayOf C.twoDigits C.dayPart W.clockTime W.dateDay L.find G.digitsRead G.rangeRead M.kopecksAfter M.amountRead N.isNumberText N.numberRead W.dateRead T.rowsFrom T.findRecord A.credited A.debited L.written L.cursorAfter C.dayBefore LP.isFull LC.nextAuthcode LC.revoked deliver D.respond LP.planOf LP.planWith LP.viewOf LP.dateOf LP.accountOf EA.isCancel LP.dateClosed LC.changed LC.makeRecord EA.answerOf EA.answersAuthcode EA.answersDate EA.answerDate E.decisionOn E.isFault E.faultCode E.decision E.paymentNew E.checkCode E.cancelDone G.fixed G.decimal U.isHex U.hexValue U.wellCoded U.decoded P.splitAt MN.nameIndex MN.actionWord MN.actionOf MS.addPiece MS.gatherFrom MS.gathered MR.held MR.fieldOf MR.refused MR.firstFault MR.fieldFault MR.askedOf MR.fieldsRead MR.requestRead AN.element AN.messageOf AN.answerBytes openAccount O.openTo A.opened drawFunds O.drawFrom O.drawOn settle S.settleRead CG.settleDay PO.matches PO.verdictOf PO.restored PO.postedRecord PO.applied PO.settleLine CL.settleLines CL.anyMatches CL.isStray CL.sweptRecord CL.sweptGate CL.sweepGates CL.swept CL.anyDone CL.reportOf RR.splitLines RR.countOf RR.lineCount RR.goodLine RR.goodLines RR.heldLines RR.registryLines RR.rising RR.registryFault RL.lineRead C.sameDay C.nextDay
+unfolding opens atStart pays paysAgain draws cancelsDrawn cancels paysCancelled settlesNone settlesLine paysLate settlesLater T.recordsOf TL.tab TL.firstFrom TL.allFrom A.isAccount A.findAccount VA.tableGood LE.lentWell VA.gateGood VA.accountGood VA.near VA.recordGood VA.rangesGood VA.stateGood VA.accountKnown VA.authcodeGood L.every L.eqList N.numberByte N.isNumber N.sameNumber C.leapYear C.daysIn C.isDate C.dayOf C.twoDigits C.dayPart W.clockTime W.dateDay L.find G.digitsRead G.rangeRead M.kopecksAfter M.amountRead N.isNumberText N.numberRead W.dateRead T.rowsFrom T.findRecord T.samePayment A.credited A.debited L.written L.cursorAfter C.dayBefore LP.isFull LC.nextAuthcode LC.revoked deliver D.respond LP.planOf LP.planWith LP.viewOf LP.dateOf LP.accountOf EA.isCancel LP.dateClosed LC.changed LC.makeRecord EA.answerOf EA.answersAuthcode EA.answersDate EA.answerDate E.decisionOn E.isFault E.faultCode E.decision E.paymentNew E.checkCode E.cancelDone G.fixed G.decimal U.isHex U.hexValue U.wellCoded U.decoded P.splitAt MN.nameIndex MN.actionWord MN.actionOf MS.addPiece MS.gatherFrom MS.gathered MR.held MR.fieldOf MR.refused MR.firstFault MR.fieldFault MR.askedOf MR.fieldsRead MR.requestRead AN.element AN.messageOf AN.answerBytes openAccount O.openTo A.opened drawFunds O.drawFrom O.drawOn settle S.settleRead CG.settleDay PO.matches PO.verdictOf PO.restored PO.postedRecord PO.applied PO.settleLine CL.settleLines CL.anyMatches CL.isStray CL.sweptRecord CL.sweptGate CL.sweepGates CL.swept CL.anyDone CL.reportOf RR.splitLines RR.countOf RR.lineCount RR.goodLine RR.goodLines RR.heldLines RR.registryLines RR.rising RR.registryFault RL.lineRead C.sameDay C.nextDay
 cases =
     record {
       opening = refl;

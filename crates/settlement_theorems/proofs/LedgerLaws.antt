@@ -7,14 +7,14 @@ use mathlib.Core.Bool.{Bool, true, false, cond}
 use mathlib.Core.List.{List, [], _∷_, _++_, map}
 use lib.ListN.{length, getD, set, length-append, length-set, length-map, List·getD-append}
 use lib.Seq.{getD-at, getD-set-same, getD-set-other}
-use borrow.Author.Tests.{eqb-true, eqb-false}
+use borrow.Author.Tests.{eq-eqb, eqb-true, eqb-false}
 use Rattle.days.specs.declared.calendar.Day.{Day}
 use Rattle.fields.specs.declared.number.Number.{Number}
 use Rattle.texts.specs.Lists.{eqList}
 use Rattle.fields.specs.Amount.{isAmount}
 use Rattle.fields.specs.Codes.{isReceipt}
 use Rattle.dates.specs.Date.{isWritten}
-use Rattle.texts.proofs.Tests.{both, and-left, cond-elim, no-claim}
+use Rattle.texts.proofs.Tests.{both, cond-elim, no-claim}
 use Rattle.dates.proofs.KeyLaws.{Valid, valid-number}
 use Rattle.lines.specs.declared.line.Line.{Line}
 use Rattle.lines.specs.Line.{isLine}
@@ -45,6 +45,7 @@ use Rattle.settlement.specs.Settle.{settle}
 use Rattle.closing.specs.Closing.{settleDay}
 use Rattle.admission.specs.Delivery.{Delivery}
 use Rattle.posting.proofs.HeldLaws.{post-room, post-new, verdict-post}
+use Rattle.posting.proofs.MatchLaws.{match-receipt}
 use Rattle.settlement_theorems.proofs.SettleLaws.{Onward, applied-onward, line-onward, swept-onward, map-at, restores-at, settled-by, before, after, after-used}
 use Rattle.settlement_theorems.proofs.BalanceLaws.{names-credited-at}
 
@@ -165,17 +166,13 @@ once-same rs once i j h k e = pick (ℕ-discrete i j)
         omega arith
 
 -- a line matches the record of its receipt or none
-match-receipt : (x : Line) (r : Record) → matches x r ≡ true → hasReceipt (x .receipt) r ≡ true
-unfolding matches
-match-receipt x r h = and-left (hasReceipt (x .receipt) r) _ h
-
 abbrev pub narrowed : Line → List Record → Found → Found
 narrowed x rs Nothing = Nothing
 narrowed x rs (At i) = cond (matches x (getD rs i noRecord)) (At i) Nothing
 
 module _ (x : Line) (rs : List Record) where
   by-receipt : (k : ℕ) → firstFrom (matches x) 0 rs ≡ At k → hasReceipt (x .receipt) (getD rs k noRecord) ≡ true
-  by-receipt k e = match-receipt x (getD rs k noRecord) (found-fits (matches x) rs noRecord e)
+  by-receipt k e = eq-eqb _ _ (match-receipt x (getD rs k noRecord) (found-fits (matches x) rs noRecord e))
 
   within : (p : Record → Bool) (k : ℕ) → firstFrom p 0 rs ≡ At k → k < length rs
   within p k e = omega (arith, search-within p 0 rs k e)

@@ -13,9 +13,9 @@ use Rattle.texts.specs.Lists.{written}
 use Rattle.dates.specs.Date.{dateDay, isWritten}
 use Rattle.days.specs.Calendar.{isDay, dayBefore, nextDay, onDay}
 use Rattle.texts.proofs.Tests.{cond-elim, and-left, and-right}
-use Rattle.fields.specs.Number.{sameNumber}
 use Rattle.texts.proofs.OutLaws.{written-over, bytes-past}
-use Rattle.texts.proofs.ScanLaws.{eqList-true}
+use Rattle.posting.proofs.MatchLaws.{match-four}
+use Rattle.fields.specs.declared.number.Number.{Number}
 use Rattle.lines.specs.declared.line.Line.{Line}
 use Rattle.lines.specs.Line.{isLine}
 use Rattle.registry.specs.Registry.{lineOn, everyLine}
@@ -26,7 +26,7 @@ use Rattle.table.specs.declared.Gate.{Gate}
 use Rattle.lists.specs.declared.Found.{Found}
 use Rattle.lists.specs.declared.Found.the-variants.{At, Nothing}
 use Rattle.lists.specs.Lists.{firstFrom}
-use Rattle.table.specs.Table.{Rows, recordAt, recordsOf, rowsFrom, findRecord}
+use Rattle.table.specs.Table.{Rows, recordAt, recordsOf, rowsFrom, findRecord, samePayment}
 use Rattle.lists.proofs.ListLaws.{found-fits}
 use Rattle.table.specs.Accounts.{accountsOf, findAccount}
 use Rattle.validity.specs.Valid.{tableGood}
@@ -349,13 +349,12 @@ module _ (g : Gate) (t : Rows) (clock : List ℕ) (day : Day) (text out : List �
       ap (λ (l : List ℕ). getD l i 0) (report-now g t clock day text out done)
       ∙ bytes-past out 0 (reportOf (registryLines text) table) i (omega (arith, n))
 
--- ---- records of other days: neither a line nor the sweep touches them
-matches-date : (x : Line) (r : Record) → matches x r ≡ true → r .date ≡ x .date
-unfolding matches
-matches-date x r h =
-    eqList-true (r .date) (x .date)
-    (and-right (eqb (r .amount) (x .amount)) _ (and-right (eqb (r .kind) (x .kind)) _ (and-right (sameNumber (r .number) (x .number)) _ (and-right (eqb (r .receipt) (x .receipt)) _ h))))
+-- ---- a record that is restored is of the same payment
+pub restored-agrees : (n : Number) (k m : ℕ) (d : List ℕ) (r : Record) → samePayment n k m d (restored r) ≡ samePayment n k m d r
+unfolding restored samePayment
+restored-agrees n k m d r = refl
 
+-- ---- records of other days: neither a line nor the sweep touches them
 -- a verdict that restores record k has found it by the line
 module _ (x : Line) (rs : List Record) (k : ℕ) where
   no-post : (f a : Found) (full : Bool) → postVerdict f a full ≡ Restores k → ⊥
@@ -397,7 +396,7 @@ module _ (day : Day) where
           apart : i ≡ k → ⊥
           apart q =
               let fits : matches x (getD (l .records) k noRecord) ≡ true = restores-fits x (l .records) k (l .gate) lent e in
-              let same : (getD (l .records) i noRecord) .date ≡ x .date = ap (λ (j : ℕ). (getD (l .records) j noRecord) .date) q ∙ matches-date x (getD (l .records) k noRecord) fits in
+              let same : (getD (l .records) i noRecord) .date ≡ x .date = ap (λ (j : ℕ). (getD (l .records) j noRecord) .date) q ∙ match-four x (getD (l .records) k noRecord) fits .date in
               let today : onDay day (dateDay (x .date)) ≡ true = and-right (isLine x) _ on in
               let z : true ≡ false = sym today ∙ ap (λ (d : List ℕ). onDay day (dateDay d)) (sym same) ∙ off in
               true-not-false z

@@ -3,3 +3,4 @@ pub mod SignedLaws
 pub mod AccountLaws
 pub mod ColumnLaws
 pub mod DailyLaws
+pub mod PaymentLaws

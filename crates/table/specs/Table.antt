@@ -1,11 +1,13 @@
 -- Document 01, "Gate": the payment table, lent as three rows of one length. Record i has six numbers, the bytes of its account's number, and three dates.
-use mathlib.Core.Bool.{Bool}
+use mathlib.Core.Bool.{Bool, _&&_}
 use mathlib.Core.Path.{_≡_}
 use mathlib.Core.List.{List, [], _∷_, _++_, map}
 use Prim.Native.Nat.{ℕ, _<_, _≤_}
 use lib.Dec.{eqb}
 use lib.ListN.{length, drop, getD, set}
-use Rattle.fields.specs.Number.{noNumber}
+use Rattle.texts.specs.Lists.{eqList}
+use Rattle.fields.specs.declared.number.Number.{Number}
+use Rattle.fields.specs.Number.{noNumber, sameNumber}
 use Rattle.dates.specs.Date.{emptyDate}
 use Rattle.table.specs.declared.Record.{Record}
 use Rattle.lists.specs.declared.Found.{Found}
@@ -92,6 +94,10 @@ hasReceipt x r = eqb (r .receipt) x
 
 unfoldable pub findRecord : ℕ → List Record → Found
 findRecord x rs = firstFrom (hasReceipt x) 0 rs
+
+-- whether a record is of this number, type, amount and date: the one comparison of a payment with its record (documents 01, "Registry", and 02, [3])
+unfoldable pub samePayment : Number → ℕ → ℕ → List ℕ → Record → Bool
+samePayment n k m d r = sameNumber (r .number) n && (eqb (r .kind) k && (eqb (r .amount) m && eqList (r .date) d))
 
 -- the rows have n records, each with the lengths of its arrays
 pub record Whole (t : Rows) (n : ℕ) : Type 0 where

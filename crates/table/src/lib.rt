@@ -2,6 +2,7 @@
 pub mod accounts;
 pub mod columns;
 pub mod daily;
+pub mod payment;
 pub mod rows;
 
 use days::calendar::Day;

@@ -400,7 +400,7 @@ impl Pair for Gates {
             5..=8 => self.choose_settle(chance, clock, out),
             _ if self.sound.is_some() && chance.one_in(6) => Step::Mend,
             _ => {
-                let known: Vec<u64> = self.proved.records().map(|record| record.payment.receipt).collect();
+                let known: Vec<Payment> = self.proved.records().map(|record| record.payment).collect();
                 Step::Deliver { clock, parameters: Text(texts::parameters(chance, closed, &known)), out }
             }
         }

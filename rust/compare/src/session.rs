@@ -31,6 +31,7 @@ pub fn proved(input: &[u8]) -> Result<Vec<u8>, Error> {
 /// A session of random lines, most of them well formed.
 pub fn lines(chance: &mut Chance, count: usize) -> Vec<u8> {
     let day = texts::start_day(chance);
+    let known = [1, 2, 3].map(|receipt| texts::payment(chance, day, receipt));
     let mut text = format!("C {day}\n").into_bytes();
     for _ in 0..count {
         let from = text.len();
@@ -46,7 +47,7 @@ pub fn lines(chance: &mut Chance, count: usize) -> Vec<u8> {
                 text.extend(b"R ");
                 text.extend(texts::any_date(chance, day));
                 text.push(b' ');
-                text.extend(texts::parameters(chance, day, &[1, 2, 3]));
+                text.extend(texts::parameters(chance, day, &known));
             }
         }
         if chance.one_in(8) {

@@ -178,26 +178,58 @@ fn push_coded(chance: &mut Chance, value: &[u8], out: &mut Vec<u8>) {
     }
 }
 
+/// A payment near a closed day; now and then its date is none.
+pub fn payment(chance: &mut Chance, closed: Day, receipt: u64) -> Payment {
+    let (number, kind) = (number(chance), chance.between(0, 1));
+    Payment { receipt, number, kind, kopecks: kopecks(chance), date: any_date(chance, closed) }
+}
+
+/// What a request tells: a known payment, one of its values now and then another, or any.
+fn told(chance: &mut Chance, closed: Day, known: &[Payment]) -> Payment {
+    let receipt = chance.between(1, 12);
+    let mut told = payment(chance, closed, receipt);
+    if known.is_empty() || chance.one_in(2) {
+        return told;
+    }
+    let other = told;
+    told = chance.pick(known);
+    match chance.below(16) {
+        0 => told.number = other.number,
+        1 => told.kind = other.kind,
+        2 => told.kopecks = other.kopecks,
+        3 => told.date = other.date,
+        4 => told = Payment { receipt: told.receipt, ..other },
+        _ => {}
+    }
+    told
+}
+
+/// A type's text, in any of its forms or malformed; `None` where it is left out, which tells 1.
+fn kind_text(chance: &mut Chance, kind: u64) -> Option<String> {
+    match chance.below(14) {
+        0 => Some(chance.pick(&["", "1000"]).into()),
+        1 => Some(format!("{kind:03}")),
+        2..=5 if kind == 1 => None,
+        _ => Some(kind.to_string()),
+    }
+}
+
 /// The names and values of a request, in the writer's order.
-fn request_fields(chance: &mut Chance, closed: Day, known: &[u64], action: &str) -> Vec<(&'static str, Vec<u8>)> {
-    let kopecks = kopecks(chance);
-    let receipt = match known.is_empty() || chance.one_in(2) {
-        true => chance.between(1, 12),
-        false => chance.pick(known),
-    };
+fn request_fields(chance: &mut Chance, closed: Day, known: &[Payment], action: &str) -> Vec<(&'static str, Vec<u8>)> {
+    let told = told(chance, closed, known);
     let mut fields = vec![("action", action.into())];
     if matches!(action, "check" | "payment") || chance.one_in(10) {
-        fields.push(("number", number(chance).as_bytes().to_vec()));
-        if !chance.one_in(3) {
-            fields.push(("type", chance.pick(&["1", "0", "001", "1", "0", "", "1000"]).into()));
+        fields.push(("number", told.number.as_bytes().to_vec()));
+        if let Some(kind) = kind_text(chance, told.kind) {
+            fields.push(("type", kind.into()));
         }
-        fields.push(("amount", amount_text(chance, kopecks).into()));
+        fields.push(("amount", amount_text(chance, told.kopecks).into()));
     }
     if action != "check" || chance.one_in(10) {
-        fields.push(("receipt", receipt_text(chance, receipt).into()));
+        fields.push(("receipt", receipt_text(chance, told.receipt).into()));
     }
     if action == "payment" || chance.one_in(10) {
-        fields.push(("date", any_date(chance, closed).to_vec()));
+        fields.push(("date", told.date.to_vec()));
     }
     if action == "cancel" || chance.one_in(10) {
         fields.push(("mes", if chance.one_in(8) { chance.pick(&["0", "6", "01", ""]) } else { "5" }.into()));
@@ -205,8 +237,8 @@ fn request_fields(chance: &mut Chance, closed: Day, known: &[u64], action: &str)
     fields
 }
 
-/// The parameters of a request near a closed day, half of them for a known receipt; some are wrong.
-pub fn parameters(chance: &mut Chance, closed: Day, known: &[u64]) -> Vec<u8> {
+/// The parameters of a request near a closed day, half of them of a known payment; some are wrong.
+pub fn parameters(chance: &mut Chance, closed: Day, known: &[Payment]) -> Vec<u8> {
     const ACTIONS: [&str; 12] = [
         "payment", "payment", "payment", "payment", "payment", "check", "status", "status", "cancel", "cancel",
         "cancel", "cancel",

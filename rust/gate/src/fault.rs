@@ -32,7 +32,7 @@ faults! {
     UnknownAction = 1, "Send one of the actions check, payment, status and cancel.";
     UnknownAccount = 2, "Give the number and type of an open account.";
     BadAmount = 3, "Give an amount from 0.01 to 9999999.99, with at most two decimals.";
-    BadReceipt = 4, "Give a receipt of 1 to 15 digits that is not zero.";
+    BadReceipt = 4, "Give a receipt of 1 to 15 digits, not zero, and not that of a payment with another number, type, amount or date.";
     BadDate = 5, "Give a date that is real and later than the closed day.";
     NoRecord = 6, "The gate has no such payment: send the payment again, or leave it to the registry.";
     Cancelled = 7, "The payment stands cancelled; accept a new one if it is still wanted.";

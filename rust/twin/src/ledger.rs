@@ -18,13 +18,13 @@ pub(crate) struct View<'a> {
 }
 
 impl View<'_> {
-    /// Whether a line of a registry tells of this very payment.
-    pub(crate) fn agrees(&self, line: &Payment) -> bool {
-        self.receipt == line.receipt
-            && self.kopecks == line.kopecks
-            && self.kind == line.kind
-            && *self.date == line.date
-            && *self.number == line.number.bytes[..line.number.len]
+    /// Whether a request or a line of a registry tells of this very payment.
+    pub(crate) fn agrees(&self, told: &Payment) -> bool {
+        self.receipt == told.receipt
+            && self.kopecks == told.kopecks
+            && self.kind == told.kind
+            && *self.date == told.date
+            && *self.number == told.number.bytes[..told.number.len]
     }
 }
 

@@ -67,7 +67,10 @@ fn check(ledger: &impl Ledger, number: &Number, kind: u64) -> Answer {
 
 fn pay(ledger: &mut impl Ledger, payment: &Payment, clock: &Date) -> Answer {
     if let Some(place) = ledger.record(payment.receipt) {
-        return standing(ledger, place);
+        return match ledger.view(place).agrees(payment) {
+            true => standing(ledger, place),
+            false => Answer::timed(WRONG_RECEIPT, clock),
+        };
     }
     if is_closed(ledger, &payment.date) {
         return Answer::timed(WRONG_DATE, clock);

@@ -42,8 +42,31 @@ fn a_closed_day_weighs_more_than_the_account_and_the_account_more_than_room() {
         assert_eq!(gate.code(&other), 30);
         assert_eq!(gate.code(&other.replace("account12", "b")), 2);
         assert_eq!(gate.code(&other.replace("account12", "b").replace("2005-09-20", "2005-09-19")), 5);
-        assert_eq!(gate.code(&K1.replace("account12", "b").replace("2005-09-20", "2005-09-01")), 0);
+        assert_eq!(gate.code(&K1.replace("account12", "b").replace("2005-09-20", "2005-09-01")), 4);
         assert_eq!(gate.code(&K1.replace("amount=10.12", "amount=x")), 3);
+    }
+}
+
+#[test]
+fn a_recorded_receipt_with_other_money() {
+    let others = [("account12", "account1"), ("10.12", "10.11"), ("15:53:00", "15:53:01"), ("type=1", "type=2")];
+    for mut gate in gates(1) {
+        assert_eq!(gate.code(K1), 0);
+        for (cancelled, again) in [(false, 0), (true, 7)] {
+            if cancelled {
+                assert_eq!(gate.code("action=cancel&receipt=987654321&mes=1"), 0);
+            }
+            for (told, other) in others {
+                let text = K1.replace(told, other);
+                assert_ne!(text, K1);
+                let (code, answer) = gate.ask(&at("16:00:00"), &text);
+                assert_eq!(code, 4, "{text}");
+                assert!(answer.ends_with("<code>4</code><date>2005-09-20T16:00:00</date></response>"), "{answer}");
+            }
+            assert_eq!(gate.code(&K1.replace("&type=1", "").replace("10.12", "0010.12")), again);
+            assert_eq!(gate.code(K1), again);
+        }
+        assert_eq!(gate.balances(), [0]);
     }
 }
 

@@ -174,12 +174,12 @@ module _ (swap : World → World) (Bad : World → Type 0)
           late day (inr h) = inr (subst (λ (v : World). ReportDelivered ((rest (step s u) k) .steps) v day) e ((rest (step s u) k) .days day h))
 
 -- ---- a table that is refused, with no record and no account
-record NoTable (g : Gate) (t : Rows) : Type 0 where
-  refused : tableGood g t ≡ false
-  records : g .used ≡ 0
+pub record NoTable (g : Gate) (t : Rows) : Type 0 where
+  pub refused : tableGood g t ≡ false
+  pub records : g .used ≡ 0
   accounts : g .count ≡ 0
 
-abbrev BadTable : World → Type 0
+abbrev pub BadTable : World → Type 0
 BadTable u = NoTable (u .gate) (u .table)
 
 -- rows of one place are a good table for that gate
@@ -213,12 +213,15 @@ no-records : (t : Rows) {n : ℕ} → n ≡ 0 → recordsOf t n ≡ []
 unfolding recordsOf tab
 no-records t e = ap (recordsOf t) e
 
-module _ (w : World) (st : Start w) (bad : tableGood (w .gate) (w .table) ≡ false) (book : Lent (withTable w)) (ss : List Step) where
+module _ (w : World) (st : Start w) (bad : tableGood (w .gate) (w .table) ≡ false) (ss : List Step) where
   abbrev of-table : Told withTable BadTable ss w
   of-table = told withTable BadTable table-move ss w (record { refused = bad; records = st .records; accounts = st .accounts })
 
-  table-safe : Safe w ss (run ss w)
-  table-safe =
+  pub table-bad : BadTable (run ss w)
+  table-bad = of-table .still
+
+  table-safe : Lent (withTable w) → Safe w ss (run ss w)
+  table-safe book =
       let u : World = run ss w in
       let b : BadTable u = of-table .still in
       let s : Safe (withTable w) (of-table .steps) (withTable u) =
@@ -248,12 +251,12 @@ module _ (w : World) (st : Start w) (bad : tableGood (w .gate) (w .table) ≡ fa
       said e Unposted q = λ i l h. no-place i (of-table .still .records) l
 
 -- ---- a book that is refused, with no entry, where nothing was sent
-record NoBook (b : Book) (t : BookRows) (s : List Sent) : Type 0 where
+pub record NoBook (b : Book) (t : BookRows) (s : List Sent) : Type 0 where
   refused : bookGood b t ≡ false
   entries : b .used ≡ 0
-  sent : s ≡ []
+  pub sent : s ≡ []
 
-abbrev BadBook : World → Type 0
+abbrev pub BadBook : World → Type 0
 BadBook u = NoBook (u .book) (u .bookRows) (u .sent)
 
 -- an empty book of one place, of the same day, is a good one
@@ -288,12 +291,15 @@ no-entries : (t : BookRows) {n : ℕ} → n ≡ 0 → entriesOf t n ≡ []
 unfolding entriesOf tab
 no-entries t e = ap (entriesOf t) e
 
-module _ (w : World) (st : Start w) (bad : bookGood (w .book) (w .bookRows) ≡ false) (table : Lent (withBook w)) (ss : List Step) where
+module _ (w : World) (st : Start w) (bad : bookGood (w .book) (w .bookRows) ≡ false) (ss : List Step) where
   abbrev of-book : Told withBook BadBook ss w
   of-book = told withBook BadBook book-move ss w (record { refused = bad; entries = st .entries; sent = st .sent })
 
-  book-safe : Safe w ss (run ss w)
-  book-safe =
+  pub book-bad : BadBook (run ss w)
+  book-bad = of-book .still
+
+  book-safe : Lent (withBook w) → Safe w ss (run ss w)
+  book-safe table =
       let u : World = run ss w in
       let b : BadBook u = of-book .still in
       let s : Safe (withBook w) (of-book .steps) (withBook u) =
@@ -368,11 +374,16 @@ module _ (w : World) (st : Start w) where
   unfolding lentWell
   none-lent = refl
 
+  -- a table and a book that are good are lent as they should be
+  pub good-lent-both : tableGood (w .gate) (w .table) ≡ true → bookGood (w .book) (w .bookRows) ≡ true → Lent w
+  good-lent-both eg eb =
+      record { table = table-lent eg; book = good-lent (w .book) (w .bookRows) eb; first = good-book (w .book) (w .bookRows) eb .first; date = table-date eg }
+
 pub safe-always : (w : World) → Start w → (ss : List Step) → Safe w ss (run ss w)
 safe-always w st ss = go (tableGood (w .gate) (w .table)) (bookGood (w .book) (w .bookRows)) refl refl
   where
     go : (g b : Bool) → tableGood (w .gate) (w .table) ≡ g → bookGood (w .book) (w .bookRows) ≡ b → Safe w ss (run ss w)
-    go true true eg eb = safe w st (record { table = table-lent w st eg; book = good-lent (w .book) (w .bookRows) eb; first = good-book (w .book) (w .bookRows) eb .first; date = table-date w st eg }) ss
-    go false true eg eb = table-safe w st eg (record { table = one-lent w st; book = good-lent (w .book) (w .bookRows) eb; first = good-book (w .book) (w .bookRows) eb .first; date = ap isDay (st .days) ∙ good-book (w .book) (w .bookRows) eb .frozen }) ss
-    go true false eg eb = book-safe w st eb (record { table = table-lent w st eg; book = none-lent w st; first = refl; date = table-date w st eg }) ss
+    go true true eg eb = safe w st (good-lent-both w st eg eb) ss
+    go false true eg eb = table-safe w st eg ss (record { table = one-lent w st; book = good-lent (w .book) (w .bookRows) eb; first = good-book (w .book) (w .bookRows) eb .first; date = ap isDay (st .days) ∙ good-book (w .book) (w .bookRows) eb .frozen })
+    go true false eg eb = book-safe w st eb ss (record { table = table-lent w st eg; book = none-lent w st; first = refl; date = table-date w st eg })
     go false false eg eb = idle-safe w (record { refused = eg; records = st .records; accounts = st .accounts }) (record { refused = eb; entries = st .entries; sent = st .sent }) ss

@@ -1,9 +1,9 @@
 use borrow.Author.Needs.{needs}
-use Rattle.planning.proofs.PlanLaws.{stands-done, stands-cancelled}
+use Rattle.planning.proofs.PlanLaws.{stands-other, stands-done, stands-cancelled}
 use Rattle.planning.proofs.plan.standing.Statement.{statement}
 use Rattle.planning.proofs.plan.standing.Tie as tie
 
-ruleset laws = (stands-done, stands-cancelled, needs)
+ruleset laws = (stands-other, stands-done, stands-cancelled, needs)
 
 pub standing-spec : {M : Type 1} → statement M
 standing-spec =
@@ -11,6 +11,8 @@ standing-spec =
     (tie.spec
     (λ c. search laws)
     (λ c. search laws)
+    (λ c. search laws)
+    (λ c κs. search laws)
     (λ c. search laws)
     (λ c. search laws)
     (λ c. search laws))

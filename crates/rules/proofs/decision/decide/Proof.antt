@@ -8,21 +8,21 @@ use Rattle.rules.proofs.decision.decide.Tie as tie
 ruleset laws = (check-at, decided-at, needs)
 
 -- between the ranges, and behind them
-other : tie.Need-returns-11
+other : tie.Need-returns-14
 other c =
     let x = c .before .before .before .before .args in
-    let r = c .keep9 .result in
-    ⊎-elim (λ w. no-fault (x .fault) (x .a) (x .s) (x .v) r (c .before .before .if1 .left) (w .taken) (c .keep9 .ensures))
-    (λ w. past-fault (x .fault) (x .a) (x .s) (x .v) r (w .1 .left) (c .keep9 .ensures))
+    let r = c .keep12 .result in
+    ⊎-elim (λ w. no-fault (x .fault) (x .a) (x .s) (x .v) r (c .before .before .if1 .left) (w .taken) (c .keep12 .ensures))
+    (λ w. past-fault (x .fault) (x .a) (x .s) (x .v) r (w .1 .left) (c .keep12 .ensures))
     (c .before .if2 .came)
 
 -- in one of the ranges
-ranged : tie.Need-returns-12
+ranged : tie.Need-returns-15
 ranged c =
     let x = c .before .before .before .args in
-    let r = c .keep10 .result in
-    ⊎-elim (λ w. low-fault (x .fault) (x .a) (x .s) (x .v) r (c .before .before .match .rest .1) (w .taken) (c .keep10 .ensures))
-    (λ w. high-fault (x .fault) (x .a) (x .s) (x .v) r (w .1 .left) (w .2 .taken) (c .keep10 .ensures))
+    let r = c .keep13 .result in
+    ⊎-elim (λ w. low-fault (x .fault) (x .a) (x .s) (x .v) r (c .before .before .match .rest .1) (w .taken) (c .keep13 .ensures))
+    (λ w. high-fault (x .fault) (x .a) (x .s) (x .v) r (w .1 .left) (w .2 .taken) (c .keep13 .ensures))
     (c .before .if1 .came)
 
 pub decide-spec : {M : Type 1} → statement M
@@ -41,11 +41,6 @@ decide-spec =
     (λ c. search laws)
     (λ c κs. search laws)
     (λ c. search laws)
-    (λ c. search laws)
-    (λ c κs. search laws)
-    (λ c. search laws)
-    (λ c κs. search laws)
-    (λ c. search laws)
     (λ c κs. search laws)
     (λ c. search laws)
     (λ c. search laws)
@@ -54,8 +49,22 @@ decide-spec =
     (λ c κs. search laws)
     (λ c. search laws)
     (λ c κs. search laws)
+    (λ c. search laws)
+    (λ c κs. search laws)
+    (λ c. search laws)
+    (λ c. search laws)
+    (λ c κs. search laws)
+    (λ c. search laws)
+    (λ c κs. search laws)
+    (λ c. search laws)
+    (λ c κs. search laws)
+    (λ c. search laws)
     (λ c κs. search laws)
     (λ c κs. search laws)
+    (λ c κs. search laws)
+    (λ c. search laws)
+    (λ c. search laws)
+    (λ c. search laws)
     (λ c. search laws)
     (λ c. search laws)
     (λ c. search laws)
