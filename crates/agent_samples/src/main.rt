@@ -6,6 +6,7 @@ mod words;
 use desk::Desk;
 use texts::scan;
 use vectors::given;
+use vectors::input;
 use vectors::line;
 ghost use mathlib.Core.Path.{_≡_};
 ghost use lib.ListN.{length};
@@ -95,11 +96,7 @@ fn main() {
     let mut table = [[0u64; 6]; 8];
     let mut owners = [[0u8; 30]; 8];
     let mut times = [[[0u8; 19]; 3]; 8];
-    let n = io::read_full(0, &mut buffer);
-    if n == buffer.len() {
-        io::write_all(1, b"the input is too long\n");
-        return;
-    }
+    let n = input::read_all(&mut buffer);
     lines(
         &buffer[..n],
         &mut nums,

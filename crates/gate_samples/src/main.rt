@@ -9,6 +9,7 @@ mod world;
 
 use texts::scan;
 use vectors::escape;
+use vectors::input;
 use vectors::line;
 use world::World;
 
@@ -55,11 +56,7 @@ fn main() {
     let mut nums = [[0u64; 6]; 4];
     let mut numbers = [[0u8; 30]; 4];
     let mut dates = [[[0u8; 19]; 3]; 4];
-    let n = io::read_full(0, &mut buffer);
-    if n == buffer.len() {
-        io::write_all(1, b"the input is too long\n");
-        return;
-    }
+    let n = input::read_all(&mut buffer);
     lines(
         &buffer[..n],
         &mut space,

@@ -13,6 +13,7 @@ mod write_vectors;
 
 use texts::scan;
 use vectors::escape;
+use vectors::input;
 use vectors::line;
 
 // Prints a line and its answer; the decoded text goes into `space`.
@@ -41,10 +42,6 @@ fn lines(s: &[u8], space: &mut [u8]) {
 fn main() {
     let mut buffer = io::large_buffer();
     let mut space = io::large_buffer();
-    let n = io::read_full(0, &mut buffer);
-    if n == buffer.len() {
-        io::write_all(1, b"the input is too long\n");
-        return;
-    }
+    let n = input::read_all(&mut buffer);
     lines(&buffer[..n], &mut space);
 }

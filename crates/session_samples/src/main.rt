@@ -3,6 +3,7 @@
 use console::feed;
 use texts::scan;
 use vectors::given;
+use vectors::input;
 use vectors::line;
 
 // b in the place of a; any other byte as it is.
@@ -78,10 +79,6 @@ fn main() {
     let mut input = [0u8; 512];
     let mut output = [0u8; 196992];
     let mut shown = [0u8; 196992];
-    let n = io::read_full(0, &mut buffer);
-    if n == buffer.len() {
-        io::write_all(1, b"the input is too long\n");
-        return;
-    }
+    let n = input::read_all(&mut buffer);
     lines(&buffer[..n], &mut input, &mut output, &mut shown);
 }

@@ -1,4 +1,5 @@
-// What the programs of vectors share: the lines of their input, the fields of a line, escaped bytes, and a gate without accounts.
+// What the programs of vectors share: their input and its lines, the fields of a line, escaped bytes, and a gate without accounts.
 pub mod escape;
 pub mod given;
+pub mod input;
 pub mod line;

@@ -173,6 +173,15 @@ module _ (swap : World → World) (Bad : World → Type 0)
           late day (inl d) = inl (m day d)
           late day (inr h) = inr (subst (λ (v : World). ReportDelivered ((rest (step s u) k) .steps) v day) e ((rest (step s u) k) .days day h))
 
+-- safety there, and the same settled days
+module _ (swap : World → World) (Bad : World → Type 0) (ss : List Step) (w : World) (t : Told swap Bad ss w) where
+  told-safe : Start (swap w) → Lent (swap w) → Safe (swap w) (t .steps) (swap (run ss w))
+  told-safe st lent = subst (λ (v : World). Safe (swap w) (t .steps) v) (sym (t .ran)) (safe (swap w) st lent (t .steps))
+
+  told-settled : (swap w) .book .frozen ≡ w .book .frozen → (day : Day) → SettledDay w ss day → SettledDay (swap w) (t .steps) day
+  told-settled e day (inl d) = inl (d ∙ sym e)
+  told-settled e day (inr h) = inr (t .days day h)
+
 -- ---- a table that is refused, with no record and no account
 pub record NoTable (g : Gate) (t : Rows) : Type 0 where
   pub refused : tableGood g t ≡ false
@@ -224,9 +233,8 @@ module _ (w : World) (st : Start w) (bad : tableGood (w .gate) (w .table) ≡ fa
   table-safe book =
       let u : World = run ss w in
       let b : BadTable u = of-table .still in
-      let s : Safe (withTable w) (of-table .steps) (withTable u) =
-      subst (λ (v : World). Safe (withTable w) (of-table .steps) v) (sym (of-table .ran))
-      (safe (withTable w) (record { accounts = st .accounts; records = st .records; entries = st .entries; days = st .days; settled = st .settled; sent = st .sent; drawn = st .drawn; places = st .places }) book (of-table .steps)) in
+      let s : Safe (withTable w) (of-table .steps) (withTable u) = told-safe withTable BadTable ss w of-table
+      (record { accounts = st .accounts; records = st .records; entries = st .entries; days = st .days; settled = st .settled; sent = st .sent; drawn = st .drawn; places = st .places }) book in
       let r : recordsIn (withTable u) ≡ recordsIn u = no-records oneRow (b .records) ∙ sym (no-records (u .table) (b .records)) in
       record {
         once = λ i j l m e. no-place i (b .records) l;
@@ -240,8 +248,7 @@ module _ (w : World) (st : Start w) (bad : tableGood (w .gate) (w .table) ≡ fa
       }
     where
       settled : (day : Day) → SettledDay w ss day → SettledDay (withTable w) (of-table .steps) day
-      settled day (inl e) = inl e
-      settled day (inr h) = inr (of-table .days day h)
+      settled = told-settled withTable BadTable ss w of-table refl
 
       said : (e : Entry) (x : State) → Says (withTable (run ss w)) e x → Says (run ss w) e x
       said e Asked q = tt
@@ -302,9 +309,8 @@ module _ (w : World) (st : Start w) (bad : bookGood (w .book) (w .bookRows) ≡ 
   book-safe table =
       let u : World = run ss w in
       let b : BadBook u = of-book .still in
-      let s : Safe (withBook w) (of-book .steps) (withBook u) =
-      subst (λ (v : World). Safe (withBook w) (of-book .steps) v) (sym (of-book .ran))
-      (safe (withBook w) (record { accounts = st .accounts; records = st .records; entries = refl; days = st .days; settled = st .settled; sent = st .sent; drawn = st .drawn; places = st .places }) table (of-book .steps)) in
+      let s : Safe (withBook w) (of-book .steps) (withBook u) = told-safe withBook BadBook ss w of-book
+      (record { accounts = st .accounts; records = st .records; entries = refl; days = st .days; settled = st .settled; sent = st .sent; drawn = st .drawn; places = st .places }) table in
       let r : entriesIn u ≡ entriesIn (withBook u) = no-entries (u .bookRows) (b .entries) ∙ sym (no-entries oneEntry refl) in
       record {
         once = s .once;
@@ -318,8 +324,7 @@ module _ (w : World) (st : Start w) (bad : bookGood (w .book) (w .bookRows) ≡ 
       }
     where
       settled : (day : Day) → SettledDay w ss day → SettledDay (withBook w) (of-book .steps) day
-      settled day (inl e) = inl e
-      settled day (inr h) = inr (of-book .days day h)
+      settled = told-settled withBook BadBook ss w of-book refl
 
 -- ---- both refused: the world stays as it is
 module _ (u : World) (g : BadTable u) (b : BadBook u) where
