@@ -1,4 +1,4 @@
--- Document 02, [3], and document 01, "The channel": with one agent no payment number is sent with other money, so no request of its gets 4.
+-- Document 02, [3], and document 01, "The channel": with one agent no payment number is sent with other money, so none of its requests gets 4.
 -- `proofs/OneAgent.antt` proves it (`one-agent : OneAgent`).
 use Prim.Native.Nat.{ℕ}
 use mathlib.Core.Path.{_≡_}

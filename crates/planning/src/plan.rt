@@ -58,7 +58,7 @@ pub fn no_record() -> Record
 }
 
 // Whether a record has what an action tells of its payment: a payment tells all four, status and cancel none of them.
-fn is_told(a: Action, d: Details, r: Record) -> bool
+fn agrees(a: Action, d: Details, r: Record) -> bool
     ensures { λ t. ⌜ t ≡ agrees a d r ⌝ }
 {
     match a {
@@ -82,7 +82,7 @@ pub fn standing(q: Instruction, found: Found, r: Record) -> Standing
     };
     let a = q.action;
     let d = q.details;
-    if !is_told(a, d, r) {
+    if !agrees(a, d, r) {
         return Standing::Other;
     }
     if r.state == table::DONE {

@@ -1,12 +1,12 @@
 use borrow.Author.Needs.{needs}
 use Rattle.planning.proofs.PlanLaws.{told-at}
-use Rattle.planning.proofs.plan.is_told.Statement.{statement}
-use Rattle.planning.proofs.plan.is_told.Tie as tie
+use Rattle.planning.proofs.plan.agrees.Statement.{statement}
+use Rattle.planning.proofs.plan.agrees.Tie as tie
 
 ruleset laws = (told-at, needs)
 
-pub is-told-spec : {M : Type 1} → statement M
-is-told-spec =
+pub agrees-spec : {M : Type 1} → statement M
+agrees-spec =
     tie.close
     (tie.spec
     (λ c. search laws)
