@@ -5,7 +5,9 @@ ghost use Prim.Native.Nat.{_*_, _%_, _^_};
 ghost use Rattle.generator.specs.Generator.{nextValue, rollOf, rollsFrom};
 
 const HALF: u64 = 4294967296;
+
 const FACTOR: u64 = 6364136223846793005;
+
 const INCREMENT: u64 = 1442695040888963407;
 
 // The rolls of one step, and the value that the next step goes on from.

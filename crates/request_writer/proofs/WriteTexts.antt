@@ -103,7 +103,7 @@ module _ (used : Bool) (before value xs d : List ℕ) (at : ℕ) (z : List ℕ) 
   held-buffer e q = q ∙ rw value-is
 
 -- numbers and amounts have at most 23 bytes, whatever their value
-decimal-twenty : (n : ℕ) → length (decimal n) ≤ 20
+pub decimal-twenty : (n : ℕ) → length (decimal n) ≤ 20
 unfolding decimal
 decimal-twenty n = rw (length-drop, fixed-length 20 n) (omega arith)
 
@@ -131,10 +131,10 @@ module _ (used : Bool) (before value d : List ℕ) (at : ℕ) (z : List ℕ) (si
 -- ---- the halves of a request's text
 module _ (xss yss zss : List (List ℕ)) (d : List ℕ) (at : ℕ) (e₁ : List ℕ) (p₁ : ℕ) (b₁ : e₁ ≡ bufferAll xss d at) (c₁ : p₁ ≡ cursorAll xss d at)
     (e₂ : List ℕ) (p₂ : ℕ) (b₂ : e₂ ≡ bufferAll yss e₁ p₁) (c₂ : p₂ ≡ cursorAll yss e₁ p₁) where
-  three-buffer : (f : List ℕ) → f ≡ bufferAll zss e₂ p₂ → f ≡ bufferAll (xss ++ (yss ++ zss)) d at
+  pub three-buffer : (f : List ℕ) → f ≡ bufferAll zss e₂ p₂ → f ≡ bufferAll (xss ++ (yss ++ zss)) d at
   three-buffer f q = then-buffer xss (yss ++ zss) d at e₁ p₁ b₁ c₁ f (then-buffer yss zss e₁ p₁ e₂ p₂ b₂ c₂ f q)
 
-  three-cursor : (r : ℕ) → r ≡ cursorAll zss e₂ p₂ → r ≡ cursorAll (xss ++ (yss ++ zss)) d at
+  pub three-cursor : (r : ℕ) → r ≡ cursorAll zss e₂ p₂ → r ≡ cursorAll (xss ++ (yss ++ zss)) d at
   three-cursor r q = then-cursor xss (yss ++ zss) d at e₁ p₁ b₁ c₁ r (then-cursor yss zss e₁ p₁ e₂ p₂ b₂ c₂ r q)
 
 module _ (q : Asked) (d : List ℕ) (at : ℕ) (e₁ : List ℕ) (p₁ : ℕ) (e₂ : List ℕ) (p₂ : ℕ) where

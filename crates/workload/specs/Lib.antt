@@ -1,0 +1,4 @@
+pub mod Given
+pub mod Lines
+pub mod Load
+pub mod LineWalk
