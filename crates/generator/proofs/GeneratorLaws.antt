@@ -5,7 +5,6 @@ use native.Mathlib.Omega.{arith}
 use mathlib.Core.Path.{_≡_, refl, sym, ap, _∙_}
 use mir.Syntax.{w64}
 use mir.Val.{Fits}
-use Rattle.generator.specs.declared.Rolls.{Rolls}
 use Rattle.generator.specs.Generator.{nextValue, rollOf, valueAfter, rollsFrom}
 
 -- ---- two halves below 2^32

@@ -1,9 +1,8 @@
 -- Laws of a step and its line.
 use Prim.Native.Nat.{ℕ, _+_, _%_, _≤_, _<_}
 use native.Mathlib.Omega.{arith}
-use mathlib.Core.Path.{_≡_, refl, sym, ap, _∙_}
+use mathlib.Core.Path.{_≡_, _∙_}
 use mathlib.Core.List.{List, [], _∷_, _++_, append-assoc}
-use mathlib.Core.Bool.{Bool, true, false, cond}
 use lib.ListN.{length, take, length-append, length-take}
 use borrow.Author.Tests.{lt-ltb, le-ltb}
 use Rattle.texts.specs.Lists.{written, cursorAfter}

@@ -1,11 +1,10 @@
 -- Laws of a load's text, and of the loop that writes it.
 use Prim.Native.Nat.{ℕ, zero, suc, _+_, _-_, _%_, _≤_, _<_}
 use native.Mathlib.Nat.{mod-lt, sub-zero, add-zero, zero-add, suc-add, add-assoc}
-use native.Mathlib.Numerals.{add-one}
 use native.Mathlib.Omega.{arith}
 use mathlib.Core.Path.{_≡_, refl, sym, ap, _∙_}
 use mathlib.Core.List.{List, [], _∷_, _++_, append-assoc, append-nil}
-use mathlib.Core.Bool.{Bool, true, false, not, cond}
+use mathlib.Core.Bool.{Bool, true, false, not}
 use lib.Dec.{leb}
 use lib.ListN.{length, length-append}
 use borrow.Author.Tests.{le-leb, lt-leb, leb-true, leb-false, not-true, not-false}
@@ -17,7 +16,7 @@ use Rattle.generator.specs.Generator.{valueAfter, rollsFrom}
 use Rattle.workload.specs.declared.given.AccountName.{AccountName}
 use Rattle.workload.specs.Given.{Load, loadOf, accountAt, isLoad, GoodLoad}
 use Rattle.workload.specs.Lines.{stepOf, stepText, lineAfter}
-use Rattle.workload.specs.Load.{afterSteps, linesFrom, stepsWithin, Filled, filledBy, notFilled, writeSteps, writeLoad}
+use Rattle.workload.specs.Load.{afterSteps, linesFrom, stepsWithin, Filled, filledBy, writeSteps, writeLoad}
 use Rattle.workload.proofs.GivenLaws.{has-names}
 
 -- ---- steps one after the other

@@ -1,0 +1,2 @@
+-- What holds of every load.
+use Rattle.workload_theorems.specs.LoadClaims.{LoadClaims}
