@@ -2,9 +2,13 @@
 use Prim.Native.Nat.{ℕ, suc}
 use mathlib.Core.List.{List, [], _∷_}
 use mathlib.Core.Bool.{Bool}
-use lib.ListN.{length, drop, getD}
+use lib.ListN.{length, take, drop, getD}
 use Rattle.texts.specs.Lists.{find, eqList}
 use Rattle.coding.specs.Params.{splitAt}
+
+-- the line that begins at a place of a text ends before the next 0A
+unfoldable pub lineAt : ℕ → List ℕ → List ℕ
+lineAt at s = take (find 10 (drop at s)) (drop at s)
 
 -- every space (32) splits
 abbrev pub spaced : List ℕ → List (List ℕ)

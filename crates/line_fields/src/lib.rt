@@ -1,4 +1,6 @@
 // The fields of a line, split by every space.
+pub mod lines;
+
 use texts::scan;
 ghost use mathlib.Core.Path.{_≡_};
 ghost use mathlib.Core.Bool.{cond, _&&_};
@@ -36,7 +38,7 @@ fn ends_field(b: u8) -> usize
 }
 
 // How many fields a line has.
-fn count_fields(line: &[u8]) -> usize
+pub fn count_fields(line: &[u8]) -> usize
     ensures { λ r. ⌜ r ≡ fieldCount (now (line .entry)) ⌝ }
 {
     let mut ended: usize = 0;

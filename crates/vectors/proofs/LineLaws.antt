@@ -1,4 +1,4 @@
--- Laws of the lines of the input, of words by their place, and of a part of a row.
+-- Laws of headings, of words by their place, and of a part of a row.
 use Prim.Native.Nat.{ℕ, suc, _+_, _-_, _*_, _≤_, _<_, _^_}
 use native.Mathlib.Omega.{arith}
 use native.Mathlib.Numerals.{add-one}
@@ -16,7 +16,7 @@ use borrow.Author.Tests.{lt-ltb, le-ltb, le-leb, lt-leb}
 use Rattle.texts.specs.Lists.{find, eqList}
 use Rattle.texts.proofs.ScanLaws.{find-le}
 use Rattle.coding.proofs.ParamLaws.{split-first, split-last}
-use Rattle.vectors.specs.Lines.{lineAt, isHeading, placeOf, spaced}
+use Rattle.vectors.specs.Lines.{isHeading, placeOf, spaced}
 
 -- ---- a part of a row
 pub rows-size : {A : Type 0} (d : List A) (n : ℕ) → n ≤ length d → n ≡ length (take n d)
@@ -24,33 +24,6 @@ rows-size d n h = sym (length-take-le n d h)
 
 pub part-size : {A : Type 0} (d : List A) (n k : ℕ) → length d ≡ k → n ≤ k → n ≡ length (take n d)
 part-size d n k l h = rows-size d n (omega arith)
-
--- ---- a line that begins inside the text, and the place behind it
-pub line-is : (s : List ℕ) (at : ℕ) (r l : List ℕ) → r ≡ drop at s → l ≡ take (find 10 r) r → l ≡ lineAt at s
-unfolding lineAt
-line-is s at r l er el = el ∙ ap (λ (x : List ℕ). take (find 10 x) x) er
-
-module _ (s : List ℕ) (at : ℕ) (l : List ℕ) (el : l ≡ lineAt at s) (h : at < length s) where
-  line-size : at + length l ≤ length s
-  unfolding lineAt
-  line-size =
-      let part : length l ≡ find 10 (drop at s) = ap length el ∙ length-take-le (find 10 (drop at s)) (drop at s) (find-le 10 (drop at s)) in
-      omega (arith, length-drop at s, part, find-le 10 (drop at s))
-
-  pub line-fits : length s * 1 < 2 ^ 63 → Fits w64 (length l + 1)
-  line-fits b = omega (arith, line-size)
-
-  pub next-fits : length s * 1 < 2 ^ 63 → Fits w64 (at + (length l + 1))
-  next-fits b = omega (arith, line-size)
-
-  pub next-is : at + (length l + 1) ≡ at + (length (lineAt at s) + 1)
-  next-is = ap (λ (x : List ℕ). at + (length x + 1)) el
-
-  pub next-past : at < at + (length l + 1)
-  next-past = omega arith
-
-  pub next-inside : at + (length l + 1) ≤ length s + 1
-  next-inside = omega (arith, line-size)
 
 -- ---- headings
 pub heading-none : (s : List ℕ) → length s ≡ 0 → true ≡ isHeading s
@@ -131,7 +104,3 @@ module _ (a b : ℕ) where
 
   pub least-inside : a < b → a ≤ b
   least-inside h = omega arith
-
--- ---- the lines that are left
-pub line-falls : (s : List ℕ) (at r : ℕ) → at < r → r ≤ length s + 1 → (length s + 1) - r < (length s + 1) - at
-line-falls s at r a b = omega arith

@@ -1,15 +1,10 @@
--- The input of a program of vectors: lines, headings, and words by their place.
+-- The input of a program of vectors: headings, and words by their place.
 use Prim.Native.Nat.{ℕ, suc}
 use mathlib.Core.List.{List, [], _∷_}
 use mathlib.Core.Bool.{Bool, true, cond}
-use lib.ListN.{take, drop}
 use lib.Dec.{eqb}
-use Rattle.texts.specs.Lists.{find, eqList}
+use Rattle.texts.specs.Lists.{eqList}
 use Rattle.coding.specs.Params.{splitAt}
-
--- the line that begins at a place ends before the next 0A
-unfoldable pub lineAt : ℕ → List ℕ → List ℕ
-lineAt at s = take (find 10 (drop at s)) (drop at s)
 
 -- a line that is empty, or begins with # (35)
 unfoldable pub isHeading : List ℕ → Bool

@@ -1,26 +1,10 @@
-// The lines of the input, and the words that they begin with.
+// The headings of the input, and the words that its lines begin with.
 use texts::scan;
 ghost use mathlib.Core.Path.{_≡_};
 ghost use mathlib.Core.Bool.{cond};
-ghost use Prim.Native.Nat.{_≤_, _<_, _+_};
+ghost use Prim.Native.Nat.{_≤_};
 ghost use lib.Dec.{ltb};
-ghost use lib.ListN.{length};
-ghost use Rattle.vectors.specs.Lines.{lineAt, isHeading, placeOf, spaced};
-
-// The line that begins at a place.
-pub fn line_at(s: &[u8], at: usize) -> &[u8]
-    ensures { λ r. ⌜ now r ≡ lineAt at (now (s .entry)) ⌝ }
-{
-    scan::before_byte(scan::bytes_from(s, at), 10)
-}
-
-// Where the next line begins.
-pub fn next_line(s: &[u8], at: usize) -> usize
-    requires { ⌜ at < length (now s) ⌝ }
-    ensures { λ r. ⌜ (r ≡ at + (length (lineAt at (now (s .entry))) + 1)) × (at < r) × (r ≤ length (now (s .entry)) + 1) ⌝ }
-{
-    at + (line_at(s, at).len() + 1)
-}
+ghost use Rattle.vectors.specs.Lines.{isHeading, placeOf, spaced};
 
 // Whether a line is a heading or empty: it is printed as it is.
 pub fn is_heading(line: &[u8]) -> bool

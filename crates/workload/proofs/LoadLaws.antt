@@ -9,14 +9,15 @@ use lib.Dec.{leb}
 use lib.ListN.{length, length-append}
 use borrow.Author.Tests.{le-leb, lt-leb, leb-true, leb-false, not-true, not-false}
 use Rattle.texts.specs.Lists.{over, written, cursorAfter}
-use Rattle.texts.proofs.Tests.{by-test}
+use Rattle.texts.proofs.Tests.{by-test, cond-le, cond-elim}
 use Rattle.texts.proofs.OutLaws.{over-none, over-length, over-over, cursor-stays, cursor-moves, buffer-stays, written-over, written-length}
 use Rattle.generator.specs.declared.Rolls.{Rolls}
 use Rattle.generator.specs.Generator.{valueAfter, rollsFrom}
 use Rattle.workload.specs.declared.given.AccountName.{AccountName}
+use Rattle.workload.specs.declared.load.Written.{Written}
 use Rattle.workload.specs.Given.{Load, loadOf, accountAt, isLoad, GoodLoad}
 use Rattle.workload.specs.Lines.{stepOf, stepText, lineAfter}
-use Rattle.workload.specs.Load.{afterSteps, linesFrom, stepsWithin, Filled, filledBy, writeSteps, writeLoad}
+use Rattle.workload.specs.Load.{afterSteps, linesFrom, stepsWithin, Filled, filledOf, filledBy, notFilled, writeSteps, writeLoad}
 use Rattle.workload.proofs.GivenLaws.{has-names}
 
 -- ---- steps one after the other
@@ -205,3 +206,16 @@ module _ (l : Load) (most start : ℕ) (d : List ℕ) (t : Bool) (e : t ≡ isLo
 pub load-is-all : (l : Load) (start : ℕ) (d : List ℕ) (r : Filled) → r ≡ writeSteps l (length d) start d → r ≡ writeLoad l start d
 unfolding writeLoad
 load-is-all l start d r q = q
+
+-- no more steps than asked for
+within-few : (l : Load) (most room v : ℕ) → stepsWithin l most room v ≤ most
+unfolding stepsWithin
+within-few l zero room v = omega arith
+within-few l (suc most) room v =
+    cond-le (leb (length (lineAfter l v)) room) (omega (arith, within-few l most (room - length (lineAfter l v)) (valueAfter 4 v))) (omega arith)
+
+pub steps-few : (l : Load) (most v : ℕ) (d e : List ℕ) (w : Written) → filledOf w e ≡ writeSteps l most v d → w .steps ≤ most
+unfolding writeSteps
+steps-few l most v d e w q =
+    rw (ap (λ (f : Filled). f .steps) q)
+    (cond-elim (λ (f : Filled). f .steps ≤ most) (isLoad l) (filledBy l v d (stepsWithin l most (length d) v)) (notFilled v d) (λ _. within-few l most (length d) v) (λ _. omega arith))

@@ -1,7 +1,7 @@
-use Rattle.vectors.proofs.LineLaws.{line-is}
+use Rattle.line_fields.proofs.LineLaws.{line-is}
 use borrow.Author.Needs.{needs}
-use Rattle.vectors.proofs.line.line_at.Statement.{statement}
-use Rattle.vectors.proofs.line.line_at.Tie as tie
+use Rattle.line_fields.proofs.lines.line_at.Statement.{statement}
+use Rattle.line_fields.proofs.lines.line_at.Tie as tie
 
 ruleset laws = (line-is, needs)
 

@@ -1,7 +1,7 @@
-use Rattle.vectors.proofs.LineLaws.{line-fits, next-fits, next-is, next-past, next-inside}
+use Rattle.line_fields.proofs.LineLaws.{line-fits, next-fits, next-is, next-past, next-inside}
 use borrow.Author.Needs.{needs}
-use Rattle.vectors.proofs.line.next_line.Statement.{statement}
-use Rattle.vectors.proofs.line.next_line.Tie as tie
+use Rattle.line_fields.proofs.lines.next_line.Statement.{statement}
+use Rattle.line_fields.proofs.lines.next_line.Tie as tie
 
 ruleset laws = (line-fits, next-fits, next-is, next-past, next-inside, needs)
 
