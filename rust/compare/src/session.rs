@@ -1,15 +1,16 @@
 //! The session program: the proved one, run as a process, and random lines for it.
+use crate::process::Program;
 use crate::texts;
 use chance::Chance;
-use std::io::{Error, Write};
+use std::io::Error;
 use std::path::PathBuf;
-use std::process::{Command, Stdio};
-use std::thread;
+use std::process::Stdio;
+
+const PROGRAM: Program = Program { name: "session", variable: "ROOSTERYORE_SESSION" };
 
 /// The proved program: `ROOSTERYORE_SESSION`, or the repository's.
 pub fn program() -> PathBuf {
-    std::env::var_os("ROOSTERYORE_SESSION")
-        .map_or_else(|| PathBuf::from(concat!(env!("CARGO_MANIFEST_DIR"), "/../../target/bin/session")), PathBuf::from)
+    PROGRAM.path()
 }
 
 /// What the proved program prints on this input.
@@ -17,15 +18,18 @@ pub fn program() -> PathBuf {
 /// # Errors
 /// Where the program cannot be run, for instance since `rt check session` did not build it yet.
 pub fn proved(input: &[u8]) -> Result<Vec<u8>, Error> {
-    let path = program();
-    let told = |error: Error| Error::new(error.kind(), format!("{}: {error}; run `rt check session`", path.display()));
-    let mut child = Command::new(&path).stdin(Stdio::piped()).stdout(Stdio::piped()).spawn().map_err(told)?;
-    let mut pipe = child.stdin.take().expect("its input is a pipe");
-    thread::scope(|scope| {
-        // Written beside the reading, since neither pipe holds everything.
-        scope.spawn(move || pipe.write_all(input));
-        Ok(child.wait_with_output()?.stdout)
-    })
+    Ok(PROGRAM.run(input, Stdio::inherit())?.stdout)
+}
+
+/// Number and type of an account by its place.
+pub fn account(place: usize) -> String {
+    format!("choir-{place:06} 1")
+}
+
+/// The first lines of a session with so many accounts.
+pub fn opening(accounts: usize) -> String {
+    let lines = (0..accounts).map(|place| format!("O {}\n", account(place)));
+    String::from("C 2005-09-19\n") + &lines.collect::<String>()
 }
 
 /// A session of random lines, most of them well formed.

@@ -1,23 +1,11 @@
 //! The session program against its twin, on random lines and on the sample day.
 use chance::Chance;
-use compare::session;
+use compare::{process, session};
 
 /// Both print the same; what differs first is told.
 fn same(input: &[u8], what: &str) {
     let proved = session::proved(input).expect("the session program runs");
-    let twin = twin::session::run(input);
-    let lines = |text: &[u8]| text.split(|&byte| byte == b'\n').map(<[u8]>::to_vec).collect::<Vec<_>>();
-    let (ours, theirs) = (lines(&proved), lines(&twin));
-    let first = (0..ours.len().max(theirs.len())).find(|&at| ours.get(at) != theirs.get(at));
-    if let Some(at) = first {
-        let told = |text: Option<&Vec<u8>>| text.map(|text| text.escape_ascii().to_string());
-        panic!(
-            "{what}, line {} of the output\nproved {:?}\ntwin   {:?}",
-            at + 1,
-            told(ours.get(at)),
-            told(theirs.get(at))
-        );
-    }
+    process::assert_same(&proved, &twin::session::run(input), what);
 }
 
 #[test]

@@ -67,6 +67,11 @@ pub(crate) fn read_reason(text: &[u8]) -> Option<u64> {
     read_digits(text, 1).filter(|&reason| is_reason(reason))
 }
 
+/// Number and type, where both are well formed.
+pub(crate) fn read_account(number: &[u8], kind: &[u8]) -> Option<(Number, u64)> {
+    Some((Number::read(number)?, read_kind(kind)?))
+}
+
 /// The kopecks of a sum in roubles.
 pub(crate) fn read_amount(text: &[u8]) -> Option<u64> {
     let point = text[..text.len().min(8)].iter().position(|&byte| byte == b'.');

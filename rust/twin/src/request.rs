@@ -76,7 +76,7 @@ fn read_action(text: &[u8]) -> Option<Action> {
     }
 }
 
-fn read_date(text: &[u8]) -> Option<Date> {
+pub(crate) fn read_date(text: &[u8]) -> Option<Date> {
     Date::try_from(text).ok().filter(date::is_date)
 }
 

@@ -1,7 +1,7 @@
 //! The session program: a gate with a table of 256 records, driven by lines of text.
 
 use crate::date::{Date, Day, NO_DATE, date_key, read_day};
-use crate::fields::{self, Number};
+use crate::fields;
 use crate::lent::{Head, Rows};
 
 /// How many records the table has.
@@ -40,13 +40,13 @@ impl Gate {
 
     fn open(&mut self, number: &[u8], kind: &[u8]) -> u64 {
         let (head, rows) = self.parts();
-        let Some((number, kind)) = account(number, kind) else { return 59 };
+        let Some((number, kind)) = fields::read_account(number, kind) else { return 59 };
         head.open(rows, number, kind)
     }
 
     fn draw(&mut self, number: &[u8], kind: &[u8], kopecks: u64) -> u64 {
         let (head, rows) = self.parts();
-        let Some((number, kind)) = account(number, kind) else { return 59 };
+        let Some((number, kind)) = fields::read_account(number, kind) else { return 59 };
         head.draw(rows, number, kind, kopecks)
     }
 
@@ -73,11 +73,6 @@ impl Gate {
     fn sum(&self) -> i64 {
         self.head.accounts[..self.head.count].iter().map(|account| account.balance).sum()
     }
-}
-
-/// Number and type, where both are well formed.
-fn account(number: &[u8], kind: &[u8]) -> Option<(Number, u64)> {
-    Some((Number::read(number)?, fields::read_kind(kind)?))
 }
 
 impl Default for Session {
@@ -130,11 +125,15 @@ impl Session {
     }
 }
 
+/// The lines of a text without their ends; what stands behind the last end is a line, too.
+pub(crate) fn lines(input: &[u8]) -> impl Iterator<Item = &[u8]> {
+    input.split_inclusive(|&byte| byte == b'\n').map(|line| line.strip_suffix(b"\n").unwrap_or(line))
+}
+
 /// What a whole session prints.
 pub fn run(input: &[u8]) -> Vec<u8> {
     let mut session = Session::new();
-    let lines = input.split_inclusive(|&byte| byte == b'\n').map(|line| line.strip_suffix(b"\n").unwrap_or(line));
-    lines.flat_map(|line| (session.line(line) + "\n").into_bytes()).collect()
+    lines(input).flat_map(|line| (session.line(line) + "\n").into_bytes()).collect()
 }
 
 #[cfg(test)]
