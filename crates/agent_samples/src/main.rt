@@ -4,7 +4,6 @@ mod ends;
 mod words;
 
 use desk::Desk;
-use line_fields::lines;
 use texts::scan;
 use vectors::given;
 use vectors::input;
@@ -82,8 +81,8 @@ fn lines(
     let mut d = desk::start(b"", given::no_gate(given::day(b"")));
     let mut at: usize = 0;
     while at < s.len() {
-        let next = lines::next_line(s, at);
-        let line = lines::line_at(s, at);
+        let next = line_fields::lines::next_line(s, at);
+        let line = line_fields::lines::line_at(s, at);
         d = answer_line(line, nums, numbers, dates, table, owners, times, d);
         at = next;
     }

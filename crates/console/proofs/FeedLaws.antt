@@ -86,7 +86,7 @@ lines-more l [] h = absurd (not-suc-le-zero h)
 lines-more [] (m ∷ ms) h = refl
 lines-more (b ∷ l) (m ∷ ms) h = refl
 
-lines-first : (l s : List ℕ) → find 10 l ≡ length l → linesIn (splitAt 10 (l ++ (10 ∷ s))) ≡ l ∷ linesIn (splitAt 10 s)
+pub lines-first : (l s : List ℕ) → find 10 l ≡ length l → linesIn (splitAt 10 (l ++ (10 ∷ s))) ≡ l ∷ linesIn (splitAt 10 s)
 lines-first l s n = rw (split-append 10 l s n) (lines-more l (splitAt 10 s) (split-some 10 s))
 
 lines-last : (b : ℕ) (l : List ℕ) → length (b ∷ l) ≤ find 10 (b ∷ l) → linesIn (splitAt 10 (b ∷ l)) ≡ (b ∷ l) ∷ []

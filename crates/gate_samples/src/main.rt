@@ -7,7 +7,6 @@ mod spoil;
 mod words;
 mod world;
 
-use line_fields::lines;
 use texts::scan;
 use vectors::escape;
 use vectors::input;
@@ -44,8 +43,15 @@ fn lines(
     let mut w = world::start(b"");
     let mut at: usize = 0;
     while at < s.len() {
-        let next = lines::next_line(s, at);
-        w = answer_line(lines::line_at(s, at), space, nums, numbers, dates, w);
+        let next = line_fields::lines::next_line(s, at);
+        w = answer_line(
+            line_fields::lines::line_at(s, at),
+            space,
+            nums,
+            numbers,
+            dates,
+            w,
+        );
         io::write_all(1, b"\n");
         at = next;
     }

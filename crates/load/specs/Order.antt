@@ -27,8 +27,8 @@ unfoldable pub orderRead : List ℕ → Order
 orderRead l =
     record {
       ok = eqb (fieldCount l) 4
-      && (holds (digitsRead 20 (fieldAt 0 l))
-      && ((dateRead (fieldAt 1 l)) .ok && (holds (reasonRead (fieldAt 2 l)) && holds (digitsRead 20 (fieldAt 3 l)))));
+          && (holds (digitsRead 20 (fieldAt 0 l))
+          && ((dateRead (fieldAt 1 l)) .ok && (holds (reasonRead (fieldAt 2 l)) && holds (digitsRead 20 (fieldAt 3 l)))));
       start = valueOr0 (digitsRead 20 (fieldAt 0 l));
       date = (dateRead (fieldAt 1 l)) .date;
       reason = valueOr0 (reasonRead (fieldAt 2 l));

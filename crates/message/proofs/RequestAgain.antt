@@ -36,7 +36,7 @@ use Rattle.message.specs.RequestText.{isAsked, pair, requestBytes, asked
 use Rattle.message.proofs.PairLaws.{Entry, entry, entrySlot, textOf, slotsFor, sizeOf, named, text-size, gather-all, field-again, plainEntry}
 
 -- ---- numbers and words
-number-is-byte : (b : ℕ) → numberByte b ≡ true → isByte b ≡ true
+pub number-is-byte : (b : ℕ) → numberByte b ≡ true → isByte b ≡ true
 number-is-byte b h = lt-ltb b 256 (byte-below-256 b h)
 
 word-plain : (a : Action) → every isPlain (actionWord a) ≡ true

@@ -4,6 +4,7 @@ use coding::params;
 use coding::params::Method;
 use coding::url;
 use texts::scan;
+use vectors::show;
 
 // The parameters of `GET` and a target, or of `POST` and a body, in brackets.
 pub fn parameters(s: &[u8]) {
@@ -37,7 +38,7 @@ pub fn decoded(s: &[u8]) {
     if url::well_coded(s) {
         let mut space = io::buffer();
         let n = url::decode(s, &mut space);
-        print::bytes(scan::first_bytes(&space, n));
+        show::bytes(scan::first_bytes(&space, n));
     } else {
         io::write_all(1, b"bad escape");
     }

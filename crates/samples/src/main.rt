@@ -11,7 +11,6 @@ mod request_vectors;
 mod words;
 mod write_vectors;
 
-use line_fields::lines;
 use texts::scan;
 use vectors::escape;
 use vectors::input;
@@ -33,8 +32,8 @@ fn answer_line(line: &[u8], space: &mut [u8]) {
 fn lines(s: &[u8], space: &mut [u8]) {
     let mut at: usize = 0;
     while at < s.len() {
-        let next = lines::next_line(s, at);
-        answer_line(lines::line_at(s, at), space);
+        let next = line_fields::lines::next_line(s, at);
+        answer_line(line_fields::lines::line_at(s, at), space);
         io::write_all(1, b"\n");
         at = next;
     }

@@ -2,6 +2,7 @@
 use crate::print;
 use fields::number::read_number;
 use texts::scan;
+use vectors::show;
 
 // The length, and the number written back.
 pub fn number(s: &[u8]) {
@@ -12,7 +13,7 @@ pub fn number(s: &[u8]) {
         let n = x.write(&mut space, 0);
         io::print_decimal(1, x.len as u64);
         io::write_all(1, b" bytes ");
-        print::bytes(scan::first_bytes(&space, n));
+        show::bytes(scan::first_bytes(&space, n));
     } else {
         print::fault(2);
     }

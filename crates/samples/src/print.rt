@@ -3,6 +3,7 @@ use days::calendar::Day;
 use fields::number::Number;
 use texts::digits::Digits;
 use texts::scan;
+use vectors::show;
 
 // A name and a number.
 pub fn named(name: &[u8], n: u64) {
@@ -41,27 +42,5 @@ pub fn day(d: Day) {
 pub fn account(x: Number) {
     let n = x.len;
     let held = x.bytes;
-    bytes(scan::first_bytes(&held, n));
-}
-
-// A byte, or \x and its digits where it does not print.
-fn byte(b: u8) {
-    match b {
-        32..=126 => {
-            io::write_all(1, &[b]);
-        }
-        _ => {
-            io::write_all(1, b"\\x");
-            io::print_hex(1, b as u64, 2);
-        }
-    }
-}
-
-// Bytes of any value.
-pub fn bytes(s: &[u8]) {
-    let mut i: usize = 0;
-    while i < s.len() {
-        byte(s[i]);
-        i += 1;
-    }
+    show::bytes(scan::first_bytes(&held, n));
 }

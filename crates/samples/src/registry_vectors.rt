@@ -9,6 +9,7 @@ use texts::digits::Digits;
 use texts::out;
 use texts::scan;
 use vectors::given;
+use vectors::show;
 ghost use Rattle.line_rows.specs.Lines.{Read, linesLent};
 
 // The fault of a registry of a day, and the lines of one without.
@@ -51,7 +52,7 @@ fn show_line(x: Line) {
     print::account(number);
     print::named(b" ", x.kind);
     io::write_all(1, b" ");
-    print::bytes(&date);
+    show::bytes(&date);
 }
 
 // A payment of one kopeck.

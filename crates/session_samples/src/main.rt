@@ -1,7 +1,6 @@
 // Runs whole sessions from standard input, one a line: the room of the output, a space, and the input, in which / stands for 0A.
 // Prints each line, `: ` and what the session prints, again with / for 0A, or `refused`.
 use console::feed;
-use line_fields::lines;
 use texts::scan;
 use vectors::given;
 use vectors::input;
@@ -69,8 +68,8 @@ fn answer_line(line: &[u8], input: &mut [u8], output: &mut [u8], shown: &mut [u8
 fn lines(s: &[u8], input: &mut [u8], output: &mut [u8], shown: &mut [u8]) {
     let mut at: usize = 0;
     while at < s.len() {
-        let next = lines::next_line(s, at);
-        answer_line(lines::line_at(s, at), input, output, shown);
+        let next = line_fields::lines::next_line(s, at);
+        answer_line(line_fields::lines::line_at(s, at), input, output, shown);
         at = next;
     }
 }

@@ -17,7 +17,7 @@ use Rattle.texts.proofs.DecimalLaws.{decimal-digits}
 use Rattle.fields.specs.declared.number.Number.{Number}
 use Rattle.fields.specs.Amount.{amountBytes}
 use Rattle.fields.specs.Number.{numberByte, numberText, isNumber}
-use Rattle.fields.proofs.NumberLaws.{byte-above-blank, byte-below-256, text-bytes}
+use Rattle.fields.proofs.NumberLaws.{byte-above-blank, text-bytes}
 use Rattle.fields.proofs.AmountLaws.{amount-bytes}
 use Rattle.dates.specs.Date.{isWritten}
 use Rattle.dates.proofs.DateLaws.{date-bytes}
@@ -29,6 +29,7 @@ use Rattle.payments.specs.declared.Action.the-variants.{Check, Payment, Status,
 use Rattle.parameters.specs.Names.{numberName, kindName, amountName, receiptName, dateName, reasonName, actionWord, hasAccount, hasReceipt, hasDate, hasReason}
 use Rattle.message.specs.declared.request.Asked.{Asked}
 use Rattle.message.specs.RequestText.{pair, pairIf, requestBytes}
+use Rattle.message.proofs.RequestAgain.{number-is-byte}
 
 -- a byte above the blank (32)
 abbrev pub isShown : ℕ → Bool
@@ -60,9 +61,6 @@ module _ (b : ℕ) where
   -- what is coded is bytes
   digit-byte : isDigit b ≡ true → isByte b ≡ true
   digit-byte h = let k : b < 256 = omega (arith, within-high 48 57 b h) in lt-ltb b 256 k
-
-  number-is-byte : numberByte b ≡ true → isByte b ≡ true
-  number-is-byte h = lt-ltb b 256 (byte-below-256 b h)
 
 pub no-blank : (s : List ℕ) → every isShown s ≡ true → find 32 s ≡ length s
 no-blank s h = find-absent isShown 32 s refl h

@@ -14,8 +14,8 @@ use Rattle.texts.proofs.ListLaws.{every-append, every-weaker}
 use Rattle.texts.proofs.FindLaws.{find-absent}
 use Rattle.fields.specs.Number.{numberText}
 use Rattle.coding.specs.Params.{splitAt}
-use Rattle.coding.proofs.ParamLaws.{split-append}
 use Rattle.console.specs.Session.{linesIn}
+use Rattle.console.proofs.FeedLaws.{lines-first}
 use Rattle.generator.specs.declared.Rolls.{Rolls}
 use Rattle.generator.specs.Generator.{valueAfter, rollsFrom}
 use Rattle.workload.specs.declared.line.Step.{Step}
@@ -57,25 +57,10 @@ module _ (l : Load) (h : isLoad l ≡ true) where
   text-whole : (v : ℕ) → find 10 (textAfter l v) ≡ length (textAfter l v)
   text-whole v = find-absent isPrinted 10 (textAfter l v) refl (step-printed (rollsFrom v) (stepOf (rollsFrom v .step)) refl)
 
-  -- ---- split at the line ends, with nothing behind the last
-  lines-split : (n v : ℕ) → splitAt 10 (linesFrom l n v) ≡ textsFrom l n v ++ ([] ∷ [])
+  pub lines-found : (n v : ℕ) → linesIn (splitAt 10 (linesFrom l n v)) ≡ textsFrom l n v
   unfolding linesFrom lineAfter textsFrom
-  lines-split zero v = unfold splitAt in refl
-  lines-split (suc n) v =
+  lines-found zero v = unfold splitAt linesIn in refl
+  lines-found (suc n) v =
       rw append-assoc
-      (split-append 10 (textAfter l v) (linesFrom l n (valueAfter 4 v)) (text-whole v)
-      ∙ ap (λ (ts : List (List ℕ)). textAfter l v ∷ ts) (lines-split n (valueAfter 4 v)))
-
--- lines that are followed by others, or by the empty rest
-line-then : (l : List ℕ) (ms : List (List ℕ)) (m : List ℕ) → linesIn (l ∷ (m ∷ ms)) ≡ l ∷ linesIn (m ∷ ms)
-unfolding linesIn
-line-then [] ms m = refl
-line-then (b ∷ l) ms m = refl
-
-ended-lines : (ts : List (List ℕ)) → linesIn (ts ++ ([] ∷ [])) ≡ ts
-ended-lines [] = unfold linesIn in refl
-ended-lines (t ∷ []) = line-then t [] [] ∙ ap (λ (ls : List (List ℕ)). t ∷ ls) (unfold linesIn in refl)
-ended-lines (t ∷ (u ∷ ts)) = line-then t (ts ++ ([] ∷ [])) u ∙ ap (λ (ls : List (List ℕ)). t ∷ ls) (ended-lines (u ∷ ts))
-
-pub lines-found : (l : Load) → isLoad l ≡ true → (n v : ℕ) → linesIn (splitAt 10 (linesFrom l n v)) ≡ textsFrom l n v
-lines-found l h n v = ap linesIn (lines-split l h n v) ∙ ended-lines (textsFrom l n v)
+      (lines-first (textAfter l v) (linesFrom l n (valueAfter 4 v)) (text-whole v)
+      ∙ ap (λ (ts : List (List ℕ)). textAfter l v ∷ ts) (lines-found n (valueAfter 4 v)))
