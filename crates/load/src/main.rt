@@ -83,7 +83,7 @@ fn main() {
     let text = &input[..n];
     let o = order::read_order(scan::before_byte(text, b'\n'));
     if !o.ok {
-        complain(b"load: 60: the first line has to be START DATE REASON STEPS\n");
+        complain(b"load: 60: START, DATE, REASON or STEPS is malformed\n");
         return;
     }
     let mut names = [[0u8; 30]; 256];
