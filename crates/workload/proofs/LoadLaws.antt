@@ -208,7 +208,7 @@ unfolding writeLoad
 load-is-all l start d r q = q
 
 -- no more steps than asked for
-within-few : (l : Load) (most room v : ℕ) → stepsWithin l most room v ≤ most
+pub within-few : (l : Load) (most room v : ℕ) → stepsWithin l most room v ≤ most
 unfolding stepsWithin
 within-few l zero room v = omega arith
 within-few l (suc most) room v =

@@ -1,6 +1,7 @@
 -- Laws of what a call writes: its text is that of the steps that fit, whatever the buffer held.
-use Prim.Native.Nat.{ℕ, zero, suc, _+_, _-_, _≤_}
+use Prim.Native.Nat.{ℕ, zero, suc, _+_, _-_, _≤_, _<_}
 use native.Mathlib.Nat.{not-suc-le-zero, le-of-suc-le-suc}
+use native.Mathlib.Numerals.{add-one}
 use native.Mathlib.Omega.{arith}
 use mathlib.Core.Path.{_≡_, refl, sym, ap, _∙_}
 use mathlib.Core.List.{List, [], _++_}
@@ -8,13 +9,13 @@ use mathlib.Core.Bool.{Bool, true, false, cond}
 use lib.Dec.{leb}
 use lib.ListN.{length, drop, length-append}
 use lib.Seq.{take-append-seam}
-use borrow.Author.Tests.{le-leb, leb-true}
+use borrow.Author.Tests.{le-leb, leb-true, leb-false}
 use Rattle.texts.proofs.Tests.{by-test, cond-elim}
 use Rattle.generator.specs.Generator.{valueAfter}
 use Rattle.workload.specs.Given.{Load, isLoad}
 use Rattle.workload.specs.Lines.{lineAfter}
 use Rattle.workload.specs.Load.{afterSteps, linesFrom, stepsWithin, filledBy, notFilled, writeSteps, writeLoad}
-use Rattle.workload.proofs.LoadLaws.{lines-more}
+use Rattle.workload.proofs.LoadLaws.{lines-more, within-few}
 use Rattle.workload_theorems.specs.LoadClaims.{textIn}
 
 -- ---- how many steps fit
@@ -41,6 +42,24 @@ module _ (l : Load) where
       (λ t. let fits : size ≤ wide = omega (arith, leb-true size room t) in rw (t, le-leb _ _ fits) (omega (arith, rest)))
       (λ f. rw f (omega arith))
 
+  -- and where one more is allowed, its line has no room
+  next-size : (n v : ℕ) → length (linesFrom l (suc n) v) ≡ length (lineAfter l v) + length (linesFrom l n (valueAfter 4 v))
+  unfolding linesFrom
+  next-size n v = length-append (lineAfter l v) (linesFrom l n (valueAfter 4 v))
+
+  next-long : (most room v n : ℕ) → stepsWithin l most room v ≡ n → n < most → room < length (linesFrom l (suc n) v)
+  unfolding stepsWithin
+  next-long zero room v n e h = absurd (not-suc-le-zero h)
+  next-long (suc most) room v n e h =
+      let size = length (lineAfter l v) in
+      by-test (leb size room)
+      (λ t.
+      let m = stepsWithin l most (room - size) (valueAfter 4 v) in
+      let is : suc m ≡ n = rw t at e in
+      let rest = next-long most (room - size) (valueAfter 4 v) m refl (omega (arith, is)) in
+      rw (← is, next-size (suc m) v) (omega (arith, rest)))
+      (λ f. rw (next-size n v) (omega (arith, leb-false size room f)))
+
 -- ---- a call for a good load
 module _ (l : Load) (good : isLoad l ≡ true) (most v : ℕ) (d : List ℕ) where
   pub call-steps : writeSteps l most v d .steps ≡ stepsWithin l most (length d) v
@@ -56,6 +75,12 @@ module _ (l : Load) (good : isLoad l ≡ true) (most v : ℕ) (d : List ℕ) whe
   call-text =
       let text = linesFrom l (stepsWithin l most (length d) v) v in
       rw good (take-append-seam text (drop (0 + length text) d))
+
+  pub call-few : writeSteps l most v d .steps ≤ most
+  call-few = rw call-steps (within-few l most (length d) v)
+
+  pub call-full : writeSteps l most v d .steps < most → length d < length (linesFrom l (writeSteps l most v d .steps + 1) v)
+  call-full h = rw add-one (next-long l most (length d) v (writeSteps l most v d .steps) (sym call-steps) h)
 
 -- of another load nothing is written
 none-written : (l : Load) → isLoad l ≡ false → (most v : ℕ) (d : List ℕ) → textIn (writeSteps l most v d) ≡ []

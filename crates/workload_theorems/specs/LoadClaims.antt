@@ -1,5 +1,5 @@
 -- Document 02, [4]: what holds of every load. `proofs/LoadClaims.antt` proves it (`load-claims : LoadClaims`).
-use Prim.Native.Nat.{ℕ, zero, suc, _+_, _≤_}
+use Prim.Native.Nat.{ℕ, zero, suc, _+_, _≤_, _<_}
 use mathlib.Core.Path.{_≡_}
 use mathlib.Core.Bool.{true}
 use mathlib.Core.List.{List, [], _∷_, _++_}
@@ -50,6 +50,11 @@ pub record LoadClaims : Type 0 where
       ≡ replied t (drawFunds (x .gate) t (numberOf (numberText (accountFor l (rollsFrom v) .number))) (accountFor l (rollsFrom v) .kind) (kopecksOf (rollsFrom v)))
   -- the lines that a session finds in the text are those of the steps
   pub lines : (l : Load) → isLoad l ≡ true → (n v : ℕ) → linesIn (splitAt 10 (linesFrom l n v)) ≡ textsFrom l n v
+  -- what a call wrote is the lines of as many steps as it tells, no more than asked for; the next one, if it was asked for too, did not fit
+  pub wrote : (l : Load) → isLoad l ≡ true → (v most : ℕ) (d : List ℕ)
+      → (textIn (writeSteps l most v d) ≡ linesFrom l (writeSteps l most v d .steps) v)
+      × (writeSteps l most v d .steps ≤ most)
+      × (writeSteps l most v d .steps < most → length d < length (linesFrom l (writeSteps l most v d .steps + 1) v))
   -- the text of a buffer begins that of every longer one
   pub begins : (l : Load) (v : ℕ) (d e : List ℕ) → length d ≤ length e
       → (rest : List ℕ) × (textIn (writeLoad l v e) ≡ textIn (writeLoad l v d) ++ rest)
