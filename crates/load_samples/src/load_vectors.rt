@@ -56,6 +56,7 @@ fn run(text: &[u8], names: &[[u8; 30]], keys: &[[u64; 2]], dst: &mut [u8]) {
     show::bytes(dst);
 }
 
+// Lends the columns and the buffer that the fields ask for.
 pub fn load(text: &[u8]) {
     let names = column(bytes_of(field_at(text, 7)), bytes_of(field_at(text, 9)));
     let mut keys = [key(field_at(text, 7), field_at(text, 8)); 257];

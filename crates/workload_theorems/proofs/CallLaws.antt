@@ -6,16 +6,16 @@ use native.Mathlib.Omega.{arith}
 use mathlib.Core.Path.{_≡_, refl, sym, ap, _∙_}
 use mathlib.Core.List.{List, [], _++_}
 use mathlib.Core.Bool.{Bool, true, false, cond}
-use lib.Dec.{leb}
+use lib.Dec.{leb, ltb}
 use lib.ListN.{length, drop, length-append}
 use lib.Seq.{take-append-seam}
-use borrow.Author.Tests.{le-leb, leb-true, leb-false}
+use borrow.Author.Tests.{le-leb, leb-true, leb-false, ltb-true, ltb-false}
 use Rattle.texts.proofs.Tests.{by-test, cond-elim}
 use Rattle.generator.specs.Generator.{valueAfter}
 use Rattle.workload.specs.Given.{Load, isLoad}
 use Rattle.workload.specs.Lines.{lineAfter}
 use Rattle.workload.specs.Load.{afterSteps, linesFrom, stepsWithin, filledBy, notFilled, writeSteps, writeLoad}
-use Rattle.workload.proofs.LoadLaws.{lines-more, within-few}
+use Rattle.workload.proofs.LoadLaws.{lines-more, line-some, within-few}
 use Rattle.workload_theorems.specs.LoadClaims.{textIn}
 
 -- ---- how many steps fit
@@ -81,6 +81,20 @@ module _ (l : Load) (good : isLoad l ≡ true) (most v : ℕ) (d : List ℕ) whe
 
   pub call-full : writeSteps l most v d .steps < most → length d < length (linesFrom l (writeSteps l most v d .steps + 1) v)
   call-full h = rw add-one (next-long l most (length d) v (writeSteps l most v d .steps) (sym call-steps) h)
+
+-- n lines have n bytes at least, so that a buffer's bytes are no bound on the steps that fit it
+lines-long : (l : Load) (n v : ℕ) → n ≤ length (linesFrom l n v)
+unfolding linesFrom
+lines-long l zero v = omega arith
+lines-long l (suc n) v = rw length-append (omega (arith, line-some l v, lines-long l n (valueAfter 4 v)))
+
+pub load-full : (l : Load) → isLoad l ≡ true → (v : ℕ) (d : List ℕ) → length d < length (linesFrom l (writeLoad l v d .steps + 1) v)
+unfolding writeLoad
+load-full l good v d =
+    let n = writeSteps l (length d) v d .steps in
+    by-test (ltb n (length d))
+    (λ t. call-full l good (length d) v d (ltb-true n (length d) t))
+    (λ f. omega (arith, ltb-false n (length d) f, lines-long l (n + 1) v))
 
 -- of another load nothing is written
 none-written : (l : Load) → isLoad l ≡ false → (most v : ℕ) (d : List ℕ) → textIn (writeSteps l most v d) ≡ []

@@ -9,7 +9,7 @@ use Rattle.workload_theorems.specs.LoadClaims.{requestAfter, LoadClaims}
 use Rattle.workload_theorems.proofs.AskedLaws.{load-dated, number-good, kind-good, kopecks-good, asked-shown, asked-read, asks-line, draws-line}
 use Rattle.workload_theorems.proofs.TurnLaws.{line-params, ask-turn, draw-turn}
 use Rattle.workload_theorems.proofs.TextLaws.{lines-found}
-use Rattle.workload_theorems.proofs.CallLaws.{call-text, call-steps, call-few, call-full, load-begins, alike-answer, alike-text, goes-onward}
+use Rattle.workload_theorems.proofs.CallLaws.{call-text, call-steps, call-few, call-full, load-full, load-begins, alike-answer, alike-text, goes-onward}
 
 pub load-claims : LoadClaims
 load-claims =
@@ -30,6 +30,7 @@ load-claims =
         call-few l h most v d,
         call-full l h most v d,
       );
+      full = load-full;
       begins = load-begins;
       alike = λ l v d e same.
           let a = alike-answer l v d e same in

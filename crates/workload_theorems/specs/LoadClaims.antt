@@ -55,6 +55,8 @@ pub record LoadClaims : Type 0 where
       → (textIn (writeSteps l most v d) ≡ linesFrom l (writeSteps l most v d .steps) v)
       × (writeSteps l most v d .steps ≤ most)
       × (writeSteps l most v d .steps < most → length d < length (linesFrom l (writeSteps l most v d .steps + 1) v))
+  -- a call without a most of steps stops only where the next line does not fit
+  pub full : (l : Load) → isLoad l ≡ true → (v : ℕ) (d : List ℕ) → length d < length (linesFrom l (writeLoad l v d .steps + 1) v)
   -- the text of a buffer begins that of every longer one
   pub begins : (l : Load) (v : ℕ) (d e : List ℕ) → length d ≤ length e
       → (rest : List ℕ) × (textIn (writeLoad l v e) ≡ textIn (writeLoad l v d) ++ rest)
