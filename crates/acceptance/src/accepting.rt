@@ -16,7 +16,7 @@ use fields::{amount, codes};
 
 // The receipt is 0 with a fault.
 #[repr(C)]
-#[derive(Drop)]
+#[derive(Clone, Copy)]
 pub struct Acceptance {
     pub code: u64,
     pub book: Book,

@@ -1,3 +1,4 @@
+#![tactic(auto)]
 // What is looked at before a request or a registry: everything lent, the buffer's room and the clock.
 ghost use Rattle.std.specs.Prelude.{◌≡◌};
 ghost use Rattle.table.specs.Lent.{before};

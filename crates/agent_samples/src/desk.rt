@@ -13,7 +13,7 @@ use table::Gate;
 use texts::scan;
 use vectors::{given, line};
 
-#[derive(Drop)]
+#[derive(Clone, Copy)]
 pub struct Desk {
     pub book: Book,
     pub lent: usize,
@@ -22,7 +22,7 @@ pub struct Desk {
 }
 
 // What the agent sends.
-#[derive(Drop)]
+#[derive(Clone, Copy)]
 pub enum Sent {
     Request(Action),
     Registry,

@@ -1,3 +1,4 @@
+#![tactic(auto)]
 // Runs days at the agent, and at both ends, from standard input: prints each line, `: ` and what is answered.
 mod desk;
 mod ends;

@@ -5,7 +5,7 @@ ghost use Rattle.answer_reader.specs.AnswerRead.{empty_answer, unreadable};
 use payments::Answer;
 
 // An answer, or `ok` false and zeros.
-#[derive(Drop)]
+#[derive(Clone, Copy)]
 pub struct AnswerRead {
     pub ok: bool,
     pub answer: Answer,

@@ -1,3 +1,4 @@
+#![tactic(auto)]
 // Answers, as the agent reads them.
 pub mod answer;
 mod parts;

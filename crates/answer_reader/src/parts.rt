@@ -11,7 +11,7 @@ use texts::digits::Digits;
 // The most bytes of a message.
 const MESSAGE_MOST: usize = 512;
 
-#[derive(Drop)]
+#[derive(Clone, Copy)]
 pub(crate) enum Part {
     Code,
     Authcode,
@@ -20,7 +20,7 @@ pub(crate) enum Part {
 }
 
 // What an element gives: its number, or where its date begins, and where the text goes on; `ok` false where it cannot be read.
-#[derive(Drop)]
+#[derive(Clone, Copy)]
 pub(crate) struct Step {
     pub ok: bool,
     pub there: bool,

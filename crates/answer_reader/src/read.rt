@@ -12,14 +12,14 @@ use payments::{Action, Answer};
 use texts::scan;
 
 // Where the text goes on behind a tag; `ok` false where it does not stand.
-#[derive(Drop)]
+#[derive(Clone, Copy)]
 struct Place {
     ok: bool,
     at: usize,
 }
 
 // What the elements give, a date by its place, and where the text goes on.
-#[derive(Drop)]
+#[derive(Clone, Copy)]
 struct Parts {
     ok: bool,
     code: u64,

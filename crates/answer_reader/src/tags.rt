@@ -8,7 +8,7 @@ use crate::parts::Part;
 use texts::scan;
 
 // What stands at a place: no such element, one that is not closed as it should, or its content (from and size) and where the text goes on.
-#[derive(Drop)]
+#[derive(Clone, Copy)]
 pub(crate) enum Element {
     Absent,
     Broken,

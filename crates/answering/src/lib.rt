@@ -1,3 +1,4 @@
+#![tactic(auto)]
 // An answer comes back, with the action and the receipt of its request.
 pub mod meaning;
 

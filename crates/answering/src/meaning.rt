@@ -5,7 +5,7 @@ ghost use Rattle.answering.specs.Answering.{meaning, turned, credits, payment_me
 use book::State;
 use payments::Action;
 
-#[derive(Drop)]
+#[derive(Clone, Copy)]
 pub enum Meaning {
     Paid,
     Revoked,

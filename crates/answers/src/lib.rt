@@ -1,2 +1,3 @@
+#![tactic(auto)]
 // Answers, as the gate writes them.
 pub mod write;

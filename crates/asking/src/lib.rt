@@ -1,3 +1,4 @@
+#![tactic(auto)]
 // What the agent may ask about an entry, the request it makes, and the entry that it leaves.
 ghost use Rattle.std.specs.Prelude.{◌≡◌};
 ghost use Rattle.asking.specs.Asking.{may_write, written_entry, request_of, check_of, forms_good, is_open};

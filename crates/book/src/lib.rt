@@ -1,3 +1,4 @@
+#![tactic(auto)]
 // The agent's book: its head by value, and its entries in three lent rows.
 pub mod rows;
 pub mod states;
@@ -6,7 +7,7 @@ use days::calendar::Day;
 use fields::number::Number;
 
 // A payment taken at a counter. The numbers of its states are those of `State`, from 1 on.
-#[derive(Drop)]
+#[derive(Clone, Copy)]
 pub struct Entry {
     pub receipt: u64,
     pub number: Number,
@@ -19,7 +20,7 @@ pub struct Entry {
 
 // The entries in use are the first `used` of the lent rows; their receipts are consecutive from `first`.
 #[repr(C)]
-#[derive(Drop)]
+#[derive(Clone, Copy)]
 pub struct Book {
     pub first: u64,
     pub used: usize,
@@ -27,7 +28,7 @@ pub struct Book {
     pub settled: bool,
 }
 
-#[derive(Drop)]
+#[derive(Clone, Copy)]
 pub enum State {
     Asked,
     Credited,

@@ -1,3 +1,4 @@
+#![tactic(auto)]
 // A call on the gate as one value: what it asks for, with its parameters.
 ghost use Rattle.std.specs.Prelude.{◌≡◌};
 ghost use Rattle.table.specs.Lent.{before, after};
@@ -12,7 +13,7 @@ use settlement::settle;
 use table::Gate;
 
 // What a call asks for.
-#[derive(Drop)]
+#[derive(Clone, Copy)]
 pub enum What {
     Request,
     Registry,
@@ -21,7 +22,7 @@ pub enum What {
 }
 
 // A call, but for its text. A request has a clock; a registry its day too; an opening number and type; a drawing its kopecks too.
-#[derive(Drop)]
+#[derive(Clone, Copy)]
 pub struct Call {
     pub what: What,
     pub clock: [u8; 19],

@@ -1,3 +1,4 @@
+#![tactic(auto)]
 // A day by the lines of its registry: settled and closed, or only reported.
 ghost use Rattle.std.specs.Prelude.{◌≡◌, ◌≤◌, length};
 ghost use Rattle.index.specs.Index.{Chained};

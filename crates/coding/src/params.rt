@@ -5,7 +5,7 @@ ghost use Rattle.coding.specs.Params.{param_part};
 use texts::scan;
 
 // How a request came.
-#[derive(Drop)]
+#[derive(Clone, Copy)]
 pub enum Method {
     Get,
     Post,

@@ -7,7 +7,7 @@ ghost use Rattle.coding.specs.Units.{unit_of, code_size};
 use texts::{out, scan};
 
 // What stands at a place of coded text: the byte, how many bytes code it, and whether they may.
-#[derive(Drop)]
+#[derive(Clone, Copy)]
 pub(crate) struct Unit {
     pub byte: u8,
     pub len: usize,

@@ -15,7 +15,7 @@ use table::columns;
 use texts::scan;
 
 // A session between two parts of its input: its console, where the held line stands, how many bytes the last part printed, and how many of its bytes were taken.
-#[derive(Drop)]
+#[derive(Clone, Copy)]
 pub struct Part {
     pub console: ConsoleHead,
     pub mark: Mark,
@@ -24,14 +24,14 @@ pub struct Part {
 }
 
 // The whole of a session that was run; `ok` is false where the buffer is refused.
-#[derive(Drop)]
+#[derive(Clone, Copy)]
 pub struct Run {
     pub ok: bool,
     pub size: usize,
 }
 
 // The console after a line, and the cursor behind what it printed.
-#[derive(Drop)]
+#[derive(Clone, Copy)]
 pub(crate) struct Printed {
     pub console: ConsoleHead,
     pub size: usize,

@@ -10,7 +10,7 @@ use days::calendar::{Day, DayRead};
 use texts::{out, scan};
 
 // A written date, or `ok` false and nineteen zero bytes.
-#[derive(Drop)]
+#[derive(Clone, Copy)]
 pub struct DateRead {
     pub ok: bool,
     pub date: [u8; 19],

@@ -1,2 +1,3 @@
+#![tactic(auto)]
 // Days of the calendar, and written dates.
 pub mod date;

@@ -9,7 +9,7 @@ use book_validity::valid;
 use days::calendar::Day;
 
 #[repr(C)]
-#[derive(Drop)]
+#[derive(Clone, Copy)]
 pub struct Freezing {
     pub code: u64,
     pub book: Book,

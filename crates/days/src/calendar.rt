@@ -6,14 +6,14 @@ ghost use Rattle.days.specs.Calendar.{two_digits, day_with, leap_year, days_in, 
 const CENTURY: u8 = 20;
 
 #[repr(C)]
-#[derive(Drop)]
+#[derive(Clone, Copy)]
 pub struct Day {
     pub year: u16,
     pub month: u8,
     pub day: u8,
 }
 
-#[derive(Drop)]
+#[derive(Clone, Copy)]
 pub enum DayRead {
     Good(Day),
     NoDate,

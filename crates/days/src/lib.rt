@@ -1,2 +1,3 @@
+#![tactic(auto)]
 // Days of the calendar.
 pub mod calendar;

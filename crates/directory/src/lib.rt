@@ -1,3 +1,4 @@
+#![tactic(auto)]
 // The gate's accounts by number and type, in rows without their balances: filled once, looked up while balances move.
 mod digest;
 

@@ -7,14 +7,14 @@ use texts::{out, scan};
 
 // The first `len` bytes count; a number that is read is zero after them.
 #[repr(C)]
-#[derive(Drop)]
+#[derive(Clone, Copy)]
 pub struct Number {
     pub bytes: [u8; 30],
     pub len: usize,
 }
 
 // A number, or `ok` false and no bytes.
-#[derive(Drop)]
+#[derive(Clone, Copy)]
 pub struct NumberRead {
     pub ok: bool,
     pub number: Number,

@@ -12,7 +12,7 @@ use table::{Record, daily, rows};
 use texts::{digits, out};
 
 // How many records there are, and their kopecks.
-#[derive(Drop)]
+#[derive(Clone, Copy)]
 struct Sum {
     count: u64,
     total: u64,

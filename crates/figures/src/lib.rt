@@ -1,3 +1,4 @@
+#![tactic(auto)]
 // What a line of a session prints.
 pub mod daily;
 pub mod print;

@@ -9,7 +9,7 @@ use texts::scan;
 use vectors::line;
 
 // What a call answered, and the records and the buffer as it left them.
-#[derive(Drop)]
+#[derive(Clone, Copy)]
 pub struct Left {
     pub reply: Reply,
     pub records: [Record; 4],

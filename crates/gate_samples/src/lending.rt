@@ -8,7 +8,7 @@ use ledger::Reply;
 use table::{Gate, Record};
 
 // What a call over records answered, and the records as it left them.
-#[derive(Drop)]
+#[derive(Clone, Copy)]
 pub struct Desk {
     pub records: [Record; 4],
     pub reply: Reply,

@@ -1,3 +1,4 @@
+#![tactic(auto)]
 // Runs the gate's vectors of standard input over three rows and over records: prints each line, `: ` and what is answered.
 mod both;
 mod gate_vectors;

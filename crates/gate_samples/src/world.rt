@@ -4,7 +4,7 @@ use texts::scan;
 use vectors::{given, line};
 
 // The dates may be lent at a length of their own.
-#[derive(Drop)]
+#[derive(Clone, Copy)]
 pub struct World {
     pub gate: Gate,
     pub lent: usize,

@@ -1,3 +1,4 @@
+#![tactic(auto)]
 // What is held of a line of the session's input, gathered from parts of any size.
 ghost use Rattle.std.specs.Prelude.{◌≡◌, drop, replicate};
 ghost use Rattle.gathering.specs.Held.{new_mark, held_of};
@@ -16,7 +17,7 @@ const SPACES_HELD: usize = 4;
 const LINE_HELD: usize = 2177;
 
 // Where a held line stands: how many of its bytes are held, how many spaces that split fields, and how many bytes of the last field. The bytes themselves are lent.
-#[derive(Drop)]
+#[derive(Clone, Copy)]
 pub struct Mark {
     pub len: usize,
     pub spaces: usize,
@@ -24,7 +25,7 @@ pub struct Mark {
 }
 
 // What one byte more does: whether it is held, and the spaces and the run after it.
-#[derive(Drop)]
+#[derive(Clone, Copy)]
 pub struct Step {
     pub keep: bool,
     pub spaces: usize,
@@ -32,7 +33,7 @@ pub struct Step {
 }
 
 // Where a held line stands, where the input is read on, and whether the line has ended.
-#[derive(Drop)]
+#[derive(Clone, Copy)]
 pub struct Gathered {
     pub mark: Mark,
     pub at: usize,

@@ -1,3 +1,4 @@
+#![tactic(auto)]
 // The values that a load is drawn from: multiplication and addition modulo 2^64, and four rolls a step.
 ghost use Rattle.std.specs.Prelude.{◌≡◌, ◌*◌, ◌%◌, ◌^◌};
 ghost use Rattle.generator.specs.Generator.{next_value, roll_of, rolls_from};
@@ -11,7 +12,7 @@ const FACTOR: u64 = 6364136223846793005;
 const INCREMENT: u64 = 1442695040888963407;
 
 // The rolls of one step, and the value that the next step goes on from.
-#[derive(Drop)]
+#[derive(Clone, Copy)]
 pub struct Rolls {
     pub step: u64,
     pub account: u64,

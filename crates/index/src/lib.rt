@@ -1,3 +1,4 @@
+#![tactic(auto)]
 // Places by slots: chains of the places whose keys fall into one slot, rising. A link is a place and one, 0 is none.
 ghost use Rattle.std.specs.Prelude.{◌≡◌, ℕ, ◌+◌, ◌<◌, length, get_or, set};
 ghost use Rattle.index.specs.Index.{slot_of};

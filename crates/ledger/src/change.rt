@@ -17,7 +17,7 @@ use rules::decision::Change;
 use table::{Gate, Head, Record, accounts, columns, rows};
 
 // What an instruction comes to: the code, how many records there are then, and the record that the answer speaks of.
-#[derive(Drop)]
+#[derive(Clone, Copy)]
 pub struct Execution {
     pub code: u64,
     pub used: usize,
@@ -25,7 +25,7 @@ pub struct Execution {
 }
 
 // What a change leaves: how many records, the balance of the account that it concerns, and the record that the answer speaks of.
-#[derive(Drop)]
+#[derive(Clone, Copy)]
 pub(crate) struct Outcome {
     pub used: usize,
     pub balance: i64,

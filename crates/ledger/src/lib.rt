@@ -1,3 +1,4 @@
+#![tactic(auto)]
 // The gate's ledger: what a request finds in accounts and table, and the changes that a decision makes there. No wire text.
 pub mod change;
 
@@ -5,7 +6,7 @@ use table::{Gate, Head};
 
 // What a call of the gate answers: its code, the gate as it leaves it, and how many bytes of the lent buffer it wrote.
 #[repr(C)]
-#[derive(Drop)]
+#[derive(Clone, Copy)]
 pub struct Reply {
     pub code: u64,
     pub gate: Gate,
@@ -14,7 +15,7 @@ pub struct Reply {
 
 // The same where the accounts are lent in columns: the head instead of the gate.
 #[repr(C)]
-#[derive(Drop)]
+#[derive(Clone, Copy)]
 pub struct HeadReply {
     pub code: u64,
     pub head: Head,

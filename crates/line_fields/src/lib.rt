@@ -1,3 +1,4 @@
+#![tactic(auto)]
 // The fields of a line, split by every space.
 pub mod lines;
 

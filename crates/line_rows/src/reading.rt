@@ -14,7 +14,7 @@ use registry::text;
 use texts::out;
 
 // How many lines were read, with fault 0; or the fault of the text, 53, 52 or 54.
-#[derive(Drop)]
+#[derive(Clone, Copy)]
 pub struct LinesRead {
     pub fault: u64,
     pub count: usize,

@@ -1,2 +1,3 @@
+#![tactic(auto)]
 // A line of a registry, read and written.
 pub mod line;

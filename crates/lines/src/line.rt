@@ -11,7 +11,7 @@ use fields::{amount, codes, number};
 use texts::digits::Digits;
 use texts::{digits, out, scan};
 
-#[derive(Drop)]
+#[derive(Clone, Copy)]
 pub struct Line {
     pub number: Number,
     pub kind: u64,
@@ -22,7 +22,7 @@ pub struct Line {
 
 // A line in its text, or `ok` false: its number is the first `len` bytes, its date the nineteen from `date` on. Neither is copied here,
 // so that each is copied once, to where it is held.
-#[derive(Drop)]
+#[derive(Clone, Copy)]
 pub struct Found {
     pub ok: bool,
     pub len: usize,
@@ -33,7 +33,7 @@ pub struct Found {
 }
 
 // Amount and receipt of a line, or `ok` false.
-#[derive(Drop)]
+#[derive(Clone, Copy)]
 struct Paid {
     ok: bool,
     amount: u64,

@@ -1,3 +1,4 @@
+#![tactic(auto)]
 // The registry of a frozen day.
 ghost use Rattle.std.specs.Prelude.{◌≡◌, true, ◌≤◌, length};
 ghost use Rattle.texts.specs.Lists.{written, cursor_after};

@@ -1,3 +1,4 @@
+#![tactic(auto)]
 // Places in lists: what a search gives, and how the rows of a table or a book are lent.
 ghost use Rattle.std.specs.Prelude.{◌≡◌, true};
 ghost use Rattle.lists.specs.Lists.{is_found};
@@ -6,7 +7,7 @@ ghost use Rattle.lists.specs.Lent.{lent_well, Lent};
 // How many places a table or a book has at most.
 pub const PLACES_MOST: usize = 4096;
 
-#[derive(Drop)]
+#[derive(Clone, Copy)]
 pub enum Found {
     At(usize),
     Nothing,

@@ -1,3 +1,4 @@
+#![tactic(auto)]
 // The load program: it reads what is asked for from standard input, and prints the session lines of so many steps.
 mod order;
 
@@ -12,7 +13,7 @@ use workload::load;
 const ACCOUNTS_MOST: usize = 256;
 
 // The accounts that were read into the columns: whether all are well formed, and how many there are.
-#[derive(Drop)]
+#[derive(Clone, Copy)]
 struct Accounts {
     ok: bool,
     count: usize,

@@ -9,7 +9,7 @@ use texts::digits;
 use texts::digits::Digits;
 
 // The first line: what is asked for, if it is well formed.
-#[derive(Drop)]
+#[derive(Clone, Copy)]
 pub struct Order {
     pub ok: bool,
     pub start: u64,
@@ -19,7 +19,7 @@ pub struct Order {
 }
 
 // The line of an account.
-#[derive(Drop)]
+#[derive(Clone, Copy)]
 pub struct AccountLine {
     pub ok: bool,
     pub number: Number,

@@ -1,3 +1,4 @@
+#![tactic(auto)]
 // Runs the vectors of standard input on the generator and the load: prints each line, `: ` and what the calls answer.
 mod load_vectors;
 

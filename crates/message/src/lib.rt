@@ -1,2 +1,3 @@
+#![tactic(auto)]
 // Requests, read from bytes with their first fault.
 pub mod request;

@@ -20,7 +20,7 @@ use texts::digits::Digits;
 const PARAMETERS_MOST: usize = 2048;
 
 // The fields of a request; those that its action lacks are at fixed values, zeros. Small ones last, so that the others are copied whole words at a time.
-#[derive(Drop)]
+#[derive(Clone, Copy)]
 pub struct Asked {
     pub number: Number,
     pub kind: u64,
@@ -32,14 +32,14 @@ pub struct Asked {
 }
 
 // What a request asks, with fault 0; or its fault and nothing asked. With 31 and 1 no action is known, and Check stands there.
-#[derive(Drop)]
+#[derive(Clone, Copy)]
 pub struct RequestRead {
     pub fault: u64,
     pub asked: Asked,
 }
 
 // The fields that are figures, with fault 0; or the first fault of all fields.
-#[derive(Drop)]
+#[derive(Clone, Copy)]
 struct Figures {
     fault: u64,
     receipt: u64,
@@ -49,7 +49,7 @@ struct Figures {
 }
 
 // The readers of the digit fields.
-#[derive(Drop)]
+#[derive(Clone, Copy)]
 enum Reader {
     Receipt,
     Kind,

@@ -1,3 +1,4 @@
+#![tactic(auto)]
 // Accounts opened, and drawn from.
 ghost use Rattle.std.specs.Prelude.{◌≡◌, ◌&&◌, List, ℕ, ◌≤◌};
 ghost use Rattle.std.specs.Int.Signed.{mag};

@@ -22,14 +22,14 @@ use texts::digits::Digits;
 use validity::valid;
 
 // What a line prints: its figures, or the payments of a day.
-#[derive(Drop)]
+#[derive(Clone, Copy)]
 pub enum Shown {
     Figures,
     Payments(Day),
 }
 
 // A line's code, or 99, the console after it, and what it prints.
-#[derive(Drop)]
+#[derive(Clone, Copy)]
 pub struct Turn {
     pub code: u64,
     pub console: ConsoleHead,
@@ -37,7 +37,7 @@ pub struct Turn {
 }
 
 // The account that a line names.
-#[derive(Drop)]
+#[derive(Clone, Copy)]
 struct Subject {
     number: Number,
     kind: u64,

@@ -23,7 +23,7 @@ pub const REASON: usize = 6;
 
 pub const NO_NAME: usize = 7;
 
-#[derive(Drop)]
+#[derive(Clone, Copy)]
 pub enum ActionRead {
     Known(Action),
     Unknown,

@@ -9,7 +9,7 @@ use coding::url;
 use texts::scan;
 
 // A piece between ampersands: the place of its name, 7 where that has none, and where its value begins; or `ok` false.
-#[derive(Drop)]
+#[derive(Clone, Copy)]
 struct Piece {
     ok: bool,
     place: usize,

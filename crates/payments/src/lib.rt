@@ -1,7 +1,8 @@
+#![tactic(auto)]
 // What the two ends tell each other, whatever the wire: an action with the details of its payment, and an answer.
 use fields::number::Number;
 
-#[derive(Drop)]
+#[derive(Clone, Copy)]
 pub enum Action {
     Check,
     Payment,
@@ -10,7 +11,7 @@ pub enum Action {
 }
 
 // What a payment is known by; number and type name its account.
-#[derive(Drop)]
+#[derive(Clone, Copy)]
 pub struct Details {
     pub receipt: u64,
     pub number: Number,
@@ -20,14 +21,14 @@ pub struct Details {
 }
 
 // What is asked of the gate.
-#[derive(Drop)]
+#[derive(Clone, Copy)]
 pub struct Instruction {
     pub action: Action,
     pub details: Details,
 }
 
 // A code, and where the answer has one an authcode and a date.
-#[derive(Drop)]
+#[derive(Clone, Copy)]
 pub struct Answer {
     pub code: u64,
     pub authorized: bool,

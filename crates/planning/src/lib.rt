@@ -1,2 +1,3 @@
+#![tactic(auto)]
 // What the gate looks up for a request, and its decision. Nothing is changed here.
 pub mod plan;

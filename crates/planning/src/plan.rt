@@ -18,7 +18,7 @@ use table::accounts::Holding;
 use table::{Gate, Head, Record, accounts, columns, payment, rows};
 
 // The decision, with the record and the account that it concerns.
-#[derive(Drop)]
+#[derive(Clone, Copy)]
 pub struct Plan {
     pub decided: Decided,
     pub found: Found,

@@ -15,7 +15,7 @@ use payments::Details;
 use table::{Gate, Record, rows};
 
 // The account that a line's amount is due on, and how many records the table has then.
-#[derive(Drop)]
+#[derive(Clone, Copy)]
 pub struct Due {
     pub account: Found,
     pub used: usize,

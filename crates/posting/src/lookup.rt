@@ -12,7 +12,7 @@ use lists::Found;
 use table::{Record, rows};
 
 // A record of the line's receipt, one that the line matches, or such a one that is done.
-#[derive(Drop)]
+#[derive(Clone, Copy)]
 pub enum Sought {
     SameReceipt,
     Matched,

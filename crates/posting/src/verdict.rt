@@ -15,7 +15,7 @@ use lists::Found;
 use table::{Gate, Record, rows};
 
 // The record that it matches is done, or at a place to be done again; it is posted to an account; or none of these.
-#[derive(Drop)]
+#[derive(Clone, Copy)]
 pub enum Verdict {
     Keeps,
     Restores(usize),

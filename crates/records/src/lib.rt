@@ -1,3 +1,4 @@
+#![tactic(auto)]
 // The payment table as a lent slice of records: they are copied into rows, the call is made on these, and they are copied back.
 ghost use Rattle.std.specs.Prelude.{◌≡◌, ◌<◌, ◌≤◌, length};
 ghost use Rattle.table.specs.Table.{record_at, rows_with};

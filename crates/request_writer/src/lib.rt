@@ -1,2 +1,3 @@
+#![tactic(auto)]
 // Requests, written into lent buffers.
 pub mod write;

@@ -5,7 +5,7 @@ ghost use Rattle.rules.specs.Decision.{keeps, check_code, payment_new, cancel_do
 use payments::Action;
 
 // How a receipt stands in the table. Other: its record is of another number, type, amount or date than the payment tells.
-#[derive(Drop)]
+#[derive(Clone, Copy)]
 pub enum Standing {
     Unrecorded,
     Done,
@@ -14,7 +14,7 @@ pub enum Standing {
 }
 
 // What else a decision looks at: the account is known, the table is full, its day is closed, the balance is below the amount.
-#[derive(Drop)]
+#[derive(Clone, Copy)]
 pub struct View {
     pub known: bool,
     pub full: bool,
@@ -23,14 +23,14 @@ pub struct View {
 }
 
 // What a decision changes: nothing, a record more, or its record cancelled.
-#[derive(Drop)]
+#[derive(Clone, Copy)]
 pub enum Change {
     Keep,
     Append,
     Revoke,
 }
 
-#[derive(Drop)]
+#[derive(Clone, Copy)]
 pub struct Decided {
     pub code: u64,
     pub change: Change,

@@ -1,1 +1,2 @@
+#![tactic(auto)]
 // No code: runs of both ends, by computation.

@@ -1,3 +1,4 @@
+#![tactic(auto)]
 // Runs the vectors of standard input: prints each line, `: ` and what the crates answer.
 mod answer_vectors;
 mod asked_vectors;

@@ -1,3 +1,4 @@
+#![tactic(auto)]
 // The session program: it moves bytes from standard input to the console, and what the console prints to standard output.
 ghost use Rattle.std.specs.Prelude.{◌≡◌, ◌≤◌, length};
 ghost use Rattle.table.specs.Columns.{gate_of, columns_lent, columns_after};
@@ -11,7 +12,7 @@ use table::columns;
 use texts::scan;
 
 // A session, whether its input goes on, and whether what it printed was written.
-#[derive(Drop)]
+#[derive(Clone, Copy)]
 struct Stage {
     session: Part,
     going: bool,

@@ -1,3 +1,4 @@
+#![tactic(auto)]
 // Runs whole sessions from standard input, one a line: the room of the output, a space, and the input, in which / stands for 0A.
 // Prints each line, `: ` and what the session prints, again with / for 0A, or `refused`.
 use console::feed;

@@ -8,7 +8,7 @@ use fields::number::Number;
 use lists::Found;
 
 // An account that was looked for: its place and its balance, or nothing and 0.
-#[derive(Drop)]
+#[derive(Clone, Copy)]
 pub struct Holding {
     pub at: Found,
     pub balance: i64,

@@ -1,3 +1,4 @@
+#![tactic(auto)]
 // The gate's state: accounts, and the payment table in three lent rows.
 pub mod accounts;
 pub mod columns;
@@ -17,7 +18,7 @@ pub const DONE: u64 = 1;
 pub const CANCELLED: u64 = 2;
 
 // A payment. While it is done, zeros stand for its cancel date.
-#[derive(Drop)]
+#[derive(Clone, Copy)]
 pub struct Record {
     pub receipt: u64,
     pub number: Number,
@@ -31,7 +32,7 @@ pub struct Record {
 }
 
 #[repr(C)]
-#[derive(Drop)]
+#[derive(Clone, Copy)]
 pub struct Account {
     pub number: Number,
     pub kind: u64,
@@ -40,7 +41,7 @@ pub struct Account {
 
 // The accounts in use are the first `count`, the records in use the first `used` of the lent table.
 #[repr(C)]
-#[derive(Drop)]
+#[derive(Clone, Copy)]
 pub struct Gate {
     pub accounts: [Account; 256],
     pub count: usize,
@@ -50,7 +51,7 @@ pub struct Gate {
 
 // A gate without its accounts, which are lent in columns.
 #[repr(C)]
-#[derive(Drop)]
+#[derive(Clone, Copy)]
 pub struct Head {
     pub count: usize,
     pub closed: Day,

@@ -6,7 +6,7 @@ ghost use Rattle.texts.specs.Lists.{written, cursor_after};
 use crate::out;
 
 // What a field of digits holds.
-#[derive(Drop)]
+#[derive(Clone, Copy)]
 pub enum Digits {
     Value(u64),
     Malformed,
@@ -78,7 +78,7 @@ pub fn read_range(s: &[u8], most: usize, low: u64, high: u64) -> Digits
 }
 
 // The twenty digits of a number, and how many zeros lead, at least one digit kept.
-#[derive(Drop)]
+#[derive(Clone, Copy)]
 pub struct TwentyDigits {
     pub digits: [u8; 20],
     pub zeros: usize,

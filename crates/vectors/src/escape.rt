@@ -5,7 +5,7 @@ ghost use Rattle.vectors.specs.Escapes.{hex_unit, unit_of, unit_in, unescaped_co
 use coding::url;
 
 // A byte, and how many bytes of the text give it.
-#[derive(Drop)]
+#[derive(Clone, Copy)]
 pub(crate) struct Unit {
     pub byte: u8,
     pub width: usize,

@@ -11,7 +11,7 @@ use fields::number::Number;
 const ACCOUNTS_MOST: usize = 256;
 
 // What names an account: its number and type.
-#[derive(Drop)]
+#[derive(Clone, Copy)]
 pub struct AccountName {
     pub number: Number,
     pub kind: u64,

@@ -14,7 +14,7 @@ use request_writer::write;
 use texts::{digits, out, scan};
 
 // What a step does: a request of this action, or a drawing.
-#[derive(Drop)]
+#[derive(Clone, Copy)]
 pub enum Step {
     Asks(Action),
     Draws,

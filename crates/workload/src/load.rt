@@ -6,7 +6,7 @@ ghost use Rattle.workload.specs.Load.{steps_within, filled_of, filled_by, write_
 use crate::{given, line};
 
 // What a call wrote: its code, how many bytes and steps, and the value that a second call goes on from.
-#[derive(Drop)]
+#[derive(Clone, Copy)]
 pub struct Written {
     pub code: u64,
     pub size: usize,

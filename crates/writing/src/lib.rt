@@ -1,3 +1,4 @@
+#![tactic(auto)]
 // The agent writes a request.
 ghost use Rattle.std.specs.Prelude.{◌≡◌, ◌<◌};
 ghost use Rattle.payments.specs.declared.Action.TheVariants.{Payment, Status, Cancel};

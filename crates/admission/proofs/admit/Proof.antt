@@ -6,8 +6,8 @@ use Rattle.admission.proofs.admit.Tie as tie
 
 ruleset laws = (admit-table, admit-room, admit-clock, admit-all, admit-ready, rules)
 
-pub admit-spec : {M : Type 1} → statement M
-admit-spec =
+pub admit_spec : {M : Type 1} → statement M
+admit_spec =
     tie.close
     (tie.spec
     (λ c κs. search laws)

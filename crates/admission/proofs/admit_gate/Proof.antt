@@ -11,8 +11,8 @@ returns c =
       λ z. ready-packed _ _ _ u.unpack.ensures h.head_of.ensures _ (c.admit.ensures.1 z),
     )
 
-pub admit-gate-spec : {M : Type 1} → statement M
-admit-gate-spec =
+pub admit_gate_spec : {M : Type 1} → statement M
+admit_gate_spec =
     tie.close
     (tie.spec
     (λ c κs. search rules)

@@ -5,8 +5,8 @@ use Rattle.agent_samples.proofs.answer_line.Tie as tie
 
 ruleset laws = (rows-size, rules)
 
-pub answer-line-spec : {M : Type 1} → statement M
-answer-line-spec =
+pub answer_line_spec : {M : Type 1} → statement M
+answer_line_spec =
     tie.close
     (tie.spec
     (λ c κs. search laws)

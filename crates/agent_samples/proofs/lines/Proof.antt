@@ -20,8 +20,8 @@ loop-less c = let n = c.before.before.before.before.before.before.before.before.
 loop-again : tie.Need-loop-preserved invariant-loop decreases-loop
 loop-again c = (c.before.before.before.before.before.before.before.before.before.before.before.before.before.before.next-line.ensures.2, search rules, search rules, search rules, search rules, search rules, search rules)
 
-pub lines-spec : {M : Type 1} → statement M
-lines-spec =
+pub lines_spec : {M : Type 1} → statement M
+lines_spec =
     tie.close
     (tie.spec
     invariant-loop

@@ -5,8 +5,8 @@ use Rattle.answering.proofs.answered_entry.Tie as tie
 
 ruleset laws = (answered-is, rules)
 
-pub answered-entry-spec : {M : Type 1} → statement M
-answered-entry-spec =
+pub answered_entry_spec : {M : Type 1} → statement M
+answered_entry_spec =
     tie.close
     (tie.spec
     (λ c κs. search laws)

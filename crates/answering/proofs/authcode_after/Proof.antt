@@ -5,8 +5,8 @@ use Rattle.answering.proofs.authcode_after.Tie as tie
 
 ruleset laws = (authcode-new, authcode-lacked, authcode-kept, rules)
 
-pub authcode-after-spec : {M : Type 1} → statement M
-authcode-after-spec =
+pub authcode_after_spec : {M : Type 1} → statement M
+authcode_after_spec =
     tie.close
     (tie.spec
     (λ c. search laws)

@@ -12,8 +12,8 @@ take-receipt-requires c κs =
 
 ruleset laws = (take-not-book, take-check, take-receipt, rules)
 
-pub take-answer-spec : {M : Type 1} → statement M
-take-answer-spec =
+pub take_answer_spec : {M : Type 1} → statement M
+take_answer_spec =
     tie.close
     (tie.spec
     (λ c κs. search laws)

@@ -29,8 +29,8 @@ returns-3 c =
 
 ruleset laws = (at-unread, at-frozen, rules)
 
-pub take-at-spec : {M : Type 1} → statement M
-take-at-spec =
+pub take_at_spec : {M : Type 1} → statement M
+take_at_spec =
     tie.close
     (tie.spec
     (λ c κs. search laws)

@@ -5,8 +5,8 @@ use Rattle.answering.proofs.take_check.Tie as tie
 
 ruleset laws = (check-read, check-unread, rules)
 
-pub take-check-spec : {M : Type 1} → statement M
-take-check-spec =
+pub take_check_spec : {M : Type 1} → statement M
+take_check_spec =
     tie.close
     (tie.spec
     (λ c κs. search laws)

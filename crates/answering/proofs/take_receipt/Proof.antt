@@ -6,8 +6,8 @@ use Rattle.answering.proofs.take_receipt.Tie as tie
 
 ruleset laws = (not-receipt, none_found, one_found, place-in-use, rules)
 
-pub take-receipt-spec : {M : Type 1} → statement M
-take-receipt-spec =
+pub take_receipt_spec : {M : Type 1} → statement M
+take_receipt_spec =
     tie.close
     (tie.spec
     (λ c κs. search laws)

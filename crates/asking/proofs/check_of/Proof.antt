@@ -5,9 +5,9 @@ use Rattle.asking.proofs.check_of.Tie as tie
 
 ruleset laws = (rules)
 
-pub check-of-spec : {M : Type 1} → statement M
+pub check_of_spec : {M : Type 1} → statement M
 unfolding check_of
-check-of-spec =
+check_of_spec =
     tie.close
     (tie.spec
     (λ c. search laws))

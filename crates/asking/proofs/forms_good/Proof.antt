@@ -5,8 +5,8 @@ use Rattle.asking.proofs.forms_good.Tie as tie
 
 ruleset laws = (forms-no, forms-yes, rules)
 
-pub forms-good-spec : {M : Type 1} → statement M
-forms-good-spec =
+pub forms_good_spec : {M : Type 1} → statement M
+forms_good_spec =
     tie.close
     (tie.spec
     (λ c κs. search laws)

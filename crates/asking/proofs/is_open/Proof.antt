@@ -5,8 +5,8 @@ use Rattle.asking.proofs.is_open.Tie as tie
 
 ruleset laws = (open_no, open_is, rules)
 
-pub is-open-spec : {M : Type 1} → statement M
-is-open-spec =
+pub is_open_spec : {M : Type 1} → statement M
+is_open_spec =
     tie.close
     (tie.spec
     (λ c κs. search laws)

@@ -6,9 +6,9 @@ use Rattle.asking.proofs.may_write.Tie as tie
 
 ruleset laws = (may_at, rules)
 
-pub may-write-spec : {M : Type 1} → statement M
+pub may_write_spec : {M : Type 1} → statement M
 unfolding may_write
-may-write-spec =
+may_write_spec =
     tie.close
     (tie.spec
     (λ c. search laws)

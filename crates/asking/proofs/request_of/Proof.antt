@@ -5,9 +5,9 @@ use Rattle.asking.proofs.request_of.Tie as tie
 
 ruleset laws = (rules)
 
-pub request-of-spec : {M : Type 1} → statement M
+pub request_of_spec : {M : Type 1} → statement M
 unfolding request_of
-request-of-spec =
+request_of_spec =
     tie.close
     (tie.spec
     (λ c. search laws))

@@ -6,9 +6,9 @@ use Rattle.asking.proofs.written_entry.Tie as tie
 
 ruleset laws = (entry_at, entry-cancel, rules)
 
-pub written-entry-spec : {M : Type 1} → statement M
+pub written_entry_spec : {M : Type 1} → statement M
 unfolding written_entry
-written-entry-spec =
+written_entry_spec =
     tie.close
     (tie.spec
     (λ c. search laws)

@@ -4,8 +4,8 @@ use Rattle.calls.proofs.CallLaws.{call-request, call-registry, call-opening, cal
 use Rattle.calls.proofs.call_on.Statement.{statement}
 use Rattle.calls.proofs.call_on.Tie as tie
 
-pub call-on-spec : {M : Type 1} → statement M
-call-on-spec =
+pub call_on_spec : {M : Type 1} → statement M
+call_on_spec =
     tie.close
     (tie.spec
     (λ c. search rules)

@@ -50,8 +50,8 @@ returns c =
     let d = w.sweep.ensures in
     (day-ledger _ _ _ _ _ _ _ e.0 e.1.1.0 _ _ d.0 d.1.1, (day-rows _ _ _ _ _ _ _ e.0 e.1.1.0 _ _ d.0 d.1.1, (d.1.0.backed.whole, swept-chained _ _ _ _ _ _ _ d.1.1 _ _ e.1.1.1.1)))
 
-pub clear-day-spec : {M : Type 1} → statement M
-clear-day-spec =
+pub clear_day_spec : {M : Type 1} → statement M
+clear_day_spec =
     tie.close
     (tie.spec
     (λ c κs. search rules)

@@ -11,8 +11,8 @@ write-report-requires c κs =
     let h = s.requires.0.backed.whole in
     ((h.nums, h.numbers, h.dates, omega (arith, s.requires.1.0.few, s.requires.1.1)), (k.link-records.ensures, s.requires.1.0))
 
-pub report-day-spec : {M : Type 1} → statement M
-report-day-spec =
+pub report_day_spec : {M : Type 1} → statement M
+report_day_spec =
     tie.close
     (tie.spec
     (λ c κs. search rules)

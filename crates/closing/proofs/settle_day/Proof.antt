@@ -28,8 +28,8 @@ returns c =
     let s = w.before.before.before.before.before.before.before.before.before.before.before.before.before.before.before in
     day-settled _ _ _ _ _ _ _ s.requires.1.0 s.requires.1.1 _ _ w.clear-day.ensures.0 w.clear-day.ensures.1.0 _ r.write-report.ensures
 
-pub settle-day-spec : {M : Type 1} → statement M
-settle-day-spec =
+pub settle_day_spec : {M : Type 1} → statement M
+settle_day_spec =
     tie.close
     (tie.spec
     (λ c κs. search rules)

@@ -11,8 +11,8 @@ decreases-loop s space₀ nums₀ numbers₀ dates₀ w₀ at₀ t10 space nums 
 
 ruleset laws = (line-falls, rules)
 
-pub lines-spec : {M : Type 1} → statement M
-lines-spec =
+pub lines_spec : {M : Type 1} → statement M
+lines_spec =
     tie.close
     (tie.spec
     invariant-loop

@@ -5,8 +5,8 @@ use Rattle.gathering.proofs.asks.Tie as tie
 
 ruleset laws = (asks-other, asks-after, rules)
 
-pub asks-spec : {M : Type 1} → statement M
-asks-spec =
+pub asks_spec : {M : Type 1} → statement M
+asks_spec =
     tie.close
     (tie.spec
     (λ c. search laws)

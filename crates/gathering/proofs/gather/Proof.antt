@@ -18,8 +18,8 @@ decreases-loop bytes₀ input at len₀ spaces₀ run₀ i₀ bytes len spaces r
 
 ruleset laws = (gather-out, gather-end, gather-keep, gather-pass, rules)
 
-pub gather-spec : {M : Type 1} → statement M
-gather-spec =
+pub gather_spec : {M : Type 1} → statement M
+gather_spec =
     tie.close
     (tie.spec
     invariant-loop

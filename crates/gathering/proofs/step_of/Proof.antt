@@ -5,8 +5,8 @@ use Rattle.gathering.proofs.step_of.Tie as tie
 
 ruleset laws = (step-full, step-param, step-over, step-space, step-fifth, step-byte, step-long, rules)
 
-pub step-of-spec : {M : Type 1} → statement M
-step-of-spec =
+pub step_of_spec : {M : Type 1} → statement M
+step_of_spec =
     tie.close
     (tie.spec
     (λ c. search laws)

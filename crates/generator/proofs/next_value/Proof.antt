@@ -9,5 +9,5 @@ use Rattle.generator.proofs.GeneratorLaws.{value-is}
 
 ruleset laws = (value-is, rules)
 
-pub next-value-spec : {M : Type 1} → statement M
-next-value-spec = tie.close (tie.spec (λ c κs. search laws) (λ c κs. search laws) (λ c. search laws))
+pub next_value_spec : {M : Type 1} → statement M
+next_value_spec = tie.close (tie.spec (λ c κs. search laws) (λ c κs. search laws) (λ c. search laws))

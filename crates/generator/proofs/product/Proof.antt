@@ -7,5 +7,5 @@ use Rattle.generator.proofs.GeneratorLaws.{low_fits, first_fits, second_fits, su
 
 ruleset laws = (low_fits, first_fits, second_fits, sum_fits, product_is, rules)
 
-pub product-spec : {M : Type 1} → statement M
-product-spec = tie.close (tie.spec (λ c. search laws) (λ c. search laws) (λ c. search laws) (λ c. search laws) (λ c. search laws) (λ c. search laws) (λ c. search laws) (λ c. search laws))
+pub product_spec : {M : Type 1} → statement M
+product_spec = tie.close (tie.spec (λ c. search laws) (λ c. search laws) (λ c. search laws) (λ c. search laws) (λ c. search laws) (λ c. search laws) (λ c. search laws) (λ c. search laws))

@@ -7,5 +7,5 @@ use Rattle.generator.proofs.GeneratorLaws.{roll-is}
 
 ruleset laws = (roll-is, rules)
 
-pub roll-of-spec : {M : Type 1} → statement M
-roll-of-spec = tie.close (tie.spec (λ c. search laws))
+pub roll_of_spec : {M : Type 1} → statement M
+roll_of_spec = tie.close (tie.spec (λ c. search laws))

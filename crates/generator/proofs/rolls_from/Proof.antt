@@ -9,5 +9,5 @@ use Rattle.generator.proofs.GeneratorLaws.{rolls-are}
 
 ruleset laws = (rolls-are, rules)
 
-pub rolls-from-spec : {M : Type 1} → statement M
-rolls-from-spec = tie.close (tie.spec (λ c κs. search laws) (λ c κs. search laws) (λ c κs. search laws) (λ c κs. search laws) (λ c κs. search laws) (λ c κs. search laws) (λ c κs. search laws) (λ c κs. search laws) (λ c. search laws))
+pub rolls_from_spec : {M : Type 1} → statement M
+rolls_from_spec = tie.close (tie.spec (λ c κs. search laws) (λ c κs. search laws) (λ c κs. search laws) (λ c κs. search laws) (λ c κs. search laws) (λ c κs. search laws) (λ c κs. search laws) (λ c κs. search laws) (λ c. search laws))

@@ -3,6 +3,6 @@ use Rattle.index.specs.Index.{slot_of}
 use Rattle.index.proofs.slot.Statement.{statement}
 use Rattle.index.proofs.slot.Tie as tie
 
-pub slot-spec : {M : Type 1} → statement M
+pub slot_spec : {M : Type 1} → statement M
 unfolding slot_of
-slot-spec = tie.close (tie.spec (λ c. search rules) (λ c. search rules) (λ c. search rules))
+slot_spec = tie.close (tie.spec (λ c. search rules) (λ c. search rules) (λ c. search rules))

@@ -17,8 +17,8 @@ decreases-loop line ended₀ i₀ ended i = length line - i
 
 ruleset laws = (count-step, count-done, count_low, count_fits, zero-add, rules)
 
-pub count-fields-spec : {M : Type 1} → statement M
-count-fields-spec =
+pub count_fields_spec : {M : Type 1} → statement M
+count_fields_spec =
     tie.close
     (tie.spec
     invariant-loop

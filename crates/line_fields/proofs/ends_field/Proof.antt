@@ -5,8 +5,8 @@ use Rattle.line_fields.proofs.ends_field.Tie as tie
 
 ruleset laws = (share-is, share-not, rules)
 
-pub ends-field-spec : {M : Type 1} → statement M
-ends-field-spec =
+pub ends_field_spec : {M : Type 1} → statement M
+ends_field_spec =
     tie.close
     (tie.spec
     (λ c. search laws)

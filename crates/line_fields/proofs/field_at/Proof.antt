@@ -16,8 +16,8 @@ decreases-loop line i at₀ left₀ at left = left
 
 ruleset laws = (field_past, field_step, field-done, step-size, step_fits, step-fits-at, rules)
 
-pub field-at-spec : {M : Type 1} → statement M
-field-at-spec =
+pub field_at_spec : {M : Type 1} → statement M
+field_at_spec =
     tie.close
     (tie.spec
     invariant-loop

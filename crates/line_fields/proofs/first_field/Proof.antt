@@ -5,8 +5,8 @@ use Rattle.line_fields.proofs.first_field.Tie as tie
 
 ruleset laws = (first-is, rules)
 
-pub first-field-spec : {M : Type 1} → statement M
-first-field-spec =
+pub first_field_spec : {M : Type 1} → statement M
+first_field_spec =
     tie.close
     (tie.spec
     (λ c κs. search laws)

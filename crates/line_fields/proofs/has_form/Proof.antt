@@ -5,8 +5,8 @@ use Rattle.line_fields.proofs.has_form.Tie as tie
 
 ruleset laws = (form-other, form-exact, rules)
 
-pub has-form-spec : {M : Type 1} → statement M
-has-form-spec =
+pub has_form_spec : {M : Type 1} → statement M
+has_form_spec =
     tie.close
     (tie.spec
     (λ c κs. search laws)

@@ -5,8 +5,8 @@ use Rattle.line_fields.proofs.has_least.Tie as tie
 
 ruleset laws = (form-other, form-least, rules)
 
-pub has-least-spec : {M : Type 1} → statement M
-has-least-spec =
+pub has_least_spec : {M : Type 1} → statement M
+has_least_spec =
     tie.close
     (tie.spec
     (λ c κs. search laws)

@@ -5,8 +5,8 @@ use Rattle.line_fields.proofs.has_letter.Tie as tie
 
 ruleset laws = (letter-is, rules)
 
-pub has-letter-spec : {M : Type 1} → statement M
-has-letter-spec =
+pub has_letter_spec : {M : Type 1} → statement M
+has_letter_spec =
     tie.close
     (tie.spec
     (λ c κs. search laws)

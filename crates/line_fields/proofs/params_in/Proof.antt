@@ -5,8 +5,8 @@ use Rattle.line_fields.proofs.params_in.Tie as tie
 
 ruleset laws = (params_are, rules)
 
-pub params-in-spec : {M : Type 1} → statement M
-params-in-spec =
+pub params_in_spec : {M : Type 1} → statement M
+params_in_spec =
     tie.close
     (tie.spec
     (λ c κs. search laws)

@@ -5,8 +5,8 @@ use Rattle.listing.proofs.is_listed.Tie as tie
 
 ruleset laws = (listed-other-day, listed-uncancelled, rules)
 
-pub is-listed-spec : {M : Type 1} → statement M
-is-listed-spec =
+pub is_listed_spec : {M : Type 1} → statement M
+is_listed_spec =
     tie.close
     (tie.spec
     (λ c κs. search laws)

@@ -25,8 +25,8 @@ decreases-loop nums numbers dates day out₀ used at₀ i₀ out at i = used - i
 
 ruleset laws = (listed-date, listed-line, lines_start, skip-room, skip-cursor, skip-written, lines-cursor, lines-written, rules)
 
-pub write-lines-spec : {M : Type 1} → statement M
-write-lines-spec =
+pub write_lines_spec : {M : Type 1} → statement M
+write_lines_spec =
     tie.close
     (tie.spec
     invariant-loop

@@ -6,8 +6,8 @@ use Rattle.listing.proofs.write_registry.Tie as tie
 
 ruleset laws = (registry-not-book, registry-no-room, registry-no-date, registry-later, registry-made, good-is, ready-is, rules)
 
-pub write-registry-spec : {M : Type 1} → statement M
-write-registry-spec =
+pub write_registry_spec : {M : Type 1} → statement M
+write_registry_spec =
     tie.close
     (tie.spec
     (λ c κs. search laws)

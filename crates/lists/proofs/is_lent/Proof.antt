@@ -3,8 +3,8 @@ use Rattle.lists.proofs.LentLaws.{lent_none, lent-many, lent-second, lent-third,
 use Rattle.lists.proofs.is_lent.Statement.{statement}
 use Rattle.lists.proofs.is_lent.Tie as tie
 
-pub is-lent-spec : {M : Type 1} → statement M
-is-lent-spec =
+pub is_lent_spec : {M : Type 1} → statement M
+is_lent_spec =
     tie.close
     (tie.spec
     (λ c. (search lent_none, no-claim))

@@ -14,8 +14,8 @@ decreases-loop names keys o out₀ date value₀ left₀ t9 t10 out value left =
 
 ruleset laws = (left_less, steps-few, rules)
 
-pub print-steps-spec : {M : Type 1} → statement M
-print-steps-spec =
+pub print_steps_spec : {M : Type 1} → statement M
+print_steps_spec =
     tie.close
     (tie.spec
     invariant-loop

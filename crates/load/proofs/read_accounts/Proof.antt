@@ -14,8 +14,8 @@ decreases-loop text names₀ keys₀ count₀ at₀ names keys count at = length
 
 ruleset laws = (line-falls, rules)
 
-pub read-accounts-spec : {M : Type 1} → statement M
-read-accounts-spec =
+pub read_accounts_spec : {M : Type 1} → statement M
+read_accounts_spec =
     tie.close
     (tie.spec
     invariant-loop

@@ -14,8 +14,8 @@ decreases-loop s space₀ at₀ t5 space at = length s + 1 - at
 
 ruleset laws = (line-falls, rules)
 
-pub answer-lines-spec : {M : Type 1} → statement M
-answer-lines-spec =
+pub answer_lines_spec : {M : Type 1} → statement M
+answer_lines_spec =
     tie.close
     (tie.spec
     invariant-loop

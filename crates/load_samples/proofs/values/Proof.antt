@@ -11,8 +11,8 @@ decreases-loop start v₀ i₀ t4 v i = 10 - i
 
 ruleset laws = (rules)
 
-pub values-spec : {M : Type 1} → statement M
-values-spec =
+pub values_spec : {M : Type 1} → statement M
+values_spec =
     tie.close
     (tie.spec
     invariant-loop

@@ -10,8 +10,8 @@ returns c =
     let u = h.before.before.before.before in
     draw-packed _ _ _ _ _ _ _ _ _ _ _ u.unpack.ensures h.head_of.ensures c.pack.ensures _ r.draw-lent.ensures
 
-pub draw-funds-spec : {M : Type 1} → statement M
-draw-funds-spec =
+pub draw_funds_spec : {M : Type 1} → statement M
+draw_funds_spec =
     tie.close
     (tie.spec
     (λ c κs. search rules)

@@ -41,8 +41,8 @@ returns-3 c =
     (draw-named _ _ _ _ _ k.before.is-named.ensures k.if2.false u.look_up.result.at (held_place _ _ _ u.look_up.ensures) _
     (c.draw-on.ensures _ _ (held-balance _ s _ _ u.look_up.ensures w)))
 
-pub draw-lent-spec : {M : Type 1} → statement M
-draw-lent-spec =
+pub draw_lent_spec : {M : Type 1} → statement M
+draw_lent_spec =
     tie.close
     (tie.spec
     (λ c κs. search rules)

@@ -55,8 +55,8 @@ returns-4 c names keys eb =
     draw-done _ _ _ _ _ f.f.given.1 _ e.before.is-amount.ensures e.if1.false b eb _ (below-is b _ _ l.is-less.ensures (near-back b s.requires.1)) k.if2.false
     _ (rest_back b m.minus.result s.args.kopecks s.requires.1 m.minus.ensures.1 m.minus.ensures.0) _ (p.put-balance.ensures s.args.head names keys) (c.keep4.ensures _)
 
-pub draw-on-spec : {M : Type 1} → statement M
-draw-on-spec =
+pub draw_on_spec : {M : Type 1} → statement M
+draw_on_spec =
     tie.close
     (tie.spec
     (λ c. search rules)

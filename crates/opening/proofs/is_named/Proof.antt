@@ -5,8 +5,8 @@ use Rattle.opening.proofs.is_named.Tie as tie
 
 ruleset laws = (named-not, named-kind, rules)
 
-pub is-named-spec : {M : Type 1} → statement M
-is-named-spec =
+pub is_named_spec : {M : Type 1} → statement M
+is_named_spec =
     tie.close
     (tie.spec
     (λ c κs. search laws)

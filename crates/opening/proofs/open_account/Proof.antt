@@ -10,8 +10,8 @@ returns c =
     let u = h.before.before.before.before in
     open-packed _ _ _ _ _ _ _ _ _ _ _ u.unpack.ensures h.head_of.ensures c.pack.ensures r.open_lent.ensures
 
-pub open-account-spec : {M : Type 1} → statement M
-open-account-spec =
+pub open_account_spec : {M : Type 1} → statement M
+open_account_spec =
     tie.close
     (tie.spec
     (λ c κs. search rules)

@@ -19,8 +19,8 @@ returns-2 c =
     let e = c.before.before.before.before in
     open-called _ _ _ _ _ _ e.before.table-good.ensures.0 e.if1.false c.open-to.ensures
 
-pub open-lent-spec : {M : Type 1} → statement M
-open-lent-spec =
+pub open_lent_spec : {M : Type 1} → statement M
+open_lent_spec =
     tie.close
     (tie.spec
     (λ c κs. search rules)

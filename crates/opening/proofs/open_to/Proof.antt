@@ -31,8 +31,8 @@ returns-4 c =
     let s = e.before.before in
     open-new _ _ _ _ _ e.before.is-named.ensures e.if1.false _ f.find-account.ensures (search rules) m.if2.false _ (p.put-account.ensures s.args.head refl) (c.keep4.ensures _)
 
-pub open-to-spec : {M : Type 1} → statement M
-open-to-spec =
+pub open_to_spec : {M : Type 1} → statement M
+open_to_spec =
     tie.close
     (tie.spec
     (λ c κs. search rules)

@@ -267,9 +267,9 @@ module _ {M : Type 1} {𝓤 : Ura M} (𝓛 : Logic 𝓤) (mem : Memory → SProp
   call-records-meets = walk_Meets 𝓛 f.ended stayed (Goes-gave_slice 𝓛 3 0 tt (plain (λ _. T.the_row)), (Goes-none 𝓛 3 (λ _. G.the_row) yes (λ κs x f. refl), (Goes-none 𝓛 3 (λ _. Y.the_row) yes (λ κs x f. refl), (Goes-none_slice 𝓛 3 (1 ∷ []) tt (plain (λ _. u8)) yes, (Goes-gave_slice 𝓛 3 2 tt (plain (λ _. u8)), tt)))))
       (f.clauses 𝓛 mem run) (WpFn 𝓤 H 𝓣.C 𝓣.Λ code.function) (WpFn-mono 𝓤 H 𝓛.laws 𝓣 code.function) call-records-walks
 
-pub call-records-spec : {M : Type 1} → stated.statement M
+pub call_records_spec : {M : Type 1} → stated.statement M
 unfolding code.routine tables_of
-call-records-spec 𝓤 𝓛 𝓜 𝓡 =
+call_records_spec 𝓤 𝓛 𝓜 𝓡 =
     entered 𝓤 𝓛.H (triple_of 𝓛 f.signature (f.spec 𝓛 𝓜.mem 𝓡.run))
     (tables 𝓤 𝓛.H 𝓜 𝓡 code.env).C (tables 𝓤 𝓛.H 𝓜 𝓡 code.env).Λ #records·call-records code.function (code.unfolded 𝓤 𝓛.H 𝓜 𝓡)
     (call-records-meets 𝓛 𝓜.mem 𝓡.run (tables_of 𝓤 𝓛.H 𝓜 (tables 𝓤 𝓛.H 𝓜 𝓡 code.env))

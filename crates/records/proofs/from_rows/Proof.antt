@@ -215,9 +215,9 @@ module _ {M : Type 1} {𝓤 : Ura M} (𝓛 : Logic 𝓤) (mem : Memory → SProp
   from-rows-meets = walk_Meets 𝓛 f.ended stayed (Goes-slice 𝓛 4 0 tt (plain (λ _. T.the_row)), (Goes-none_ref 𝓛 4 (1 ∷ []) tt (plain (λ _. NumsR)) yes, (Goes-none_ref 𝓛 4 (2 ∷ []) tt (plain (λ _. NumbersR)) yes, (Goes-none_ref 𝓛 4 (3 ∷ []) tt (plain (λ _. DatesR)) yes, tt))))
       (f.clauses 𝓛 mem run) (WpFn 𝓤 H 𝓣.C 𝓣.Λ code.function) (WpFn-mono 𝓤 H 𝓛.laws 𝓣 code.function) from-rows-walks
 
-pub from-rows-spec : {M : Type 1} → stated.statement M
+pub from_rows_spec : {M : Type 1} → stated.statement M
 unfolding code.routine tables_of
-from-rows-spec 𝓤 𝓛 𝓜 𝓡 =
+from_rows_spec 𝓤 𝓛 𝓜 𝓡 =
     entered 𝓤 𝓛.H (triple_of 𝓛 f.signature (f.spec 𝓛 𝓜.mem 𝓡.run))
     (tables 𝓤 𝓛.H 𝓜 𝓡 code.env).C (tables 𝓤 𝓛.H 𝓜 𝓡 code.env).Λ #records·from-rows code.function (code.unfolded 𝓤 𝓛.H 𝓜 𝓡)
     (from-rows-meets 𝓛 𝓜.mem 𝓡.run (tables_of 𝓤 𝓛.H 𝓜 (tables 𝓤 𝓛.H 𝓜 𝓡 code.env))

@@ -217,9 +217,9 @@ module _ {M : Type 1} {𝓤 : Ura M} (𝓛 : Logic 𝓤) (mem : Memory → SProp
   to-rows-meets = walk_Meets 𝓛 f.ended stayed (Goes-none_slice 𝓛 4 (0 ∷ []) tt (plain (λ _. T.the_row)) yes, (Goes-ref 𝓛 4 1 tt (plain (λ _. NumsR)), (Goes-ref 𝓛 4 2 tt (plain (λ _. NumbersR)), (Goes-ref 𝓛 4 3 tt (plain (λ _. DatesR)), tt))))
       (f.clauses 𝓛 mem run) (WpFn 𝓤 H 𝓣.C 𝓣.Λ code.function) (WpFn-mono 𝓤 H 𝓛.laws 𝓣 code.function) to-rows-walks
 
-pub to-rows-spec : {M : Type 1} → stated.statement M
+pub to_rows_spec : {M : Type 1} → stated.statement M
 unfolding code.routine tables_of
-to-rows-spec 𝓤 𝓛 𝓜 𝓡 =
+to_rows_spec 𝓤 𝓛 𝓜 𝓡 =
     entered 𝓤 𝓛.H (triple_of 𝓛 f.signature (f.spec 𝓛 𝓜.mem 𝓡.run))
     (tables 𝓤 𝓛.H 𝓜 𝓡 code.env).C (tables 𝓤 𝓛.H 𝓜 𝓡 code.env).Λ #records·to-rows code.function (code.unfolded 𝓤 𝓛.H 𝓜 𝓡)
     (to-rows-meets 𝓛 𝓜.mem 𝓡.run (tables_of 𝓤 𝓛.H 𝓜 (tables 𝓤 𝓛.H 𝓜 𝓡 code.env))

@@ -29,8 +29,8 @@ loop-again c =
     let v = w.before.before.before.before.before.before.before.before.before.before.before.loop.invariant in
     (w.feed-some.auto.0 ∙ v.0, w.feed-some.auto.1.0 ∙ v.1, w.feed-some.auto.1.1.0 ∙ v.2, w.feed-some.auto.1.1.1.1.1.1.1.0 ∙ v.3, w.feed-some.auto.1.1.1.1.1.1.1.1.0 ∙ v.4, w.feed-some.ensures)
 
-pub feed-all-spec : {M : Type 1} → statement M
-feed-all-spec =
+pub feed_all_spec : {M : Type 1} → statement M
+feed_all_spec =
     tie.close
     (tie.spec
     invariant-loop

@@ -57,8 +57,8 @@ loop-again c =
       v.6,
     )
 
-pub feed-read-spec : {M : Type 1} → statement M
-feed-read-spec =
+pub feed_read_spec : {M : Type 1} → statement M
+feed_read_spec =
     tie.close
     (tie.spec
     invariant-loop

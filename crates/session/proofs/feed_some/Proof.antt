@@ -2,8 +2,8 @@ use borrow.Author.Rules.{rules}
 use Rattle.session.proofs.feed_some.Statement.{statement}
 use Rattle.session.proofs.feed_some.Tie as tie
 
-pub feed-some-spec : {M : Type 1} → statement M
-feed-some-spec =
+pub feed_some_spec : {M : Type 1} → statement M
+feed_some_spec =
     tie.close
     (tie.spec
     (λ c κs. search rules)

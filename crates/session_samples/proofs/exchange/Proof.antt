@@ -11,8 +11,8 @@ invariant-loop s a b dst₀ i₀ dst i = (i ≤ length s) × (length dst ≡ len
 abbrev decreases-loop : tie.decreases-loop
 decreases-loop s a b dst₀ i₀ dst i = length s - i
 
-pub exchange-spec : {M : Type 1} → statement M
-exchange-spec =
+pub exchange_spec : {M : Type 1} → statement M
+exchange_spec =
     tie.close
     (tie.spec
     invariant-loop

@@ -12,8 +12,8 @@ invariant-loop s input₀ output₀ shown₀ at₀ input output shown at =
 abbrev decreases-loop : tie.decreases-loop
 decreases-loop s input₀ output₀ shown₀ at₀ input output shown at = length s + 1 - at
 
-pub lines-spec : {M : Type 1} → statement M
-lines-spec =
+pub lines_spec : {M : Type 1} → statement M
+lines_spec =
     tie.close
     (tie.spec
     invariant-loop

@@ -5,8 +5,8 @@ use Rattle.writing.proofs.write_check.Tie as tie
 
 ruleset laws = (check-not-book, check-no-room, check-malformed, check-written, rules)
 
-pub write-check-spec : {M : Type 1} → statement M
-write-check-spec =
+pub write_check_spec : {M : Type 1} → statement M
+write_check_spec =
     tie.close
     (tie.spec
     (λ c κs. search laws)

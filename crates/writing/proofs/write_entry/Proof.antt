@@ -29,8 +29,8 @@ returns-2 c =
 
 ruleset laws = (at-closed, rules)
 
-pub write-entry-spec : {M : Type 1} → statement M
-write-entry-spec =
+pub write_entry_spec : {M : Type 1} → statement M
+write_entry_spec =
     tie.close
     (tie.spec
     (λ c κs. search laws)

@@ -16,8 +16,8 @@ write-entry-requires c κs =
 
 ruleset laws = (not-book, no_room, no-forms, no-entry, one-entry, rules)
 
-pub write-for-spec : {M : Type 1} → statement M
-write-for-spec =
+pub write_for_spec : {M : Type 1} → statement M
+write_for_spec =
     tie.close
     (tie.spec
     (λ c κs. search laws)

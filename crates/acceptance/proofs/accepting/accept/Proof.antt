@@ -16,8 +16,8 @@ store-entry-requires c κs =
 
 ruleset laws = (accept-refused, accept-made, store-more, rules)
 
-pub accept-spec : {M : Type 1} → statement M
-accept-spec =
+pub accept_spec : {M : Type 1} → statement M
+accept_spec =
     tie.close
     (tie.spec
     (λ c κs. search laws)

@@ -5,8 +5,8 @@ use borrow.Author.Rules.{rules}
 use Rattle.acceptance.proofs.accepting.accept_fault.Statement.{statement}
 use Rattle.acceptance.proofs.accepting.accept_fault.Tie as tie
 
-pub accept-fault-spec : {M : Type 1} → statement M
-accept-fault-spec =
+pub accept_fault_spec : {M : Type 1} → statement M
+accept_fault_spec =
     tie.close
     (tie.spec
     (λ c κs. search rules)

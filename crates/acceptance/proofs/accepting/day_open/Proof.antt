@@ -5,8 +5,8 @@ use Rattle.acceptance.proofs.accepting.day_open.Tie as tie
 
 ruleset laws = (open_none, open-few, open-day, rules)
 
-pub day-open-spec : {M : Type 1} → statement M
-day-open-spec =
+pub day_open_spec : {M : Type 1} → statement M
+day_open_spec =
     tie.close
     (tie.spec
     (λ c κs. search laws)

@@ -6,8 +6,8 @@ use Rattle.acceptance.proofs.accepting.has_place.Tie as tie
 
 ruleset laws = (good-dated, place-full, place-closed, place_rest, receipt-fits, rules)
 
-pub has-place-spec : {M : Type 1} → statement M
-has-place-spec =
+pub has_place_spec : {M : Type 1} → statement M
+has_place_spec =
     tie.close
     (tie.spec
     (λ c. search laws)

@@ -5,8 +5,8 @@ use Rattle.acceptance.proofs.accepting.made_entry.Tie as tie
 
 ruleset laws = (made-is, made-fits, rules)
 
-pub made-entry-spec : {M : Type 1} → statement M
-made-entry-spec =
+pub made_entry_spec : {M : Type 1} → statement M
+made_entry_spec =
     tie.close
     (tie.spec
     (λ c. search laws)

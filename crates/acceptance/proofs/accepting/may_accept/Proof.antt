@@ -5,8 +5,8 @@ use Rattle.acceptance.proofs.accepting.may_accept.Tie as tie
 
 ruleset laws = (may-number, may-kind, may-amount, may-date, may-rest, rules)
 
-pub may-accept-spec : {M : Type 1} → statement M
-may-accept-spec =
+pub may_accept_spec : {M : Type 1} → statement M
+may_accept_spec =
     tie.close
     (tie.spec
     (λ c κs. search laws)

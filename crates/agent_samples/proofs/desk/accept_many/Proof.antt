@@ -11,8 +11,8 @@ invariant-loop s nums₀ numbers₀ dates₀ n rest next₀ i₀ t10 nums number
 abbrev decreases-loop : tie.decreases-loop
 decreases-loop s nums₀ numbers₀ dates₀ n rest next₀ i₀ t10 nums numbers dates next i = n - i
 
-pub accept-many-spec : {M : Type 1} → statement M
-accept-many-spec =
+pub accept_many_spec : {M : Type 1} → statement M
+accept_many_spec =
     tie.close
     (tie.spec
     invariant-loop

@@ -4,8 +4,8 @@ use borrow.Author.Rules.{rules}
 use Rattle.agent_samples.proofs.ends.exchange.Statement.{statement}
 use Rattle.agent_samples.proofs.ends.exchange.Tie as tie
 
-pub exchange-spec : {M : Type 1} → statement M
-exchange-spec =
+pub exchange_spec : {M : Type 1} → statement M
+exchange_spec =
     tie.close
     (tie.spec
     (λ c κs. search rules)

@@ -2,8 +2,8 @@ use borrow.Author.Rules.{rules}
 use Rattle.agent_samples.proofs.ends.send_on.Statement.{statement}
 use Rattle.agent_samples.proofs.ends.send_on.Tie as tie
 
-pub send-on-spec : {M : Type 1} → statement M
-send-on-spec =
+pub send_on_spec : {M : Type 1} → statement M
+send_on_spec =
     tie.close
     (tie.spec
     (λ c. search rules)

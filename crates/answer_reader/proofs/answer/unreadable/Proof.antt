@@ -5,8 +5,8 @@ use Rattle.answer_reader.proofs.answer.unreadable.Tie as tie
 
 ruleset laws = (none_read, rules)
 
-pub unreadable-spec : {M : Type 1} → statement M
-unreadable-spec =
+pub unreadable_spec : {M : Type 1} → statement M
+unreadable_spec =
     tie.close
     (tie.spec
     (λ c κs. search laws)

@@ -5,8 +5,8 @@ use Rattle.answer_reader.proofs.parts.held_date.Tie as tie
 
 ruleset laws = (date-good, date-bad, rules)
 
-pub held-date-spec : {M : Type 1} → statement M
-held-date-spec =
+pub held_date_spec : {M : Type 1} → statement M
+held_date_spec =
     tie.close
     (tie.spec
     (λ c κs. search laws)

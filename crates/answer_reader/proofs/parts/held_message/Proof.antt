@@ -5,8 +5,8 @@ use Rattle.answer_reader.proofs.parts.held_message.Tie as tie
 
 ruleset laws = (message-good, message-long, rules)
 
-pub held-message-spec : {M : Type 1} → statement M
-held-message-spec =
+pub held_message_spec : {M : Type 1} → statement M
+held_message_spec =
     tie.close
     (tie.spec
     (λ c κs. search laws)

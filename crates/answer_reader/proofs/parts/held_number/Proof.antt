@@ -5,8 +5,8 @@ use Rattle.answer_reader.proofs.parts.held_number.Tie as tie
 
 ruleset laws = (number-good, number-bad, rules)
 
-pub held-number-spec : {M : Type 1} → statement M
-held-number-spec =
+pub held_number_spec : {M : Type 1} → statement M
+held_number_spec =
     tie.close
     (tie.spec
     (λ c. search laws)

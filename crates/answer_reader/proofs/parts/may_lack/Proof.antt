@@ -6,9 +6,9 @@ use Rattle.answer_reader.proofs.parts.may_lack.Tie as tie
 
 ruleset laws = (lack-as, rules)
 
-pub may-lack-spec : {M : Type 1} → statement M
+pub may_lack_spec : {M : Type 1} → statement M
 unfolding may_lack
-may-lack-spec =
+may_lack_spec =
     tie.close
     (tie.spec
     (λ c. search laws)

@@ -7,9 +7,9 @@ use Rattle.answer_reader.proofs.parts.may_lack_date.Tie as tie
 
 ruleset laws = (date-as, or-here, or_later, rules)
 
-pub may-lack-date-spec : {M : Type 1} → statement M
+pub may_lack_date_spec : {M : Type 1} → statement M
 unfolding may_lack_date
-may-lack-date-spec =
+may_lack_date_spec =
     tie.close
     (tie.spec
     (λ c. search laws)

@@ -5,8 +5,8 @@ use Rattle.answer_reader.proofs.read.open_at.Tie as tie
 
 ruleset laws = (open_none, open-both, rules)
 
-pub open-at-spec : {M : Type 1} → statement M
-open-at-spec =
+pub open_at_spec : {M : Type 1} → statement M
+open_at_spec =
     tie.close
     (tie.spec
     (λ c. search laws)

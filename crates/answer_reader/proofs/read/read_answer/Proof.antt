@@ -5,8 +5,8 @@ use Rattle.answer_reader.proofs.read.read_answer.Tie as tie
 
 ruleset laws = (no_answer, date-none, date-short, date-there, rules)
 
-pub read-answer-spec : {M : Type 1} → statement M
-read-answer-spec =
+pub read_answer_spec : {M : Type 1} → statement M
+read_answer_spec =
     tie.close
     (tie.spec
     (λ c κs. search laws)

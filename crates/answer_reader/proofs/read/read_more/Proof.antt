@@ -5,8 +5,8 @@ use Rattle.answer_reader.proofs.read.read_more.Tie as tie
 
 ruleset laws = (more-barred, no-authcode, all_more, rules)
 
-pub read-more-spec : {M : Type 1} → statement M
-read-more-spec =
+pub read_more_spec : {M : Type 1} → statement M
+read_more_spec =
     tie.close
     (tie.spec
     (λ c κs. search laws)

@@ -5,8 +5,8 @@ use Rattle.answer_reader.proofs.read.read_parts.Tie as tie
 
 ruleset laws = (no_code, no_more, all-parts, rules)
 
-pub read-parts-spec : {M : Type 1} → statement M
-read-parts-spec =
+pub read_parts_spec : {M : Type 1} → statement M
+read_parts_spec =
     tie.close
     (tie.spec
     (λ c κs. search laws)

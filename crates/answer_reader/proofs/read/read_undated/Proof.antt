@@ -5,8 +5,8 @@ use Rattle.answer_reader.proofs.read.read_undated.Tie as tie
 
 ruleset laws = (undated-none, undated-made, rules)
 
-pub read-undated-spec : {M : Type 1} → statement M
-read-undated-spec =
+pub read_undated_spec : {M : Type 1} → statement M
+read_undated_spec =
     tie.close
     (tie.spec
     (λ c κs. search laws)

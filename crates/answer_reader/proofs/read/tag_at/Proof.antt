@@ -6,8 +6,8 @@ use Rattle.answer_reader.proofs.read.tag_at.Tie as tie
 
 ruleset laws = (tag-missing, tag-passed, tag_fits, rules)
 
-pub tag-at-spec : {M : Type 1} → statement M
-tag-at-spec =
+pub tag_at_spec : {M : Type 1} → statement M
+tag_at_spec =
     tie.close
     (tie.spec
     (λ c κs. search laws)

@@ -5,8 +5,8 @@ use Rattle.answer_reader.proofs.read.take_part.Tie as tie
 
 ruleset laws = (take-absent, take-broken, take-held, absent-unheld, none-unheld, filled-unheld, rules)
 
-pub take-part-spec : {M : Type 1} → statement M
-take-part-spec =
+pub take_part_spec : {M : Type 1} → statement M
+take_part_spec =
     tie.close
     (tie.spec
     (λ c. search laws)

@@ -5,8 +5,8 @@ use Rattle.answer_reader.proofs.read.whole_parts.Tie as tie
 
 ruleset laws = (not-open, not-parts, not-closed, not-ended, answered, rules)
 
-pub whole-parts-spec : {M : Type 1} → statement M
-whole-parts-spec =
+pub whole_parts_spec : {M : Type 1} → statement M
+whole_parts_spec =
     tie.close
     (tie.spec
     (λ c κs. search laws)

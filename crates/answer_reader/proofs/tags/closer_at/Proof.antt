@@ -5,8 +5,8 @@ use Rattle.answer_reader.proofs.tags.closer_at.Tie as tie
 
 ruleset laws = (closer-as, rules)
 
-pub closer-at-spec : {M : Type 1} → statement M
-closer-at-spec =
+pub closer_at_spec : {M : Type 1} → statement M
+closer_at_spec =
     tie.close
     (tie.spec
     (λ c. search laws)

@@ -5,8 +5,8 @@ use Rattle.answer_reader.proofs.tags.element_at.Tie as tie
 
 ruleset laws = (opener-fits, size_fits, close-fits, found_none, found-broken, found-held, rules)
 
-pub element-at-spec : {M : Type 1} → statement M
-element-at-spec =
+pub element_at_spec : {M : Type 1} → statement M
+element_at_spec =
     tie.close
     (tie.spec
     (λ c κs. search laws)

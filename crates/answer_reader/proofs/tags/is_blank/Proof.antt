@@ -6,9 +6,9 @@ use Rattle.answer_reader.proofs.tags.is_blank.Tie as tie
 
 ruleset laws = (or-here, or_later, rules)
 
-pub is-blank-spec : {M : Type 1} → statement M
+pub is_blank_spec : {M : Type 1} → statement M
 unfolding is_blank
-is-blank-spec =
+is_blank_spec =
     tie.close
     (tie.spec
     (λ c. search laws)

@@ -5,8 +5,8 @@ use Rattle.answer_reader.proofs.tags.opener_at.Tie as tie
 
 ruleset laws = (opener-as, rules)
 
-pub opener-at-spec : {M : Type 1} → statement M
-opener-at-spec =
+pub opener_at_spec : {M : Type 1} → statement M
+opener_at_spec =
     tie.close
     (tie.spec
     (λ c. search laws)

@@ -5,8 +5,8 @@ use Rattle.answer_reader.proofs.tags.rest.Tie as tie
 
 ruleset laws = (rest-is, rest-none, rules)
 
-pub rest-spec : {M : Type 1} → statement M
-rest-spec =
+pub rest_spec : {M : Type 1} → statement M
+rest_spec =
     tie.close
     (tie.spec
     (λ c. search laws)

@@ -5,8 +5,8 @@ use Rattle.answer_reader.proofs.tags.size_at.Tie as tie
 
 ruleset laws = (size_is, size_none, rules)
 
-pub size-at-spec : {M : Type 1} → statement M
-size-at-spec =
+pub size_at_spec : {M : Type 1} → statement M
+size_at_spec =
     tie.close
     (tie.spec
     (λ c κs. search laws)

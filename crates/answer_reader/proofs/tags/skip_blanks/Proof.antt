@@ -15,8 +15,8 @@ decreases-loop s at i₀ i = length s - i
 
 ruleset laws = (skip-pass, skip_stop, skip-end, rules)
 
-pub skip-blanks-spec : {M : Type 1} → statement M
-skip-blanks-spec =
+pub skip_blanks_spec : {M : Type 1} → statement M
+skip_blanks_spec =
     tie.close
     (tie.spec
     invariant-loop

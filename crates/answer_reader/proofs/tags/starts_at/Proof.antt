@@ -5,8 +5,8 @@ use Rattle.answer_reader.proofs.tags.starts_at.Tie as tie
 
 ruleset laws = (starts-short, cut-size, starts_is, rules)
 
-pub starts-at-spec : {M : Type 1} → statement M
-starts-at-spec =
+pub starts_at_spec : {M : Type 1} → statement M
+starts_at_spec =
     tie.close
     (tie.spec
     (λ c κs. search laws)

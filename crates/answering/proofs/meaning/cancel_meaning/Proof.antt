@@ -6,9 +6,9 @@ use Rattle.answering.proofs.meaning.cancel_meaning.Tie as tie
 
 ruleset laws = (cancel-at, cancel-silent, rules)
 
-pub cancel-meaning-spec : {M : Type 1} → statement M
+pub cancel_meaning_spec : {M : Type 1} → statement M
 unfolding cancel_meaning
-cancel-meaning-spec =
+cancel_meaning_spec =
     tie.close
     (tie.spec
     (λ c. search laws)

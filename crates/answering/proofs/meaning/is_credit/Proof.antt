@@ -6,9 +6,9 @@ use Rattle.answering.proofs.meaning.is_credit.Tie as tie
 
 ruleset laws = (credits-at, rules)
 
-pub is-credit-spec : {M : Type 1} → statement M
+pub is_credit_spec : {M : Type 1} → statement M
 unfolding credits
-is-credit-spec =
+is_credit_spec =
     tie.close
     (tie.spec
     (λ c. search laws)

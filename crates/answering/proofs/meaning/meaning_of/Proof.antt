@@ -6,9 +6,9 @@ use Rattle.answering.proofs.meaning.meaning_of.Tie as tie
 
 ruleset laws = (meaning-at, rules)
 
-pub meaning-of-spec : {M : Type 1} → statement M
+pub meaning_of_spec : {M : Type 1} → statement M
 unfolding meaning
-meaning-of-spec =
+meaning_of_spec =
     tie.close
     (tie.spec
     (λ c. search laws)

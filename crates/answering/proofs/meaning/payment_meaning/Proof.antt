@@ -6,9 +6,9 @@ use Rattle.answering.proofs.meaning.payment_meaning.Tie as tie
 
 ruleset laws = (payment-at, payment-silent, rules)
 
-pub payment-meaning-spec : {M : Type 1} → statement M
+pub payment_meaning_spec : {M : Type 1} → statement M
 unfolding payment_meaning
-payment-meaning-spec =
+payment_meaning_spec =
     tie.close
     (tie.spec
     (λ c. search laws)

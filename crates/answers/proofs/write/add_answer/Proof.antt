@@ -5,8 +5,8 @@ use Rattle.answers.proofs.write.add_answer.Tie as tie
 
 ruleset laws = (answer-grown, rules)
 
-pub add-answer-spec : {M : Type 1} → statement M
-add-answer-spec =
+pub add_answer_spec : {M : Type 1} → statement M
+add_answer_spec =
     tie.close
     (tie.spec
     (λ c κs. search laws)

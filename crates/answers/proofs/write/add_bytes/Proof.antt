@@ -5,8 +5,8 @@ use Rattle.answers.proofs.write.add_bytes.Tie as tie
 
 ruleset laws = (grown-past, grown-put, rules)
 
-pub add-bytes-spec : {M : Type 1} → statement M
-add-bytes-spec =
+pub add_bytes_spec : {M : Type 1} → statement M
+add_bytes_spec =
     tie.close
     (tie.spec
     (λ c. search laws)

@@ -5,8 +5,8 @@ use Rattle.answers.proofs.write.add_code.Tie as tie
 
 ruleset laws = (code-grown, rules)
 
-pub add-code-spec : {M : Type 1} → statement M
-add-code-spec =
+pub add_code_spec : {M : Type 1} → statement M
+add_code_spec =
     tie.close
     (tie.spec
     (λ c. search laws)

@@ -6,9 +6,9 @@ use Rattle.answers.proofs.write.add_date.Tie as tie
 
 ruleset laws = (rules)
 
-pub add-date-spec : {M : Type 1} → statement M
+pub add_date_spec : {M : Type 1} → statement M
 unfolding date_text element
-add-date-spec =
+add_date_spec =
     tie.close
     (tie.spec
     (λ c. search laws)

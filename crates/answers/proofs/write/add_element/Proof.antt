@@ -5,8 +5,8 @@ use Rattle.answers.proofs.write.add_element.Tie as tie
 
 ruleset laws = (grown-none, grown-then, grown-if, grown-if-not, rules)
 
-pub add-element-spec : {M : Type 1} → statement M
-add-element-spec =
+pub add_element_spec : {M : Type 1} → statement M
+add_element_spec =
     tie.close
     (tie.spec
     (λ c κs. search laws)

@@ -6,9 +6,9 @@ use Rattle.answers.proofs.write.add_end.Tie as tie
 
 ruleset laws = (grown-then, rules)
 
-pub add-end-spec : {M : Type 1} → statement M
+pub add_end_spec : {M : Type 1} → statement M
 unfolding end_text
-add-end-spec =
+add_end_spec =
     tie.close
     (tie.spec
     (λ c κs. search laws)

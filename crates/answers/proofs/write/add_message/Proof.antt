@@ -7,9 +7,9 @@ use Rattle.answers.proofs.write.add_message.Tie as tie
 
 ruleset laws = (grown-message, rules)
 
-pub add-message-spec : {M : Type 1} → statement M
+pub add_message_spec : {M : Type 1} → statement M
 unfolding message_text element
-add-message-spec =
+add_message_spec =
     tie.close
     (tie.spec
     (λ c. search laws)

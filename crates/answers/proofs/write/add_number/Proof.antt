@@ -5,8 +5,8 @@ use Rattle.answers.proofs.write.add_number.Tie as tie
 
 ruleset laws = (grown-number, rules)
 
-pub add-number-spec : {M : Type 1} → statement M
-add-number-spec =
+pub add_number_spec : {M : Type 1} → statement M
+add_number_spec =
     tie.close
     (tie.spec
     (λ c. search laws)

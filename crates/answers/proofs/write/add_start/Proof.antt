@@ -7,9 +7,9 @@ use Rattle.answers.proofs.write.add_start.Tie as tie
 
 ruleset laws = (grown-then, rules)
 
-pub add-start-spec : {M : Type 1} → statement M
+pub add_start_spec : {M : Type 1} → statement M
 unfolding start_text element
-add-start-spec =
+add_start_spec =
     tie.close
     (tie.spec
     (λ c κs. search laws)

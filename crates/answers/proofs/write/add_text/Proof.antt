@@ -6,9 +6,9 @@ use Rattle.answers.proofs.write.add_text.Tie as tie
 
 ruleset laws = (grown-none, grown-code, grown-other, rules)
 
-pub add-text-spec : {M : Type 1} → statement M
+pub add_text_spec : {M : Type 1} → statement M
 unfolding message_of
-add-text-spec =
+add_text_spec =
     tie.close
     (tie.spec
     (λ c. search laws)

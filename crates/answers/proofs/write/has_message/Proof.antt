@@ -5,8 +5,8 @@ use Rattle.answers.proofs.write.has_message.Tie as tie
 
 ruleset laws = (message-in, message-under, message-over, rules)
 
-pub has-message-spec : {M : Type 1} → statement M
-has-message-spec =
+pub has_message_spec : {M : Type 1} → statement M
+has_message_spec =
     tie.close
     (tie.spec
     (λ c. search laws)

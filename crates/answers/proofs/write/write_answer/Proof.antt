@@ -5,8 +5,8 @@ use Rattle.answers.proofs.write.write_answer.Tie as tie
 
 ruleset laws = (answer-cursor, answer-written, rules)
 
-pub write-answer-spec : {M : Type 1} → statement M
-write-answer-spec =
+pub write_answer_spec : {M : Type 1} → statement M
+write_answer_spec =
     tie.close
     (tie.spec
     (λ c. search laws)

@@ -2,8 +2,8 @@ use borrow.Author.Rules.{rules}
 use Rattle.book.proofs.rows.load_entry.Statement.{statement}
 use Rattle.book.proofs.rows.load_entry.Tie as tie
 
-pub load-entry-spec : {M : Type 1} → statement M
-load-entry-spec =
+pub load_entry_spec : {M : Type 1} → statement M
+load_entry_spec =
     tie.close
     (tie.spec
     (λ c. search rules)

@@ -6,9 +6,9 @@ use Rattle.book.proofs.states.state_of.Tie as tie
 
 ruleset laws = (state-at, state-last, rules)
 
-pub state-of-spec : {M : Type 1} → statement M
+pub state_of_spec : {M : Type 1} → statement M
 unfolding state_of
-state-of-spec =
+state_of_spec =
     tie.close
     (tie.spec
     (λ c. search laws)

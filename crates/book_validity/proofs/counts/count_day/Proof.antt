@@ -16,8 +16,8 @@ decreases-loop nums numbers dates used day n₀ i₀ n i = used - i
 
 ruleset laws = (date-known, count_none, count-off, count-on, count_fits, count-end, rules)
 
-pub count-day-spec : {M : Type 1} → statement M
-count-day-spec =
+pub count_day_spec : {M : Type 1} → statement M
+count_day_spec =
     tie.close
     (tie.spec
     invariant-loop

@@ -5,8 +5,8 @@ use Rattle.book_validity.proofs.counts.day_slot.Tie as tie
 
 ruleset laws = (slot-year, slot-below, rules)
 
-pub day-slot-spec : {M : Type 1} → statement M
-day-slot-spec =
+pub day_slot_spec : {M : Type 1} → statement M
+day_slot_spec =
     tie.close
     (tie.spec
     (λ c. search laws)

@@ -16,8 +16,8 @@ decreases-loop nums numbers dates used counts₀ i₀ counts i = used - i
 
 ruleset laws = (few-days, good-day, date-known, counts-none, counts_step, counts-full, counts_end, rules)
 
-pub days-good-spec : {M : Type 1} → statement M
-days-good-spec =
+pub days_good_spec : {M : Type 1} → statement M
+days_good_spec =
     tie.close
     (tie.spec
     invariant-loop

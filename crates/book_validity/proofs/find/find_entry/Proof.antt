@@ -5,8 +5,8 @@ use Rattle.book_validity.proofs.find.find_entry.Tie as tie
 
 ruleset laws = (entry-before, entry_here, entry_past, rules)
 
-pub find-entry-spec : {M : Type 1} → statement M
-find-entry-spec =
+pub find_entry_spec : {M : Type 1} → statement M
+find_entry_spec =
     tie.close
     (tie.spec
     (λ c. search laws)

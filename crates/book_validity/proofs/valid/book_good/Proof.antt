@@ -19,8 +19,8 @@ days-good-requires c κs =
     let f = lent_is _ _ _ _ _ e.before.is-lent.ensures.1 e.if1.false in
     ((f.room, omega (arith, f.room, f.second), omega (arith, f.room, f.third)), entries-dated _ _ _ c.before.entries-good.ensures.0 c.if3.false)
 
-pub book-good-spec : {M : Type 1} → statement M
-book-good-spec =
+pub book_good_spec : {M : Type 1} → statement M
+book_good_spec =
     tie.close
     (tie.spec
     (λ c κs. search rules)

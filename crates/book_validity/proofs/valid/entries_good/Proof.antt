@@ -20,8 +20,8 @@ invariant-loop nums numbers dates b used i₀ i =
 abbrev decreases-loop : tie.decreases-loop
 decreases-loop nums numbers dates b used i₀ i = used - i
 
-pub entries-good-spec : {M : Type 1} → statement M
-entries-good-spec =
+pub entries_good_spec : {M : Type 1} → statement M
+entries_good_spec =
     tie.close
     (tie.spec
     invariant-loop

@@ -5,8 +5,8 @@ use Rattle.book_validity.proofs.valid.entry_fields.Tie as tie
 
 ruleset laws = (fields-receipt, fields-number, fields-kind, fields-amount, fields-date, fields-state, fields-rest, rules)
 
-pub entry-fields-spec : {M : Type 1} → statement M
-entry-fields-spec =
+pub entry_fields_spec : {M : Type 1} → statement M
+entry_fields_spec =
     tie.close
     (tie.spec
     (λ c κs. search laws)

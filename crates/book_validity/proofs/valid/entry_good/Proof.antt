@@ -5,8 +5,8 @@ use Rattle.book_validity.proofs.valid.entry_good.Tie as tie
 
 ruleset laws = (turn-fits, turn-other, turn-same, rules)
 
-pub entry-good-spec : {M : Type 1} → statement M
-entry-good-spec =
+pub entry_good_spec : {M : Type 1} → statement M
+entry_good_spec =
     tie.close
     (tie.spec
     (λ c. search laws)

@@ -5,8 +5,8 @@ use Rattle.book_validity.proofs.valid.head_good.Tie as tie
 
 ruleset laws = (head_first, head-rest, rules)
 
-pub head-good-spec : {M : Type 1} → statement M
-head-good-spec =
+pub head_good_spec : {M : Type 1} → statement M
+head_good_spec =
     tie.close
     (tie.spec
     (λ c κs. search laws)

@@ -60,8 +60,8 @@ due a = followed a.before.before.before.before.before.before
 element-copy-out-a : tie.Need-element-copy-out-a invariant-loop decreases-loop
 element-copy-out-a c = turn-account (due c.before) _ c.before.account.given.1
 
-pub settle-lines-spec : {M : Type 1} → statement M
-settle-lines-spec =
+pub settle_lines_spec : {M : Type 1} → statement M
+settle_lines_spec =
     tie.close
     (tie.spec
     invariant-loop

@@ -5,8 +5,8 @@ use Rattle.clearing.proofs.report.any_done.Tie as tie
 
 ruleset laws = (done-found, rules)
 
-pub any-done-spec : {M : Type 1} → statement M
-any-done-spec =
+pub any_done_spec : {M : Type 1} → statement M
+any_done_spec =
     tie.close
     (tie.spec
     (λ c κs. search laws)

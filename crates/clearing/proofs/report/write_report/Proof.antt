@@ -23,8 +23,8 @@ decreases-loop nums numbers dates used heads next values holders days count out�
 
 ruleset laws = (report-end, report-on, report-place, read-nums, read-numbers, read-dates, rules)
 
-pub write-report-spec : {M : Type 1} → statement M
-write-report-spec =
+pub write_report_spec : {M : Type 1} → statement M
+write_report_spec =
     tie.close
     (tie.spec
     invariant-loop

@@ -21,8 +21,8 @@ decreases-loop values holders days count heads next r at₀ at = ahead count at
 
 ruleset laws = (any-start, any_none, any_here, any_next, read-nums, read-numbers, read-dates, chained-slots, chained-room, walk-in, walk-less, rules)
 
-pub any-matches-spec : {M : Type 1} → statement M
-any-matches-spec =
+pub any_matches_spec : {M : Type 1} → statement M
+any_matches_spec =
     tie.close
     (tie.spec
     invariant-loop

@@ -5,8 +5,8 @@ use Rattle.clearing.proofs.sweeping.is_stray.Tie as tie
 
 ruleset laws = (other-day, of-day, rules)
 
-pub is-stray-spec : {M : Type 1} → statement M
-is-stray-spec =
+pub is_stray_spec : {M : Type 1} → statement M
+is_stray_spec =
     tie.close
     (tie.spec
     (λ c κs. search laws)

@@ -17,8 +17,8 @@ decreases-loop values count heads₀ next₀ i₀ heads next i = i
 
 ruleset laws = (chained-none, chained-turn, chained-all, chained-room, chained-slots, rules)
 
-pub link-lines-spec : {M : Type 1} → statement M
-link-lines-spec =
+pub link_lines_spec : {M : Type 1} → statement M
+link_lines_spec =
     tie.close
     (tie.spec
     invariant-loop

@@ -13,8 +13,8 @@ returns c =
     let t' : Rows = record { nums = w.store.new.0; numbers = w.store.new.1.0; dates = w.store.new.1.1.0 } in
     (stored-as t s.args.i m.revoke-record.result _ m.revoke-record.ensures t' w.store.ensures, c.find.ensures)
 
-pub revoke-at-spec : {M : Type 1} → statement M
-revoke-at-spec =
+pub revoke_at_spec : {M : Type 1} → statement M
+revoke_at_spec =
     tie.close
     (tie.spec
     (λ c κs. search rules)

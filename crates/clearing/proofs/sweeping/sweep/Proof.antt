@@ -42,8 +42,8 @@ revoked w = turn w.before.before.before.before.before
 element-copy-out-a : tie.Need-element-copy-out-a invariant-loop decreases-loop
 element-copy-out-a c = let w = c.before.before.before.before.before.before in turn-account (revoked w) _ w.revoke-at.ensures.1 _ c.before.account.given.1
 
-pub sweep-spec : {M : Type 1} → statement M
-sweep-spec =
+pub sweep_spec : {M : Type 1} → statement M
+sweep_spec =
     tie.close
     (tie.spec
     invariant-loop

@@ -5,8 +5,8 @@ use Rattle.coding.proofs.params.parameters.Tie as tie
 
 ruleset laws = (part-get, part_none, part_post, rules)
 
-pub parameters-spec : {M : Type 1} → statement M
-parameters-spec =
+pub parameters_spec : {M : Type 1} → statement M
+parameters_spec =
     tie.close
     (tie.spec
     (λ c. search laws)

@@ -5,8 +5,8 @@ use Rattle.coding.proofs.url.are_hex.Tie as tie
 
 ruleset laws = (hex-first, hex-not, rules)
 
-pub are-hex-spec : {M : Type 1} → statement M
-are-hex-spec =
+pub are_hex_spec : {M : Type 1} → statement M
+are_hex_spec =
     tie.close
     (tie.spec
     (λ c κs. search laws)

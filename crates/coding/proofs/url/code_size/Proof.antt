@@ -5,8 +5,8 @@ use Rattle.coding.proofs.url.code_size.Tie as tie
 
 ruleset laws = (size-plain, size-other, rules)
 
-pub code-size-spec : {M : Type 1} → statement M
-code-size-spec =
+pub code_size_spec : {M : Type 1} → statement M
+code_size_spec =
     tie.close
     (tie.spec
     (λ c κs. search laws)

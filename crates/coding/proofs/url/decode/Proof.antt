@@ -19,8 +19,8 @@ decreases-loop s dst₀ i₀ j₀ dst i j = length s - i
 
 ruleset laws = (short-count, short-kept, unit-inside, unit-fits, unit-falls, unit-behind, count-step, bytes-step, all-count, all-into, zero-add, rules)
 
-pub decode-spec : {M : Type 1} → statement M
-decode-spec =
+pub decode_spec : {M : Type 1} → statement M
+decode_spec =
     tie.close
     (tie.spec
     invariant-loop

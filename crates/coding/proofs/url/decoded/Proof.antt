@@ -5,8 +5,8 @@ use Rattle.coding.proofs.url.decoded.Tie as tie
 
 ruleset laws = (within-short, within-plain, within-room, rules)
 
-pub decoded-spec : {M : Type 1} → statement M
-decoded-spec =
+pub decoded_spec : {M : Type 1} → statement M
+decoded_spec =
     tie.close
     (tie.spec
     (λ c. search laws)

@@ -17,8 +17,8 @@ decreases-loop src room left₀ i₀ left i = length src - i
 
 ruleset laws = (room-step, room-fails, room-done, rules)
 
-pub has-room-spec : {M : Type 1} → statement M
-has-room-spec =
+pub has_room_spec : {M : Type 1} → statement M
+has_room_spec =
     tie.close
     (tie.spec
     invariant-loop

@@ -5,8 +5,8 @@ use Rattle.coding.proofs.url.hex_digit.Tie as tie
 
 ruleset laws = (digit_low, digit-high, rules)
 
-pub hex-digit-spec : {M : Type 1} → statement M
-hex-digit-spec =
+pub hex_digit_spec : {M : Type 1} → statement M
+hex_digit_spec =
     tie.close
     (tie.spec
     (λ c. search laws)

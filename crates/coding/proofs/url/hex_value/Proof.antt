@@ -6,9 +6,9 @@ use Rattle.coding.proofs.url.hex_value.Tie as tie
 
 ruleset laws = (inside, below, above, cond-here, cond-next, rules)
 
-pub hex-value-spec : {M : Type 1} → statement M
+pub hex_value_spec : {M : Type 1} → statement M
 unfolding hex_value
-hex-value-spec =
+hex_value_spec =
     tie.close
     (tie.spec
     (λ c. search laws)

@@ -6,9 +6,9 @@ use Rattle.coding.proofs.url.is_hex.Tie as tie
 
 ruleset laws = (inside, below, above, or-first, or-second, or-none, rules)
 
-pub is-hex-spec : {M : Type 1} → statement M
+pub is_hex_spec : {M : Type 1} → statement M
 unfolding is_hex
-is-hex-spec =
+is_hex_spec =
     tie.close
     (tie.spec
     (λ c. search laws)

@@ -6,9 +6,9 @@ use Rattle.coding.proofs.url.is_plain.Tie as tie
 
 ruleset laws = (inside, below, above, or-first, or-second, or-none, rules)
 
-pub is-plain-spec : {M : Type 1} → statement M
+pub is_plain_spec : {M : Type 1} → statement M
 unfolding is_plain
-is-plain-spec =
+is_plain_spec =
     tie.close
     (tie.spec
     (λ c. search laws)

@@ -5,8 +5,8 @@ use Rattle.coding.proofs.url.unit_at.Tie as tie
 
 ruleset laws = (unit-plain, unit-short, unit-escape, high_fits, pair_fits, rules)
 
-pub unit-at-spec : {M : Type 1} → statement M
-unit-at-spec =
+pub unit_at_spec : {M : Type 1} → statement M
+unit_at_spec =
     tie.close
     (tie.spec
     (λ c. search laws)

@@ -16,8 +16,8 @@ decreases-loop s i₀ i = length s - i
 
 ruleset laws = (unit-inside, unit-fits, unit-falls, well-step, well-fails, well-done, rules)
 
-pub well-coded-spec : {M : Type 1} → statement M
-well-coded-spec =
+pub well_coded_spec : {M : Type 1} → statement M
+well_coded_spec =
     tie.close
     (tie.spec
     invariant-loop

@@ -5,8 +5,8 @@ use Rattle.coding.proofs.url.write_byte.Tie as tie
 
 ruleset laws = (code-plain, code_other, byte-cursor, byte-written, rules)
 
-pub write-byte-spec : {M : Type 1} → statement M
-write-byte-spec =
+pub write_byte_spec : {M : Type 1} → statement M
+write_byte_spec =
     tie.close
     (tie.spec
     (λ c κs. search laws)

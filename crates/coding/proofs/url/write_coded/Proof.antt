@@ -20,8 +20,8 @@ decreases-loop src dst₀ at p₀ i₀ dst p i = length src - i
 
 ruleset laws = (past_end, past-end-kept, coded-stays, coded_kept, coded-fits, cursor-step, written_step, fit-step, cursor-done, written-done, rules)
 
-pub write-coded-spec : {M : Type 1} → statement M
-write-coded-spec =
+pub write_coded_spec : {M : Type 1} → statement M
+write_coded_spec =
     tie.close
     (tie.spec
     invariant-loop

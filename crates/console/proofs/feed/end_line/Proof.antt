@@ -26,8 +26,8 @@ returns c =
       turn-sums _ _ h _ f.first-bytes.ensures _ _ _ _ l.line-turn.ensures s.requires.0,
     )
 
-pub end-line-spec : {M : Type 1} → statement M
-end-line-spec =
+pub end_line_spec : {M : Type 1} → statement M
+end_line_spec =
     tie.close
     (tie.spec
     (λ c κs. search rules)

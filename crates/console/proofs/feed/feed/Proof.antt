@@ -76,8 +76,8 @@ returns-2 c =
 
 ruleset laws = (going_start, rules)
 
-pub feed-spec : {M : Type 1} → statement M
-feed-spec =
+pub feed_spec : {M : Type 1} → statement M
+feed_spec =
     tie.close
     (tie.spec
     invariant-loop

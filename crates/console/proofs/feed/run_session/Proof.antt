@@ -44,8 +44,8 @@ returns-2 c =
     let new = console-new _ _ _ _ x.new-console.ensures m.empty-names.ensures.1 y.empty-keys.ensures.1 q.empty-balances.ensures.1 in
     run-whole _ _ _ _ e.before.line-room.ensures e.if1.false _ _ new (held_new _ _ b.new-bytes.ensures k.new-mark.ensures) _ f.feed.ensures.0 _ l.finish.ensures
 
-pub run-session-spec : {M : Type 1} → statement M
-run-session-spec =
+pub run_session_spec : {M : Type 1} → statement M
+run_session_spec =
     tie.close
     (tie.spec
     (λ c κs. search rules)

@@ -5,8 +5,8 @@ use Rattle.console.proofs.show.goes_on.Tie as tie
 
 ruleset laws = (goes-past, goes_by, rules)
 
-pub goes-on-spec : {M : Type 1} → statement M
-goes-on-spec =
+pub goes_on_spec : {M : Type 1} → statement M
+goes_on_spec =
     tie.close
     (tie.spec
     (λ c. search laws)

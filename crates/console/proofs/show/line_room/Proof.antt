@@ -5,8 +5,8 @@ use Rattle.console.proofs.show.line_room.Tie as tie
 
 ruleset laws = (room-few, room_most, rules)
 
-pub line-room-spec : {M : Type 1} → statement M
-line-room-spec =
+pub line_room_spec : {M : Type 1} → statement M
+line_room_spec =
     tie.close
     (tie.spec
     (λ c. search laws)

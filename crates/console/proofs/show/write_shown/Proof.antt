@@ -5,8 +5,8 @@ use Rattle.console.proofs.show.write_shown.Tie as tie
 
 ruleset laws = (shows-figures, shows-payable, shows-room, shows-day, rules)
 
-pub write-shown-spec : {M : Type 1} → statement M
-write-shown-spec =
+pub write_shown_spec : {M : Type 1} → statement M
+write_shown_spec =
     tie.close
     (tie.spec
     (λ c. search laws)

@@ -5,8 +5,8 @@ use Rattle.dates.proofs.date.day_of_date.Tie as tie
 
 ruleset laws = (date-no-time, date-good, rules)
 
-pub day-of-date-spec : {M : Type 1} → statement M
-day-of-date-spec =
+pub day_of_date_spec : {M : Type 1} → statement M
+day_of_date_spec =
     tie.close
     (tie.spec
     (λ c κs. search laws)

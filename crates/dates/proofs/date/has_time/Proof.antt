@@ -5,8 +5,8 @@ use Rattle.dates.proofs.date.has_time.Tie as tie
 
 ruleset laws = (time-mark, time-mark-2, time-mark-3, hour-high, minute-high, second_is, rules)
 
-pub has-time-spec : {M : Type 1} → statement M
-has-time-spec =
+pub has_time_spec : {M : Type 1} → statement M
+has_time_spec =
     tie.close
     (tie.spec
     (λ c. search laws)

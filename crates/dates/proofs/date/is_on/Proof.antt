@@ -5,8 +5,8 @@ use Rattle.dates.proofs.date.is_on.Tie as tie
 
 ruleset laws = (on-no-time, on-good, rules)
 
-pub is-on-spec : {M : Type 1} → statement M
-is-on-spec =
+pub is_on_spec : {M : Type 1} → statement M
+is_on_spec =
     tie.close
     (tie.spec
     (λ c κs. search laws)

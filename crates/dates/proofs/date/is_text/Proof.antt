@@ -5,8 +5,8 @@ use Rattle.dates.proofs.date.is_text.Tie as tie
 
 ruleset laws = (size-written, text-written, rules)
 
-pub is-text-spec : {M : Type 1} → statement M
-is-text-spec =
+pub is_text_spec : {M : Type 1} → statement M
+is_text_spec =
     tie.close
     (tie.spec
     (λ c. search laws)

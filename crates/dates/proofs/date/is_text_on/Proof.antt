@@ -5,8 +5,8 @@ use Rattle.dates.proofs.date.is_text_on.Tie as tie
 
 ruleset laws = (size-on, text-on, rules)
 
-pub is-text-on-spec : {M : Type 1} → statement M
-is-text-on-spec =
+pub is_text_on_spec : {M : Type 1} → statement M
+is_text_on_spec =
     tie.close
     (tie.spec
     (λ c. search laws)

@@ -5,8 +5,8 @@ use Rattle.dates.proofs.date.is_up_to.Tie as tie
 
 ruleset laws = (known_written, until_none, until-written, rules)
 
-pub is-up-to-spec : {M : Type 1} → statement M
-is-up-to-spec =
+pub is_up_to_spec : {M : Type 1} → statement M
+is_up_to_spec =
     tie.close
     (tie.spec
     (λ c κs. search laws)

@@ -5,8 +5,8 @@ use Rattle.dates.proofs.date.is_written.Tie as tie
 
 ruleset laws = (written_is, written-not, rules)
 
-pub is-written-spec : {M : Type 1} → statement M
-is-written-spec =
+pub is_written_spec : {M : Type 1} → statement M
+is_written_spec =
     tie.close
     (tie.spec
     (λ c κs. search laws)

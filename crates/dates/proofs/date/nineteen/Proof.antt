@@ -5,8 +5,8 @@ use Rattle.dates.proofs.date.nineteen.Tie as tie
 
 ruleset laws = (date-whole, rules)
 
-pub nineteen-spec : {M : Type 1} → statement M
-nineteen-spec =
+pub nineteen_spec : {M : Type 1} → statement M
+nineteen_spec =
     tie.close
     (tie.spec
     (λ c. search laws)

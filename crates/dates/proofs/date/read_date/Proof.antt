@@ -5,8 +5,8 @@ use Rattle.dates.proofs.date.read_date.Tie as tie
 
 ruleset laws = (date-size, date-held, date-not, rules)
 
-pub read-date-spec : {M : Type 1} → statement M
-read-date-spec =
+pub read_date_spec : {M : Type 1} → statement M
+read_date_spec =
     tie.close
     (tie.spec
     (λ c κs. search laws)

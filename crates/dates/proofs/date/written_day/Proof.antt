@@ -5,8 +5,8 @@ use Rattle.dates.proofs.date.written_day.Tie as tie
 
 ruleset laws = (year-pair, month-pair, day-pair, day-written, rules)
 
-pub written-day-spec : {M : Type 1} → statement M
-written-day-spec =
+pub written_day_spec : {M : Type 1} → statement M
+written_day_spec =
     tie.close
     (tie.spec
     (λ c. search laws)

@@ -5,8 +5,8 @@ use Rattle.dates.proofs.date.written_on.Tie as tie
 
 ruleset laws = (same-on, rules)
 
-pub written-on-spec : {M : Type 1} → statement M
-written-on-spec =
+pub written_on_spec : {M : Type 1} → statement M
+written_on_spec =
     tie.close
     (tie.spec
     (λ c κs. search laws)

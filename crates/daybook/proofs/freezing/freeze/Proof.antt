@@ -5,8 +5,8 @@ use Rattle.daybook.proofs.freezing.freeze.Tie as tie
 
 ruleset laws = (freeze-not-book, freeze-no-date, freeze-refused, freeze-made, rules)
 
-pub freeze-spec : {M : Type 1} → statement M
-freeze-spec =
+pub freeze_spec : {M : Type 1} → statement M
+freeze_spec =
     tie.close
     (tie.spec
     (λ c κs. search laws)

@@ -5,8 +5,8 @@ use Rattle.daybook.proofs.freezing.may_freeze.Tie as tie
 
 ruleset laws = (next-settled, next-not, rules)
 
-pub may-freeze-spec : {M : Type 1} → statement M
-may-freeze-spec =
+pub may_freeze_spec : {M : Type 1} → statement M
+may_freeze_spec =
     tie.close
     (tie.spec
     (λ c κs. search laws)

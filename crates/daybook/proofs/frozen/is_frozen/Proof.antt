@@ -5,8 +5,8 @@ use Rattle.daybook.proofs.frozen.is_frozen.Tie as tie
 
 ruleset laws = (frozen-is, rules)
 
-pub is-frozen-spec : {M : Type 1} → statement M
-is-frozen-spec =
+pub is_frozen_spec : {M : Type 1} → statement M
+is_frozen_spec =
     tie.close
     (tie.spec
     (λ c κs. search laws)

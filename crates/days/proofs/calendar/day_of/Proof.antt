@@ -5,8 +5,8 @@ use Rattle.days.proofs.calendar.day_of.Tie as tie
 
 ruleset laws = (day-good, day-none, rules)
 
-pub day-of-spec : {M : Type 1} → statement M
-day-of-spec =
+pub day_of_spec : {M : Type 1} → statement M
+day_of_spec =
     tie.close
     (tie.spec
     (λ c κs. search laws)

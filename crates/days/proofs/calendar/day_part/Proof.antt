@@ -5,8 +5,8 @@ use Rattle.days.proofs.calendar.day_part.Tie as tie
 
 ruleset laws = (part-short, part-with, rules)
 
-pub day-part-spec : {M : Type 1} → statement M
-day-part-spec =
+pub day_part_spec : {M : Type 1} → statement M
+day_part_spec =
     tie.close
     (tie.spec
     (λ c. search laws)

@@ -5,8 +5,8 @@ use Rattle.days.proofs.calendar.day_with.Tie as tie
 
 ruleset laws = (with-dash, with-other, with-century, with-year, with-good, rules)
 
-pub day-with-spec : {M : Type 1} → statement M
-day-with-spec =
+pub day_with_spec : {M : Type 1} → statement M
+day_with_spec =
     tie.close
     (tie.spec
     (λ c. search laws)

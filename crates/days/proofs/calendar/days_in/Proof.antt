@@ -5,8 +5,8 @@ use Rattle.days.proofs.calendar.days_in.Tie as tie
 
 ruleset laws = (february-leap, february, thirty, thirty-one, rules)
 
-pub days-in-spec : {M : Type 1} → statement M
-days-in-spec =
+pub days_in_spec : {M : Type 1} → statement M
+days_in_spec =
     tie.close
     (tie.spec
     (λ c κs. search laws)

@@ -5,8 +5,8 @@ use Rattle.days.proofs.calendar.is_date.Tie as tie
 
 ruleset laws = (year-low, year-high, month-low, month-high, day-low, day-last, rules)
 
-pub is-date-spec : {M : Type 1} → statement M
-is-date-spec =
+pub is_date_spec : {M : Type 1} → statement M
+is_date_spec =
     tie.close
     (tie.spec
     (λ c. search laws)

@@ -5,8 +5,8 @@ use Rattle.days.proofs.calendar.is_leap.Tie as tie
 
 ruleset laws = (leap-not-4, leap-not-100, leap-400, rules)
 
-pub is-leap-spec : {M : Type 1} → statement M
-is-leap-spec =
+pub is_leap_spec : {M : Type 1} → statement M
+is_leap_spec =
     tie.close
     (tie.spec
     (λ c. search laws)

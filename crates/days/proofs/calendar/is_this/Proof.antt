@@ -5,8 +5,8 @@ use Rattle.days.proofs.calendar.is_this.Tie as tie
 
 ruleset laws = (this-none, this-day, rules)
 
-pub is-this-spec : {M : Type 1} → statement M
-is-this-spec =
+pub is_this_spec : {M : Type 1} → statement M
+is_this_spec =
     tie.close
     (tie.spec
     (λ c. search laws)

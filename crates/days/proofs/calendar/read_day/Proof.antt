@@ -5,8 +5,8 @@ use Rattle.days.proofs.calendar.read_day.Tie as tie
 
 ruleset laws = (alone-other, alone, rules)
 
-pub read-day-spec : {M : Type 1} → statement M
-read-day-spec =
+pub read_day_spec : {M : Type 1} → statement M
+read_day_spec =
     tie.close
     (tie.spec
     (λ c κs. search laws)

@@ -5,8 +5,8 @@ use Rattle.days.proofs.calendar.two.Tie as tie
 
 ruleset laws = (tens-low, tens-high, ones_low, ones-high, two_good, rules)
 
-pub two-spec : {M : Type 1} → statement M
-two-spec =
+pub two_spec : {M : Type 1} → statement M
+two_spec =
     tie.close
     (tie.spec
     (λ c. search laws)

@@ -5,8 +5,8 @@ use Rattle.directory.proofs.digest.make_digest.Tie as tie
 
 ruleset laws = (digest-is, rules)
 
-pub make-digest-spec : {M : Type 1} → statement M
-make-digest-spec =
+pub make_digest_spec : {M : Type 1} → statement M
+make_digest_spec =
     tie.close
     (tie.spec
     (λ c. search laws)

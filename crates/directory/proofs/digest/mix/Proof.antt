@@ -15,8 +15,8 @@ decreases-loop h s x₀ i₀ x i = length s - i
 
 ruleset laws = (mix-turn, mix-end, rules)
 
-pub mix-spec : {M : Type 1} → statement M
-mix-spec =
+pub mix_spec : {M : Type 1} → statement M
+mix_spec =
     tie.close
     (tie.spec
     invariant-loop

@@ -5,8 +5,8 @@ use Rattle.fields.proofs.amount.kopecks_from.Tie as tie
 
 ruleset laws = (from-point, from_end, rules)
 
-pub kopecks-from-spec : {M : Type 1} → statement M
-kopecks-from-spec =
+pub kopecks_from_spec : {M : Type 1} → statement M
+kopecks_from_spec =
     tie.close
     (tie.spec
     (λ c. search laws)

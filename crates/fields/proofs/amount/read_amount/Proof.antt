@@ -5,8 +5,8 @@ use Rattle.fields.proofs.amount.read_amount.Tie as tie
 
 ruleset laws = (before-size, amount-none, amount-part, whole-fits, sum_fits, amount-zero, amount-good, rules)
 
-pub read-amount-spec : {M : Type 1} → statement M
-read-amount-spec =
+pub read_amount_spec : {M : Type 1} → statement M
+read_amount_spec =
     tie.close
     (tie.spec
     (λ c κs. search laws)

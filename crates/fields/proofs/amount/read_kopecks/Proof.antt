@@ -5,8 +5,8 @@ use Rattle.fields.proofs.amount.read_kopecks.Tie as tie
 
 ruleset laws = (ten-fits, one-digit, two-digits, no-digits, rules)
 
-pub read-kopecks-spec : {M : Type 1} → statement M
-read-kopecks-spec =
+pub read_kopecks_spec : {M : Type 1} → statement M
+read_kopecks_spec =
     tie.close
     (tie.spec (λ c κs. search laws)
     (λ c. search laws)

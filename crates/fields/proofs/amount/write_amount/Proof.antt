@@ -5,8 +5,8 @@ use Rattle.fields.proofs.amount.write_amount.Tie as tie
 
 ruleset laws = (whole-size, skip-low, skip_all, amount-past, amount-past-kept, amount-no-room, amount-none-kept, amount-to, amount-kept, rules)
 
-pub write-amount-spec : {M : Type 1} → statement M
-write-amount-spec =
+pub write_amount_spec : {M : Type 1} → statement M
+write_amount_spec =
     tie.close
     (tie.spec
     (λ c κs. search laws)

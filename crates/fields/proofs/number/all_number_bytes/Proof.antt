@@ -16,8 +16,8 @@ decreases-loop s i₀ i = length s - i
 
 ruleset laws = (bytes-step, bytes-fail, bytes-all, rules)
 
-pub all-number-bytes-spec : {M : Type 1} → statement M
-all-number-bytes-spec =
+pub all_number_bytes_spec : {M : Type 1} → statement M
+all_number_bytes_spec =
     tie.close
     (tie.spec
     invariant-loop

@@ -7,9 +7,9 @@ use Rattle.fields.proofs.number.is_number_byte.Tie as tie
 
 ruleset laws = (inside, below, above, one_byte, not_byte, or-first, or-second, or-none, rules)
 
-pub is-number-byte-spec : {M : Type 1} → statement M
+pub is_number_byte_spec : {M : Type 1} → statement M
 unfolding number_byte
-is-number-byte-spec =
+is_number_byte_spec =
     tie.close
     (tie.spec
     (λ c. search laws)

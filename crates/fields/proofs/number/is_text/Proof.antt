@@ -5,8 +5,8 @@ use Rattle.fields.proofs.number.is_text.Tie as tie
 
 ruleset laws = (text-empty, text-long, text-judged, rules)
 
-pub is-text-spec : {M : Type 1} → statement M
-is-text-spec =
+pub is_text_spec : {M : Type 1} → statement M
+is_text_spec =
     tie.close
     (tie.spec
     (λ c. search laws)

@@ -5,8 +5,8 @@ use Rattle.fields.proofs.number.number_of.Tie as tie
 
 ruleset laws = (number-made, rules)
 
-pub number-of-spec : {M : Type 1} → statement M
-number-of-spec =
+pub number_of_spec : {M : Type 1} → statement M
+number_of_spec =
     tie.close
     (tie.spec
     (λ c. search laws)

@@ -16,8 +16,8 @@ decreases-loop s i₀ i = length s - i
 
 ruleset laws = (bytes-pass, rules)
 
-pub pass-visible-spec : {M : Type 1} → statement M
-pass-visible-spec =
+pub pass_visible_spec : {M : Type 1} → statement M
+pass_visible_spec =
     tie.close
     (tie.spec
     invariant-loop

@@ -5,8 +5,8 @@ use Rattle.fields.proofs.number.read_number.Tie as tie
 
 ruleset laws = (number_short, number-good, number-bad, rules)
 
-pub read-number-spec : {M : Type 1} → statement M
-read-number-spec =
+pub read_number_spec : {M : Type 1} → statement M
+read_number_spec =
     tie.close
     (tie.spec
     (λ c κs. search laws)

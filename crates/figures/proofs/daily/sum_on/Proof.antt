@@ -15,8 +15,8 @@ decreases-loop nums numbers dates used day state count₀ total₀ i₀ count to
 
 ruleset laws = (at-nums, at-numbers, at-dates, summed-start, summed-next, summed-fits, summed-skip, summed-more, summed-all, rules)
 
-pub sum-on-spec : {M : Type 1} → statement M
-sum-on-spec =
+pub sum_on_spec : {M : Type 1} → statement M
+sum_on_spec =
     tie.close
     (tie.spec
     invariant-loop

@@ -5,8 +5,8 @@ use Rattle.figures.proofs.daily.write_day.Tie as tie
 
 ruleset laws = (sum_room, last-room, day-put, rules)
 
-pub write-day-spec : {M : Type 1} → statement M
-write-day-spec =
+pub write_day_spec : {M : Type 1} → statement M
+write_day_spec =
     tie.close
     (tie.spec
     (λ c κs. search laws)

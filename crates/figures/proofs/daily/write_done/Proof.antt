@@ -5,8 +5,8 @@ use Rattle.figures.proofs.daily.write_done.Tie as tie
 
 ruleset laws = (done-one, done_none, rules)
 
-pub write-done-spec : {M : Type 1} → statement M
-write-done-spec =
+pub write_done_spec : {M : Type 1} → statement M
+write_done_spec =
     tie.close
     (tie.spec
     (λ c κs. search laws)

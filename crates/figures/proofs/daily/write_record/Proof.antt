@@ -5,8 +5,8 @@ use Rattle.figures.proofs.daily.write_record.Tie as tie
 
 ruleset laws = (record-put, rules)
 
-pub write-record-spec : {M : Type 1} → statement M
-write-record-spec =
+pub write_record_spec : {M : Type 1} → statement M
+write_record_spec =
     tie.close
     (tie.spec
     (λ c κs. search laws)

@@ -20,8 +20,8 @@ decreases-loop nums numbers dates used day dst₀ at cursor₀ i₀ dst cursor i
 
 ruleset laws = (at-nums, at-numbers, at-dates, prefix-start, prefix-room, prefix-next, prefix-all, rules)
 
-pub write-records-spec : {M : Type 1} → statement M
-write-records-spec =
+pub write_records_spec : {M : Type 1} → statement M
+write_records_spec =
     tie.close
     (tie.spec
     invariant-loop

@@ -5,8 +5,8 @@ use Rattle.figures.proofs.daily.write_sum.Tie as tie
 
 ruleset laws = (sum-put, rules)
 
-pub write-sum-spec : {M : Type 1} → statement M
-write-sum-spec =
+pub write_sum_spec : {M : Type 1} → statement M
+write_sum_spec =
     tie.close
     (tie.spec
     (λ c κs. search laws)

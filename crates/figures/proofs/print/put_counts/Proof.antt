@@ -5,8 +5,8 @@ use Rattle.figures.proofs.print.put_counts.Tie as tie
 
 ruleset laws = (counts-put, rules)
 
-pub put-counts-spec : {M : Type 1} → statement M
-put-counts-spec =
+pub put_counts_spec : {M : Type 1} → statement M
+put_counts_spec =
     tie.close
     (tie.spec
     (λ c κs. search laws)

@@ -5,8 +5,8 @@ use Rattle.figures.proofs.print.put_figures.Tie as tie
 
 ruleset laws = (figures-put, rules)
 
-pub put-figures-spec : {M : Type 1} → statement M
-put-figures-spec =
+pub put_figures_spec : {M : Type 1} → statement M
+put_figures_spec =
     tie.close
     (tie.spec
     (λ c κs. search laws)

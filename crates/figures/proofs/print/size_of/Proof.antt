@@ -5,8 +5,8 @@ use Rattle.figures.proofs.print.size_of.Tie as tie
 
 ruleset laws = (size-sub, size-sign, size_fits, size-next, size_is, sign_above, fits-above, rules)
 
-pub size-of-spec : {M : Type 1} → statement M
-size-of-spec =
+pub size_of_spec : {M : Type 1} → statement M
+size_of_spec =
     tie.close
     (tie.spec
     (λ c. search laws)

@@ -5,8 +5,8 @@ use Rattle.figures.proofs.print.write_led.Tie as tie
 
 ruleset laws = (text-cursor, text-written, led-text, rules)
 
-pub write-led-spec : {M : Type 1} → statement M
-write-led-spec =
+pub write_led_spec : {M : Type 1} → statement M
+write_led_spec =
     tie.close
     (tie.spec
     (λ c. search laws)

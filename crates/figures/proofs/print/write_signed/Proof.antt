@@ -5,8 +5,8 @@ use Rattle.figures.proofs.print.write_signed.Tie as tie
 
 ruleset laws = (text-cursor, text-written, signed_below, signed_above, rules)
 
-pub write-signed-spec : {M : Type 1} → statement M
-write-signed-spec =
+pub write_signed_spec : {M : Type 1} → statement M
+write_signed_spec =
     tie.close
     (tie.spec
     (λ c κs. search laws)

@@ -5,8 +5,8 @@ use Rattle.figures.proofs.print.write_turn.Tie as tie
 
 ruleset laws = (text-cursor, text-written, prints-99, prints-figures, rules)
 
-pub write-turn-spec : {M : Type 1} → statement M
-write-turn-spec =
+pub write_turn_spec : {M : Type 1} → statement M
+write_turn_spec =
     tie.close
     (tie.spec
     (λ c. search laws)

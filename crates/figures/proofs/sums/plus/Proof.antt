@@ -5,8 +5,8 @@ use Rattle.figures.proofs.sums.plus.Tie as tie
 
 ruleset laws = (plus-fits, plus-is, plus-near, rules)
 
-pub plus-spec : {M : Type 1} → statement M
-plus-spec =
+pub plus_spec : {M : Type 1} → statement M
+plus_spec =
     tie.close
     (tie.spec
     (λ c. search laws)

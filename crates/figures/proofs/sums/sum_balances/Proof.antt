@@ -20,8 +20,8 @@ decreases-loop balances sum₀ i₀ sum i = i
 
 ruleset laws = (sum-start, sum_done, sum_bound, sum_fits, sum-place, balance-fits, sum_step, rules)
 
-pub sum-balances-spec : {M : Type 1} → statement M
-sum-balances-spec =
+pub sum_balances_spec : {M : Type 1} → statement M
+sum_balances_spec =
     tie.close
     (tie.spec
     invariant-loop

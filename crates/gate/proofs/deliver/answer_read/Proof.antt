@@ -17,8 +17,8 @@ returns c =
     let s = m.before.before.before.before.before.before.before in
     executed-answered _ _ _ _ s.args.q.asked _ _ _ _ _ _ _ _ _ m.instruction-of.ensures x.execute.ensures a.answer-of.ensures w.write-answer.ensures.0 w.write-answer.ensures.1
 
-pub answer-read-spec : {M : Type 1} → statement M
-answer-read-spec =
+pub answer_read_spec : {M : Type 1} → statement M
+answer_read_spec =
     tie.close
     (tie.spec
     (λ c κs. search rules)

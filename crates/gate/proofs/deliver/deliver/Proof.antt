@@ -10,8 +10,8 @@ returns c =
     let u = h.before.before.before.before.before.before.before.before.before.before in
     delivered-packed _ _ _ _ _ _ _ _ _ _ _ _ _ _ u.unpack.ensures h.head_of.ensures d.deliver-lent.ensures c.pack.ensures
 
-pub deliver-spec : {M : Type 1} → statement M
-deliver-spec =
+pub deliver_spec : {M : Type 1} → statement M
+deliver_spec =
     tie.close
     (tie.spec
     (λ c κs. search rules)

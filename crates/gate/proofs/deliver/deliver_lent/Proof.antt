@@ -25,8 +25,8 @@ returns-2 c =
 
 ruleset laws = (rules)
 
-pub deliver-lent-spec : {M : Type 1} → statement M
-deliver-lent-spec =
+pub deliver_lent_spec : {M : Type 1} → statement M
+deliver_lent_spec =
     tie.close
     (tie.spec
     (λ c κs. search laws)

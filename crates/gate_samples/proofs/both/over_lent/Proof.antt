@@ -5,8 +5,8 @@ use Rattle.gate_samples.proofs.both.over_lent.Tie as tie
 
 ruleset laws = (rows-size, rules)
 
-pub over-lent-spec : {M : Type 1} → statement M
-over-lent-spec =
+pub over_lent_spec : {M : Type 1} → statement M
+over_lent_spec =
     tie.close
     (tie.spec
     (λ c κs. search laws)

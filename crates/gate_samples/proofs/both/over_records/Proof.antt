@@ -5,8 +5,8 @@ use Rattle.gate_samples.proofs.both.over_records.Tie as tie
 
 ruleset laws = (part-size, rules)
 
-pub over-records-spec : {M : Type 1} → statement M
-over-records-spec =
+pub over_records_spec : {M : Type 1} → statement M
+over_records_spec =
     tie.close
     (tie.spec
     (λ c κs. search laws)

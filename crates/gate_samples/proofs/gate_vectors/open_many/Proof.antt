@@ -8,8 +8,8 @@ invariant-loop s nums₀ numbers₀ dates₀ w n code₀ g₀ i₀ nums numbers 
 abbrev decreases-loop : tie.decreases-loop
 decreases-loop s nums₀ numbers₀ dates₀ w n code₀ g₀ i₀ nums numbers dates code g i = n - i
 
-pub open-many-spec : {M : Type 1} → statement M
-open-many-spec =
+pub open_many_spec : {M : Type 1} → statement M
+open_many_spec =
     tie.close
     (tie.spec
     invariant-loop

@@ -304,9 +304,9 @@ module _ {M : Type 1} {𝓤 : Ura M} (𝓛 : Logic 𝓤) (mem : Memory → SProp
   call-first-meets = walk_Meets 𝓛 f.ended stayed (Goes-none 𝓛 2 (λ _. TabR) yes (λ κs x f. refl), (Goes-none 𝓛 2 (λ _. usize) yes (λ κs x f. refl), (Goes-none 𝓛 2 (λ _. G.the_row) yes (λ κs x f. refl), (Goes-none 𝓛 2 (λ _. Y.the_row) yes (λ κs x f. refl), (Goes-none_slice 𝓛 2 (0 ∷ []) tt (plain (λ _. u8)) yes, (Goes-gave_slice 𝓛 2 1 tt (plain (λ _. u8)), tt))))))
       (f.clauses 𝓛 mem run) (WpFn 𝓤 H 𝓣.C 𝓣.Λ code.function) (WpFn-mono 𝓤 H 𝓛.laws 𝓣 code.function) call-first-walks
 
-pub call-first-spec : {M : Type 1} → stated.statement M
+pub call_first_spec : {M : Type 1} → stated.statement M
 unfolding code.routine tables_of
-call-first-spec 𝓤 𝓛 𝓜 𝓡 =
+call_first_spec 𝓤 𝓛 𝓜 𝓡 =
     entered 𝓤 𝓛.H (triple_of 𝓛 f.signature (f.spec 𝓛 𝓜.mem 𝓡.run))
     (tables 𝓤 𝓛.H 𝓜 𝓡 code.env).C (tables 𝓤 𝓛.H 𝓜 𝓡 code.env).Λ #call-first code.function (code.unfolded 𝓤 𝓛.H 𝓜 𝓡)
     (call-first-meets 𝓛 𝓜.mem 𝓡.run (tables_of 𝓤 𝓛.H 𝓜 (tables 𝓤 𝓛.H 𝓜 𝓡 code.env))

@@ -8,8 +8,8 @@ invariant-loop a b i₀ i = i ≤ 256
 abbrev decreases-loop : tie.decreases-loop
 decreases-loop a b i₀ i = 256 - i
 
-pub accounts-spec : {M : Type 1} → statement M
-accounts-spec =
+pub accounts_spec : {M : Type 1} → statement M
+accounts_spec =
     tie.close
     (tie.spec
     invariant-loop

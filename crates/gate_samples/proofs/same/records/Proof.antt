@@ -8,8 +8,8 @@ invariant-loop a b i₀ i = i ≤ 4
 abbrev decreases-loop : tie.decreases-loop
 decreases-loop a b i₀ i = 4 - i
 
-pub records-spec : {M : Type 1} → statement M
-records-spec =
+pub records_spec : {M : Type 1} → statement M
+records_spec =
     tie.close
     (tie.spec
     invariant-loop

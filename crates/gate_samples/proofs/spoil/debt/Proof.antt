@@ -5,8 +5,8 @@ use Rattle.gate_samples.proofs.spoil.debt.Tie as tie
 
 ruleset laws = (debt-fits, rules)
 
-pub debt-spec : {M : Type 1} → statement M
-debt-spec =
+pub debt_spec : {M : Type 1} → statement M
+debt_spec =
     tie.close
     (tie.spec
     (λ c. search laws)

@@ -5,8 +5,8 @@ use Rattle.gate_samples.proofs.world.owed.Tie as tie
 
 ruleset laws = (owed_small, owed-positive, owed-fits, rules)
 
-pub owed-spec : {M : Type 1} → statement M
-owed-spec =
+pub owed_spec : {M : Type 1} → statement M
+owed_spec =
     tie.close
     (tie.spec
     (λ c. search laws)

@@ -5,8 +5,8 @@ use Rattle.gate_samples.proofs.world.positive.Tie as tie
 
 ruleset laws = (shown-positive, shown-fits, rules)
 
-pub positive-spec : {M : Type 1} → statement M
-positive-spec =
+pub positive_spec : {M : Type 1} → statement M
+positive_spec =
     tie.close
     (tie.spec
     (λ c. search laws)

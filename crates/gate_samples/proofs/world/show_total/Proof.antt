@@ -10,8 +10,8 @@ decreases-loop g count over₀ under₀ i₀ over under i = count - i
 
 ruleset laws = (rules)
 
-pub show-total-spec : {M : Type 1} → statement M
-show-total-spec =
+pub show_total_spec : {M : Type 1} → statement M
+show_total_spec =
     tie.close
     (tie.spec
     invariant-loop

@@ -5,8 +5,8 @@ use Rattle.ledger.proofs.change.append.Tie as tie
 
 ruleset laws = (appended, room-too, place-small, rules)
 
-pub append-spec : {M : Type 1} → statement M
-append-spec =
+pub append_spec : {M : Type 1} → statement M
+append_spec =
     tie.close
     (tie.spec
     (λ c κs. search laws)

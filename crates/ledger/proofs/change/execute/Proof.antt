@@ -83,8 +83,8 @@ returns c =
           (v.move-balance.ensures s.args.head s.args.names.now s.args.keys.now o.used));
     }
 
-pub execute-spec : {M : Type 1} → statement M
-execute-spec =
+pub execute_spec : {M : Type 1} → statement M
+execute_spec =
     tie.close
     (tie.spec
     (λ c κs. search rules)

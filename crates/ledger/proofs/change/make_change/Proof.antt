@@ -33,8 +33,8 @@ returns-3 c g eu eb =
     let s = c.before.before.before.before.before.before.before.before.before.before.before.before in
     cancelled _ s.args.used s.args.clock s.args.q s.args.p s.args.p.decided.change _ _ _ _ _ g eu (eb ∙ sym (near-back s.args.b s.requires.1.2)) e.enum-told3.given.1 a.revoke.ensures.0.0 a.revoke.ensures.0.1 a.revoke.ensures.0.2 a.revoke.ensures.1
 
-pub make-change-spec : {M : Type 1} → statement M
-make-change-spec =
+pub make_change_spec : {M : Type 1} → statement M
+make_change_spec =
     tie.close
     (tie.spec
     (λ c. search rules)

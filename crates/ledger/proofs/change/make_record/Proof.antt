@@ -5,9 +5,9 @@ use Rattle.ledger.proofs.change.make_record.Tie as tie
 
 ruleset laws = (rules)
 
-pub make-record-spec : {M : Type 1} → statement M
+pub make_record_spec : {M : Type 1} → statement M
 unfolding make_record next_authcode
-make-record-spec =
+make_record_spec =
     tie.close
     (tie.spec
     (λ c. search laws)

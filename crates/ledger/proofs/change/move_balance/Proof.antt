@@ -11,8 +11,8 @@ put-balance-requires c κs =
     let s = f.before.before in
     (search rules, s.requires.1.at _ f.f.given.1)
 
-pub move-balance-spec : {M : Type 1} → statement M
-move-balance-spec =
+pub move_balance_spec : {M : Type 1} → statement M
+move_balance_spec =
     tie.close
     (tie.spec
     (λ c. search laws)

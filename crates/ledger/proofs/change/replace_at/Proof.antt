@@ -6,8 +6,8 @@ use Rattle.ledger.proofs.change.replace_at.Tie as tie
 
 ruleset laws = (replaced, nothing-replaced, place-below, rules)
 
-pub replace-at-spec : {M : Type 1} → statement M
-replace-at-spec =
+pub replace_at_spec : {M : Type 1} → statement M
+replace_at_spec =
     tie.close
     (tie.spec
     (λ c. search laws)

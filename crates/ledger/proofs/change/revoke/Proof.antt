@@ -5,8 +5,8 @@ use Rattle.ledger.proofs.change.revoke.Tie as tie
 
 ruleset laws = (revoked-rows, rules)
 
-pub revoke-spec : {M : Type 1} → statement M
-revoke-spec =
+pub revoke_spec : {M : Type 1} → statement M
+revoke_spec =
     tie.close
     (tie.spec
     (λ c κs. search laws)

@@ -5,9 +5,9 @@ use Rattle.ledger.proofs.change.revoke_record.Tie as tie
 
 ruleset laws = (rules)
 
-pub revoke-record-spec : {M : Type 1} → statement M
+pub revoke_record_spec : {M : Type 1} → statement M
 unfolding revoked
-revoke-record-spec =
+revoke_record_spec =
     tie.close
     (tie.spec
     (λ c. search laws))

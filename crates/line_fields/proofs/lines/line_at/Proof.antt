@@ -5,8 +5,8 @@ use Rattle.line_fields.proofs.lines.line_at.Tie as tie
 
 ruleset laws = (line-is, rules)
 
-pub line-at-spec : {M : Type 1} → statement M
-line-at-spec =
+pub line_at_spec : {M : Type 1} → statement M
+line_at_spec =
     tie.close
     (tie.spec
     (λ c κs. search laws)

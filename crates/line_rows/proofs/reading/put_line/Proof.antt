@@ -5,8 +5,8 @@ use Rattle.line_rows.proofs.reading.put_line.Tie as tie
 
 ruleset laws = (name-size, name-short, line-put, rules)
 
-pub put-line-spec : {M : Type 1} → statement M
-put-line-spec =
+pub put_line_spec : {M : Type 1} → statement M
+put_line_spec =
     tie.close
     (tie.spec
     (λ c. search laws)

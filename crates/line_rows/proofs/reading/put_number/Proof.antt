@@ -5,8 +5,8 @@ use Rattle.line_rows.proofs.reading.put_number.Tie as tie
 
 ruleset laws = (number_put, rules)
 
-pub put-number-spec : {M : Type 1} → statement M
-put-number-spec =
+pub put_number_spec : {M : Type 1} → statement M
+put_number_spec =
     tie.close
     (tie.spec
     (λ c. search laws)

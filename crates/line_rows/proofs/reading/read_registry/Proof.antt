@@ -32,8 +32,8 @@ loop-again c = (search laws, search rules, search rules, search rules, search ru
 returns-4 : tie.Need-returns-4 invariant-loop decreases-loop
 returns-4 c = (search read-fault, ((λ z. search read-end), λ z. search read_whole))
 
-pub read-registry-spec : {M : Type 1} → statement M
-read-registry-spec =
+pub read_registry_spec : {M : Type 1} → statement M
+read_registry_spec =
     tie.close
     (tie.spec
     invariant-loop

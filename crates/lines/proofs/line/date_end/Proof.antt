@@ -5,8 +5,8 @@ use Rattle.lines.proofs.line.date_end.Tie as tie
 
 ruleset laws = (ends_found, ends-nineteen, rules)
 
-pub date-end-spec : {M : Type 1} → statement M
-date-end-spec =
+pub date_end_spec : {M : Type 1} → statement M
+date_end_spec =
     tie.close
     (tie.spec
     (λ c κs. search laws)

@@ -5,8 +5,8 @@ use Rattle.lines.proofs.line.find_line.Tie as tie
 
 ruleset laws = (behind-fits, tabs-fit, date-fits, found-no-number, found-no-kind, found-line, rules)
 
-pub find-line-spec : {M : Type 1} → statement M
-find-line-spec =
+pub find_line_spec : {M : Type 1} → statement M
+find_line_spec =
     tie.close
     (tie.spec
     (λ c κs. search laws)

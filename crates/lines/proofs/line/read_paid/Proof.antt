@@ -5,8 +5,8 @@ use Rattle.lines.proofs.line.read_paid.Tie as tie
 
 ruleset laws = (behind-fits, end_fits, paid-off, paid-no-amount, paid-no-receipt, paid-good, rules)
 
-pub read-paid-spec : {M : Type 1} → statement M
-read-paid-spec =
+pub read_paid_spec : {M : Type 1} → statement M
+read_paid_spec =
     tie.close
     (tie.spec
     (λ c κs. search laws)

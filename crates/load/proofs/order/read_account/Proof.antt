@@ -5,8 +5,8 @@ use Rattle.load.proofs.order.read_account.Tie as tie
 
 ruleset laws = (account-is, rules)
 
-pub read-account-spec : {M : Type 1} → statement M
-read-account-spec =
+pub read_account_spec : {M : Type 1} → statement M
+read_account_spec =
     tie.close
     (tie.spec
     (λ c κs. search laws)

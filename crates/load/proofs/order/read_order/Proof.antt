@@ -5,8 +5,8 @@ use Rattle.load.proofs.order.read_order.Tie as tie
 
 ruleset laws = (order_is, rules)
 
-pub read-order-spec : {M : Type 1} → statement M
-read-order-spec =
+pub read_order_spec : {M : Type 1} → statement M
+read_order_spec =
     tie.close
     (tie.spec
     (λ c κs. search laws)

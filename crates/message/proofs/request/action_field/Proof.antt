@@ -5,8 +5,8 @@ use Rattle.message.proofs.request.action_field.Tie as tie
 
 ruleset laws = (held-read, action-none, action-empty, rules)
 
-pub action-field-spec : {M : Type 1} → statement M
-action-field-spec =
+pub action_field_spec : {M : Type 1} → statement M
+action_field_spec =
     tie.close
     (tie.spec
     (λ c. search laws)

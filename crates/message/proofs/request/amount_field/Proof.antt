@@ -5,8 +5,8 @@ use Rattle.message.proofs.request.amount_field.Tie as tie
 
 ruleset laws = (is-amount, rules)
 
-pub amount-field-spec : {M : Type 1} → statement M
-amount-field-spec =
+pub amount_field_spec : {M : Type 1} → statement M
+amount_field_spec =
     tie.close
     (tie.spec
     (λ c κs. search laws)

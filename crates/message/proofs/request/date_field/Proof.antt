@@ -5,8 +5,8 @@ use Rattle.message.proofs.request.date_field.Tie as tie
 
 ruleset laws = (date-unused, date-fits, date-kept, rules)
 
-pub date-field-spec : {M : Type 1} → statement M
-date-field-spec =
+pub date_field_spec : {M : Type 1} → statement M
+date_field_spec =
     tie.close
     (tie.spec
     (λ c κs. search laws)

@@ -5,8 +5,8 @@ use Rattle.message.proofs.request.date_good.Tie as tie
 
 ruleset laws = (date-lacked, date-judged, rules)
 
-pub date-good-spec : {M : Type 1} → statement M
-date-good-spec =
+pub date_good_spec : {M : Type 1} → statement M
+date_good_spec =
     tie.close
     (tie.spec
     (λ c κs. search laws)

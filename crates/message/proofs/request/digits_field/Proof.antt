@@ -5,8 +5,8 @@ use Rattle.message.proofs.request.digits_field.Tie as tie
 
 ruleset laws = (field-lacks, field-read, digits-none, digits-empty, rules)
 
-pub digits-field-spec : {M : Type 1} → statement M
-digits-field-spec =
+pub digits_field_spec : {M : Type 1} → statement M
+digits_field_spec =
     tie.close
     (tie.spec
     (λ c. search laws)

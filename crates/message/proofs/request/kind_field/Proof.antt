@@ -5,8 +5,8 @@ use Rattle.message.proofs.request.kind_field.Tie as tie
 
 ruleset laws = (kind-given, kind-absent, kind-lacks, rules)
 
-pub kind-field-spec : {M : Type 1} → statement M
-kind-field-spec =
+pub kind_field_spec : {M : Type 1} → statement M
+kind_field_spec =
     tie.close
     (tie.spec
     (λ c κs. search laws)

@@ -5,8 +5,8 @@ use Rattle.message.proofs.request.later_figures.Tie as tie
 
 ruleset laws = (no-amount, no-date, no-reason, all-later, rules)
 
-pub later-figures-spec : {M : Type 1} → statement M
-later-figures-spec =
+pub later_figures_spec : {M : Type 1} → statement M
+later_figures_spec =
     tie.close
     (tie.spec
     (λ c κs. search laws)

@@ -5,8 +5,8 @@ use Rattle.message.proofs.request.number_field.Tie as tie
 
 ruleset laws = (number-unused, number_fits, number-kept, rules)
 
-pub number-field-spec : {M : Type 1} → statement M
-number-field-spec =
+pub number_field_spec : {M : Type 1} → statement M
+number_field_spec =
     tie.close
     (tie.spec
     (λ c κs. search laws)

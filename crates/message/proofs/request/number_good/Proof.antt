@@ -5,8 +5,8 @@ use Rattle.message.proofs.request.number_good.Tie as tie
 
 ruleset laws = (number-lacked, number-judged, rules)
 
-pub number-good-spec : {M : Type 1} → statement M
-number-good-spec =
+pub number_good_spec : {M : Type 1} → statement M
+number_good_spec =
     tie.close
     (tie.spec
     (λ c κs. search laws)

@@ -6,9 +6,9 @@ use Rattle.message.proofs.request.read_by.Tie as tie
 
 ruleset laws = (read_at, rules)
 
-pub read-by-spec : {M : Type 1} → statement M
+pub read_by_spec : {M : Type 1} → statement M
 unfolding read_by
-read-by-spec =
+read_by_spec =
     tie.close
     (tie.spec
     (λ c. search laws)

@@ -5,8 +5,8 @@ use Rattle.message.proofs.request.read_fields.Tie as tie
 
 ruleset laws = (is-faulty, number-readable, date-readable, all_read, rules)
 
-pub read-fields-spec : {M : Type 1} → statement M
-read-fields-spec =
+pub read_fields_spec : {M : Type 1} → statement M
+read_fields_spec =
     tie.close
     (tie.spec
     (λ c κs. search laws)

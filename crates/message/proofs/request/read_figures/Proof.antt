@@ -5,8 +5,8 @@ use Rattle.message.proofs.request.read_figures.Tie as tie
 
 ruleset laws = (no-receipt, no-number, no_kind, then-later, rules)
 
-pub read-figures-spec : {M : Type 1} → statement M
-read-figures-spec =
+pub read_figures_spec : {M : Type 1} → statement M
+read_figures_spec =
     tie.close
     (tie.spec
     (λ c κs. search laws)

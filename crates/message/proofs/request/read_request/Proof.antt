@@ -5,8 +5,8 @@ use Rattle.message.proofs.request.read_request.Tie as tie
 
 ruleset laws = (too_long, is-broken, no-action, by-action, rules)
 
-pub read-request-spec : {M : Type 1} → statement M
-read-request-spec =
+pub read_request_spec : {M : Type 1} → statement M
+read_request_spec =
     tie.close
     (tie.spec
     (λ c κs. search laws)

@@ -5,8 +5,8 @@ use Rattle.message.proofs.request.reason_field.Tie as tie
 
 ruleset laws = (is-reason, rules)
 
-pub reason-field-spec : {M : Type 1} → statement M
-reason-field-spec =
+pub reason_field_spec : {M : Type 1} → statement M
+reason_field_spec =
     tie.close
     (tie.spec
     (λ c κs. search laws)

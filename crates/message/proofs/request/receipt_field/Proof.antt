@@ -5,8 +5,8 @@ use Rattle.message.proofs.request.receipt_field.Tie as tie
 
 ruleset laws = (is-receipt, rules)
 
-pub receipt-field-spec : {M : Type 1} → statement M
-receipt-field-spec =
+pub receipt_field_spec : {M : Type 1} → statement M
+receipt_field_spec =
     tie.close
     (tie.spec
     (λ c κs. search laws)

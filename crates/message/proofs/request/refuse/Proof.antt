@@ -5,8 +5,8 @@ use Rattle.message.proofs.request.refuse.Tie as tie
 
 ruleset laws = (refused-is, rules)
 
-pub refuse-spec : {M : Type 1} → statement M
-refuse-spec =
+pub refuse_spec : {M : Type 1} → statement M
+refuse_spec =
     tie.close
     (tie.spec
     (λ c. search laws))

@@ -10,8 +10,8 @@ returns c =
     let d = p.before in
     ask-done _ _ _ _ _ d.before.field_at.ensures _ d.read-date.ensures _ p.params_in.ensures _ a.deliver-lent.ensures (c.answered.ensures _ _)
 
-pub ask-turn-spec : {M : Type 1} → statement M
-ask-turn-spec =
+pub ask_turn_spec : {M : Type 1} → statement M
+ask_turn_spec =
     tie.close
     (tie.spec
     (λ c κs. search rules)

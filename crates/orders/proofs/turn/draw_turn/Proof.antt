@@ -16,8 +16,8 @@ returns-2 c =
     let d = g.before.before in
     draw-done _ _ _ _ _ (c.answered.ensures _ _) _ s.subject-of.ensures.0 _ s.subject-of.ensures.1 _ d.before.field_at.ensures _ d.read-digits.ensures _ g.kopecks.given.1 a.draw-lent.ensures
 
-pub draw-turn-spec : {M : Type 1} → statement M
-draw-turn-spec =
+pub draw_turn_spec : {M : Type 1} → statement M
+draw_turn_spec =
     tie.close
     (tie.spec
     (λ c κs. search rules)

@@ -11,8 +11,8 @@ returns c =
 returns-2 : tie.Need-returns-2
 returns-2 c = turn-start _ _ _ _ c.before.if1.false (c.start-turn.ensures _ _)
 
-pub line-turn-spec : {M : Type 1} → statement M
-line-turn-spec =
+pub line_turn_spec : {M : Type 1} → statement M
+line_turn_spec =
     tie.close
     (tie.spec
     (λ c κs. search rules)

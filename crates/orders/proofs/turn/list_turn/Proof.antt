@@ -23,8 +23,8 @@ returns-3 c =
     let d = g.before.before in
     list-day _ _ _ _ _ d.before.field_at.ensures _ d.read-day.ensures _ g.d.given.1 _ v.table-good.ensures.0 c.if1.false refl
 
-pub list-turn-spec : {M : Type 1} → statement M
-list-turn-spec =
+pub list_turn_spec : {M : Type 1} → statement M
+list_turn_spec =
     tie.close
     (tie.spec
     (λ c κs. search rules)

@@ -9,8 +9,8 @@ returns c =
     let s = a.before.before.before.before in
     open_done _ _ _ _ _ (c.answered.ensures _ _) _ s.subject-of.ensures.0 _ s.subject-of.ensures.1 a.open_lent.ensures
 
-pub open-turn-spec : {M : Type 1} → statement M
-open-turn-spec =
+pub open_turn_spec : {M : Type 1} → statement M
+open_turn_spec =
     tie.close
     (tie.spec
     (λ c κs. search rules)

@@ -38,8 +38,8 @@ returns-5 c =
     let e = g.before.before in
     order-none _ _ _ _ _ e.before.has-form.ensures e.if1.false _ g.before.has-form2.ensures g.if2.false _ h.before.has-least.ensures h.if3.false _ k.before.has-form3.ensures k.if4.false (c.not-read.ensures _ _)
 
-pub order-turn-spec : {M : Type 1} → statement M
-order-turn-spec =
+pub order_turn_spec : {M : Type 1} → statement M
+order_turn_spec =
     tie.close
     (tie.spec
     (λ c κs. search rules)

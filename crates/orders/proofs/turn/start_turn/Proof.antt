@@ -24,8 +24,8 @@ returns-3 c a t =
     let e = f.before in
     start-good _ _ _ _ _ e.before.has-form.ensures e.if1.false _ f.field_at.ensures _ d.read-day.ensures _ g.d.given.1 _ (c.answered.ensures a t) refl
 
-pub start-turn-spec : {M : Type 1} → statement M
-start-turn-spec =
+pub start_turn_spec : {M : Type 1} → statement M
+start_turn_spec =
     tie.close
     (tie.spec
     (λ c κs. search rules)

@@ -6,9 +6,9 @@ use Rattle.parameters.proofs.action.later_index.Tie as tie
 
 ruleset laws = (picked, passed, rules)
 
-pub later-index-spec : {M : Type 1} → statement M
+pub later_index_spec : {M : Type 1} → statement M
 unfolding later_index
-later-index-spec =
+later_index_spec =
     tie.close
     (tie.spec
     (λ c. search laws)

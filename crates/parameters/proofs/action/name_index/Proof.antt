@@ -7,9 +7,9 @@ use Rattle.parameters.proofs.action.name_index.Tie as tie
 
 ruleset laws = (picked, passed, rules)
 
-pub name-index-spec : {M : Type 1} → statement M
+pub name_index_spec : {M : Type 1} → statement M
 unfolding name_index later_index
-name-index-spec =
+name_index_spec =
     tie.close
     (tie.spec
     (λ c. search laws)

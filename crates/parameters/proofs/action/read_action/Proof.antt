@@ -6,9 +6,9 @@ use Rattle.parameters.proofs.action.read_action.Tie as tie
 
 ruleset laws = (picked, passed, rules)
 
-pub read-action-spec : {M : Type 1} → statement M
+pub read_action_spec : {M : Type 1} → statement M
 unfolding action_of action_word
-read-action-spec =
+read_action_spec =
     tie.close
     (tie.spec
     (λ c. search laws)

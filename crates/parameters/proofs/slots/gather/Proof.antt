@@ -31,8 +31,8 @@ loop-again-2 c =
     let v = i.before.loop.invariant in
     (search next-inside, search rules, gather-new _ _ _ _ _ _ refl p.read-piece.ensures _ v.1 v.2 i.loop-test.true f.find-byte.ensures named.if1.false (search rules) (search rules))
 
-pub gather-spec : {M : Type 1} → statement M
-gather-spec =
+pub gather_spec : {M : Type 1} → statement M
+gather_spec =
     tie.close
     (tie.spec
     invariant-loop

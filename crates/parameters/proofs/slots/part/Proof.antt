@@ -5,8 +5,8 @@ use Rattle.parameters.proofs.slots.part.Tie as tie
 
 ruleset laws = (part-past, part_none, part-is, rules)
 
-pub part-spec : {M : Type 1} → statement M
-part-spec =
+pub part_spec : {M : Type 1} → statement M
+part_spec =
     tie.close
     (tie.spec
     (λ c. search laws)

@@ -5,8 +5,8 @@ use Rattle.parameters.proofs.slots.read_piece.Tie as tie
 
 ruleset laws = (piece-empty, name-size, piece-alone, piece-bad, place-fits, piece-placed, rules)
 
-pub read-piece-spec : {M : Type 1} → statement M
-read-piece-spec =
+pub read_piece_spec : {M : Type 1} → statement M
+read_piece_spec =
     tie.close
     (tie.spec
     (λ c κs. search laws)

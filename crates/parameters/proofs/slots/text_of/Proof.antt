@@ -5,8 +5,8 @@ use Rattle.parameters.proofs.slots.text_of.Tie as tie
 
 ruleset laws = (text-clipped, rules)
 
-pub text-of-spec : {M : Type 1} → statement M
-text-of-spec =
+pub text_of_spec : {M : Type 1} → statement M
+text_of_spec =
     tie.close
     (tie.spec
     (λ c. search laws)

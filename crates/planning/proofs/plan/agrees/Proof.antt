@@ -5,8 +5,8 @@ use Rattle.planning.proofs.plan.agrees.Tie as tie
 
 ruleset laws = (told_at, rules)
 
-pub agrees-spec : {M : Type 1} → statement M
-agrees-spec =
+pub agrees_spec : {M : Type 1} → statement M
+agrees_spec =
     tie.close
     (tie.spec
     (λ c. search laws)

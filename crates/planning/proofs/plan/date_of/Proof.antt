@@ -7,9 +7,9 @@ use Rattle.planning.proofs.plan.date_of.Tie as tie
 
 ruleset laws = (date-record, date-own, rules)
 
-pub date-of-spec : {M : Type 1} → statement M
+pub date_of_spec : {M : Type 1} → statement M
 unfolding date_of is_cancel
-date-of-spec =
+date_of_spec =
     tie.close
     (tie.spec
     (λ c κs. search laws)

@@ -5,8 +5,8 @@ use Rattle.planning.proofs.plan.found_record.Tie as tie
 
 ruleset laws = (record-at, record-none, place-below, rules)
 
-pub found-record-spec : {M : Type 1} → statement M
-found-record-spec =
+pub found_record_spec : {M : Type 1} → statement M
+found_record_spec =
     tie.close
     (tie.spec
     (λ c. search laws)

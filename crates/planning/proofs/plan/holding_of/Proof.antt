@@ -5,8 +5,8 @@ use Rattle.planning.proofs.plan.holding_of.Tie as tie
 
 ruleset laws = (account-record, account-own, rules)
 
-pub holding-of-spec : {M : Type 1} → statement M
-holding-of-spec =
+pub holding_of_spec : {M : Type 1} → statement M
+holding_of_spec =
     tie.close
     (tie.spec
     (λ c κs. search laws)

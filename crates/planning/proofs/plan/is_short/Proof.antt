@@ -6,8 +6,8 @@ use Rattle.planning.proofs.plan.is_short.Tie as tie
 
 ruleset laws = (below-is, short-unknown, short-known, rules)
 
-pub is-short-spec : {M : Type 1} → statement M
-is-short-spec =
+pub is_short_spec : {M : Type 1} → statement M
+is_short_spec =
     tie.close
     (tie.spec
     (λ c κs. search laws)

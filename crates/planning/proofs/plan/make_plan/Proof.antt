@@ -5,8 +5,8 @@ use Rattle.planning.proofs.plan.make_plan.Tie as tie
 
 ruleset laws = (rules)
 
-pub make-plan-spec : {M : Type 1} → statement M
-make-plan-spec =
+pub make_plan_spec : {M : Type 1} → statement M
+make_plan_spec =
     tie.close
     (tie.spec
     (λ c κs. search laws)

@@ -5,8 +5,8 @@ use Rattle.planning.proofs.plan.standing.Tie as tie
 
 ruleset laws = (stands-other, stands-done, stands-cancelled, rules)
 
-pub standing-spec : {M : Type 1} → statement M
-standing-spec =
+pub standing_spec : {M : Type 1} → statement M
+standing_spec =
     tie.close
     (tie.spec
     (λ c. search laws)

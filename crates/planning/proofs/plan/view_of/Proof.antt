@@ -5,8 +5,8 @@ use Rattle.planning.proofs.plan.view_of.Tie as tie
 
 ruleset laws = (rules)
 
-pub view-of-spec : {M : Type 1} → statement M
-view-of-spec =
+pub view_of_spec : {M : Type 1} → statement M
+view_of_spec =
     tie.close
     (tie.spec
     (λ c κs. search laws)

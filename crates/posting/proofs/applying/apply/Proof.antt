@@ -36,8 +36,8 @@ returns-3 c =
     let h = s.requires.1.1.room _ k.v2.given.1 in
     (applied-posts _ _ _ _ s.requires.0.0 _ _ _ _ _ _ k.v2.given.1 h s.requires.0.1 w.post.ensures (search rules) (search rules), place-within _ _ _ (search rules) (s.requires.1.1.posts _ k.v2.given.1))
 
-pub apply-spec : {M : Type 1} → statement M
-apply-spec =
+pub apply_spec : {M : Type 1} → statement M
+apply_spec =
     tie.close
     (tie.spec
     (λ c. search rules)

@@ -13,8 +13,8 @@ returns c g e =
     let t' : Rows = record { nums = w.store.new.0; numbers = w.store.new.1.0; dates = w.store.new.1.1.0 } in
     stored-as t s.args.used p.posted-record.result _ (p.posted-record.ensures g e) t' w.store.ensures
 
-pub post-spec : {M : Type 1} → statement M
-post-spec =
+pub post_spec : {M : Type 1} → statement M
+post_spec =
     tie.close
     (tie.spec
     (λ c κs. search rules)

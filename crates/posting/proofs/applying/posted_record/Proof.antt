@@ -3,9 +3,9 @@ use Rattle.posting.specs.Posting.{posted_record}
 use Rattle.posting.proofs.applying.posted_record.Statement.{statement}
 use Rattle.posting.proofs.applying.posted_record.Tie as tie
 
-pub posted-record-spec : {M : Type 1} → statement M
+pub posted_record_spec : {M : Type 1} → statement M
 unfolding posted_record
-posted-record-spec =
+posted_record_spec =
     tie.close
     (tie.spec
     (λ c κs. search rules)

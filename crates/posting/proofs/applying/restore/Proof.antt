@@ -16,8 +16,8 @@ returns c =
     let t' : Rows = record { nums = w.store.new.0; numbers = w.store.new.1.0; dates = w.store.new.1.1.0 } in
     stored-as t s.args.i m.restore-record.result _ (m.restore-record.ensures ∙ ap restored l.load.ensures.0) t' w.store.ensures
 
-pub restore-spec : {M : Type 1} → statement M
-restore-spec =
+pub restore_spec : {M : Type 1} → statement M
+restore_spec =
     tie.close
     (tie.spec
     (λ c κs. search rules)

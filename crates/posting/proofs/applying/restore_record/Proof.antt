@@ -5,9 +5,9 @@ use Rattle.posting.proofs.applying.restore_record.Tie as tie
 
 ruleset laws = (rules)
 
-pub restore-record-spec : {M : Type 1} → statement M
+pub restore_record_spec : {M : Type 1} → statement M
 unfolding restored
-restore-record-spec =
+restore_record_spec =
     tie.close
     (tie.spec
     (λ c. search laws))

@@ -14,8 +14,8 @@ returns c =
 
 ruleset laws = (chained-slots, chained-room, head_in, rules)
 
-pub append-spec : {M : Type 1} → statement M
-append-spec =
+pub append_spec : {M : Type 1} → statement M
+append_spec =
     tie.close
     (tie.spec
     (λ c. search laws)

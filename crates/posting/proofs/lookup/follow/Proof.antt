@@ -5,8 +5,8 @@ use Rattle.posting.proofs.lookup.follow.Tie as tie
 
 ruleset laws = (follow-more, follow-none, rules)
 
-pub follow-spec : {M : Type 1} → statement M
-follow-spec =
+pub follow_spec : {M : Type 1} → statement M
+follow_spec =
     tie.close
     (tie.spec
     (λ c κs. search laws)

@@ -5,8 +5,8 @@ use Rattle.posting.proofs.lookup.is_sought.Tie as tie
 
 ruleset laws = (same-receipt, is-matched, is-done, not_done, rules)
 
-pub is-sought-spec : {M : Type 1} → statement M
-is-sought-spec =
+pub is_sought_spec : {M : Type 1} → statement M
+is_sought_spec =
     tie.close
     (tie.spec
     (λ c. search laws)

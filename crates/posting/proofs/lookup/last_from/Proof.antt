@@ -17,8 +17,8 @@ decreases-loop nums used heads next i k₀ at₀ k at = used - k
 
 ruleset laws = (chained-room, onward-in, last-slot, onward-less, chain-ends, rules)
 
-pub last-from-spec : {M : Type 1} → statement M
-last-from-spec =
+pub last_from_spec : {M : Type 1} → statement M
+last_from_spec =
     tie.close
     (tie.spec
     invariant-loop

@@ -17,8 +17,8 @@ decreases-loop nums used heads₀ next₀ i₀ heads next i = i
 
 ruleset laws = (chained-none, chained-turn, chained-all, chained-room, chained-slots, rules)
 
-pub link-records-spec : {M : Type 1} → statement M
-link-records-spec =
+pub link_records_spec : {M : Type 1} → statement M
+link_records_spec =
     tie.close
     (tie.spec
     invariant-loop

@@ -5,8 +5,8 @@ use Rattle.posting.proofs.matching.matches_record.Tie as tie
 
 ruleset laws = (other-receipt, four-match, rules)
 
-pub matches-record-spec : {M : Type 1} → statement M
-matches-record-spec =
+pub matches_record_spec : {M : Type 1} → statement M
+matches_record_spec =
     tie.close
     (tie.spec
     (λ c. search laws)

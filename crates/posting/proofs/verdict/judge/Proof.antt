@@ -13,8 +13,8 @@ load-requires c κs =
     let e = k.found.given.1 in
     (match-nums t _ s.args.x _ f.find.ensures s.requires.0.0 _ e, match-numbers t _ s.args.x _ f.find.ensures s.requires.0.0 _ e, match-dates t _ s.args.x _ f.find.ensures s.requires.0.0 _ e)
 
-pub judge-spec : {M : Type 1} → statement M
-judge-spec =
+pub judge_spec : {M : Type 1} → statement M
+judge_spec =
     tie.close
     (tie.spec
     (λ c κs. search rules)

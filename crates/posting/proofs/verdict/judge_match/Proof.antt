@@ -5,8 +5,8 @@ use Rattle.posting.proofs.verdict.judge_match.Tie as tie
 
 ruleset laws = (match-done, match-undone, rules)
 
-pub judge-match-spec : {M : Type 1} → statement M
-judge-match-spec =
+pub judge_match_spec : {M : Type 1} → statement M
+judge_match_spec =
     tie.close
     (tie.spec
     (λ c. search laws)

@@ -5,8 +5,8 @@ use Rattle.posting.proofs.verdict.judge_new.Tie as tie
 
 ruleset laws = (new-full, new-room, rules)
 
-pub judge-new-spec : {M : Type 1} → statement M
-judge-new-spec =
+pub judge_new_spec : {M : Type 1} → statement M
+judge_new_spec =
     tie.close
     (tie.spec
     (λ c. search laws)

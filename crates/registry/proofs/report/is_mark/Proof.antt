@@ -5,8 +5,8 @@ use Rattle.registry.proofs.report.is_mark.Tie as tie
 
 ruleset laws = (mark-low, mark-not-low, rules)
 
-pub is-mark-spec : {M : Type 1} → statement M
-is-mark-spec =
+pub is_mark_spec : {M : Type 1} → statement M
+is_mark_spec =
     tie.close
     (tie.spec
     (λ c. search laws)

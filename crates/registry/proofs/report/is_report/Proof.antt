@@ -16,8 +16,8 @@ decreases-loop s n i₀ i = length s - i
 
 ruleset laws = (other-size, bad-mark, all-marks, mark-step, rules)
 
-pub is-report-spec : {M : Type 1} → statement M
-is-report-spec =
+pub is_report_spec : {M : Type 1} → statement M
+is_report_spec =
     tie.close
     (tie.spec
     invariant-loop

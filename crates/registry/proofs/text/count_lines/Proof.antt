@@ -16,8 +16,8 @@ decreases-loop s n₀ at₀ n at = length s - at
 
 ruleset laws = (count-pass, next-in, count-at-rest, count-end, zero-add, rules)
 
-pub count-lines-spec : {M : Type 1} → statement M
-count-lines-spec =
+pub count_lines_spec : {M : Type 1} → statement M
+count_lines_spec =
     tie.close
     (tie.spec
     invariant-loop

@@ -15,8 +15,8 @@ decreases-loop s at last i₀ i = length s - i
 
 ruleset laws = (end-pass, end-past, end-here, end-last, far-inside, far-end, rules)
 
-pub end-of-line-spec : {M : Type 1} → statement M
-end-of-line-spec =
+pub end_of_line_spec : {M : Type 1} → statement M
+end_of_line_spec =
     tie.close
     (tie.spec
     invariant-loop

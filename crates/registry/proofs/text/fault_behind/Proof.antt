@@ -5,8 +5,8 @@ use Rattle.registry.proofs.text.fault_behind.Tie as tie
 
 ruleset laws = (behind-many, behind-few, rules)
 
-pub fault-behind-spec : {M : Type 1} → statement M
-fault-behind-spec =
+pub fault_behind_spec : {M : Type 1} → statement M
+fault_behind_spec =
     tie.close
     (tie.spec
     (λ c. search laws)

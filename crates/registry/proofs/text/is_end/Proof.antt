@@ -5,8 +5,8 @@ use Rattle.registry.proofs.text.is_end.Tie as tie
 
 ruleset laws = (end-two, end-other, rules)
 
-pub is-end-spec : {M : Type 1} → statement M
-is-end-spec =
+pub is_end_spec : {M : Type 1} → statement M
+is_end_spec =
     tie.close
     (tie.spec
     (λ c. search laws)

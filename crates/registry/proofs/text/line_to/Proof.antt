@@ -5,8 +5,8 @@ use Rattle.registry.proofs.text.line_to.Tie as tie
 
 ruleset laws = (line-here, line-under, rules)
 
-pub line-to-spec : {M : Type 1} → statement M
-line-to-spec =
+pub line_to_spec : {M : Type 1} → statement M
+line_to_spec =
     tie.close
     (tie.spec
     (λ c κs. search laws)

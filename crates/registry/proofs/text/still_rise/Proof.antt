@@ -5,8 +5,8 @@ use Rattle.registry.proofs.text.still_rise.Tie as tie
 
 ruleset laws = (rise-on, rules)
 
-pub still-rise-spec : {M : Type 1} → statement M
-still-rise-spec =
+pub still_rise_spec : {M : Type 1} → statement M
+still_rise_spec =
     tie.close
     (tie.spec
     (λ c. search laws)

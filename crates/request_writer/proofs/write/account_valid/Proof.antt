@@ -5,8 +5,8 @@ use Rattle.request_writer.proofs.write.account_valid.Tie as tie
 
 ruleset laws = (and-stops, and-goes, rules)
 
-pub account-valid-spec : {M : Type 1} → statement M
-account-valid-spec =
+pub account_valid_spec : {M : Type 1} → statement M
+account_valid_spec =
     tie.close
     (tie.spec
     (λ c κs. search laws)

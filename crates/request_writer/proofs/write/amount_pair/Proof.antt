@@ -5,8 +5,8 @@ use Rattle.request_writer.proofs.write.amount_pair.Tie as tie
 
 ruleset laws = (amount-cursor, amount-buffer, rules)
 
-pub amount-pair-spec : {M : Type 1} → statement M
-amount-pair-spec =
+pub amount_pair_spec : {M : Type 1} → statement M
+amount_pair_spec =
     tie.close
     (tie.spec
     (λ c. search laws)

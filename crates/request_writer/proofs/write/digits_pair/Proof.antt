@@ -5,8 +5,8 @@ use Rattle.request_writer.proofs.write.digits_pair.Tie as tie
 
 ruleset laws = (digits-cursor, digits-buffer, rules)
 
-pub digits-pair-spec : {M : Type 1} → statement M
-digits-pair-spec =
+pub digits_pair_spec : {M : Type 1} → statement M
+digits_pair_spec =
     tie.close
     (tie.spec
     (λ c. search laws)

@@ -5,8 +5,8 @@ use Rattle.request_writer.proofs.write.is_asked.Tie as tie
 
 ruleset laws = (and-stops, and-goes, asked-part, asked_is, rules)
 
-pub is-asked-spec : {M : Type 1} → statement M
-is-asked-spec =
+pub is_asked_spec : {M : Type 1} → statement M
+is_asked_spec =
     tie.close
     (tie.spec
     (λ c κs. search laws)

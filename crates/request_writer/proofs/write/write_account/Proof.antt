@@ -5,8 +5,8 @@ use Rattle.request_writer.proofs.write.write_account.Tie as tie
 
 ruleset laws = (account-cursor, account-buffer, rules)
 
-pub write-account-spec : {M : Type 1} → statement M
-write-account-spec =
+pub write_account_spec : {M : Type 1} → statement M
+write_account_spec =
     tie.close
     (tie.spec
     (λ c κs. search laws)

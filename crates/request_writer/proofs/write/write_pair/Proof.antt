@@ -5,8 +5,8 @@ use Rattle.request_writer.proofs.write.write_pair.Tie as tie
 
 ruleset laws = (pair-lacks-cursor, pair-lacks-buffer, pair-cursor, pair-buffer, rules)
 
-pub write-pair-spec : {M : Type 1} → statement M
-write-pair-spec =
+pub write_pair_spec : {M : Type 1} → statement M
+write_pair_spec =
     tie.close
     (tie.spec
     (λ c. search laws)

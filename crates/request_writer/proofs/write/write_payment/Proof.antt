@@ -5,8 +5,8 @@ use Rattle.request_writer.proofs.write.write_payment.Tie as tie
 
 ruleset laws = (payment-cursor, payment-buffer, rules)
 
-pub write-payment-spec : {M : Type 1} → statement M
-write-payment-spec =
+pub write_payment_spec : {M : Type 1} → statement M
+write_payment_spec =
     tie.close
     (tie.spec
     (λ c κs. search laws)

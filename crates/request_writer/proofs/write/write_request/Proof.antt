@@ -5,8 +5,8 @@ use Rattle.request_writer.proofs.write.write_request.Tie as tie
 
 ruleset laws = (refused-cursor, refused-kept, request-cursor, request-written, rules)
 
-pub write-request-spec : {M : Type 1} → statement M
-write-request-spec =
+pub write_request_spec : {M : Type 1} → statement M
+write_request_spec =
     tie.close
     (tie.spec
     (λ c κs. search laws)

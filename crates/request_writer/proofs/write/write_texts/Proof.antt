@@ -5,8 +5,8 @@ use Rattle.request_writer.proofs.write.write_texts.Tie as tie
 
 ruleset laws = (request-cursor, request-buffer, rules)
 
-pub write-texts-spec : {M : Type 1} → statement M
-write-texts-spec =
+pub write_texts_spec : {M : Type 1} → statement M
+write_texts_spec =
     tie.close
     (tie.spec
     (λ c. search laws)

@@ -6,9 +6,9 @@ use Rattle.request_writer.proofs.write.write_word.Tie as tie
 
 ruleset laws = (word-cursor, word-written, rules)
 
-pub write-word-spec : {M : Type 1} → statement M
+pub write_word_spec : {M : Type 1} → statement M
 unfolding action_word
-write-word-spec =
+write_word_spec =
     tie.close
     (tie.spec
     (λ c. search laws)

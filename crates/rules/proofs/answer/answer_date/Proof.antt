@@ -5,8 +5,8 @@ use Rattle.rules.proofs.answer.answer_date.Tie as tie
 
 ruleset laws = (date-7, date-other, date-cancel, date-credit, rules)
 
-pub answer-date-spec : {M : Type 1} → statement M
-answer-date-spec =
+pub answer_date_spec : {M : Type 1} → statement M
+answer_date_spec =
     tie.close
     (tie.spec
     (λ c κs. search laws)

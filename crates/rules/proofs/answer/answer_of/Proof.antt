@@ -5,8 +5,8 @@ use Rattle.rules.proofs.answer.answer_of.Tie as tie
 
 ruleset laws = (answer-is, rules)
 
-pub answer-of-spec : {M : Type 1} → statement M
-answer-of-spec =
+pub answer_of_spec : {M : Type 1} → statement M
+answer_of_spec =
     tie.close
     (tie.spec
     (λ c κs. search laws)

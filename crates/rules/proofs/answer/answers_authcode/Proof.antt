@@ -6,9 +6,9 @@ use Rattle.rules.proofs.answer.answers_authcode.Tie as tie
 
 ruleset laws = (authcode-at, rules)
 
-pub answers-authcode-spec : {M : Type 1} → statement M
+pub answers_authcode_spec : {M : Type 1} → statement M
 unfolding answers_authcode
-answers-authcode-spec =
+answers_authcode_spec =
     tie.close
     (tie.spec
     (λ c. search laws)

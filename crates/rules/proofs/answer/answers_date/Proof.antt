@@ -6,9 +6,9 @@ use Rattle.rules.proofs.answer.answers_date.Tie as tie
 
 ruleset laws = (dated-at, rules)
 
-pub answers-date-spec : {M : Type 1} → statement M
+pub answers_date_spec : {M : Type 1} → statement M
 unfolding answers_date
-answers-date-spec =
+answers_date_spec =
     tie.close
     (tie.spec
     (λ c. search laws)

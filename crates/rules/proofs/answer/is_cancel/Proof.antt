@@ -6,9 +6,9 @@ use Rattle.rules.proofs.answer.is_cancel.Tie as tie
 
 ruleset laws = (cancel-at, rules)
 
-pub is-cancel-spec : {M : Type 1} → statement M
+pub is_cancel_spec : {M : Type 1} → statement M
 unfolding is_cancel
-is-cancel-spec =
+is_cancel_spec =
     tie.close
     (tie.spec
     (λ c. search laws)

@@ -5,8 +5,8 @@ use Rattle.rules.proofs.answer.is_settled.Tie as tie
 
 ruleset laws = (settled-0, settled-7, settled-not, rules)
 
-pub is-settled-spec : {M : Type 1} → statement M
-is-settled-spec =
+pub is_settled_spec : {M : Type 1} → statement M
+is_settled_spec =
     tie.close
     (tie.spec
     (λ c. search laws)

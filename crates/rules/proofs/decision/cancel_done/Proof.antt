@@ -6,9 +6,9 @@ use Rattle.rules.proofs.decision.cancel_done.Tie as tie
 
 ruleset laws = (cond_yes, cond_no, rules)
 
-pub cancel-done-spec : {M : Type 1} → statement M
+pub cancel_done_spec : {M : Type 1} → statement M
 unfolding cancel_done
-cancel-done-spec =
+cancel_done_spec =
     tie.close
     (tie.spec
     (λ c κs. search laws)

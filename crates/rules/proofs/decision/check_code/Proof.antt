@@ -6,9 +6,9 @@ use Rattle.rules.proofs.decision.check_code.Tie as tie
 
 ruleset laws = (cond_yes, cond_no, rules)
 
-pub check-code-spec : {M : Type 1} → statement M
+pub check_code_spec : {M : Type 1} → statement M
 unfolding check_code
-check-code-spec =
+check_code_spec =
     tie.close
     (tie.spec
     (λ c. search laws)

@@ -25,9 +25,9 @@ ranged c =
     (λ w. high-fault x.fault x.a x.s x.v r w.1.left w.2.taken c.keep13.ensures)
     c.before.if1.branch
 
-pub decide-spec : {M : Type 1} → statement M
+pub decide_spec : {M : Type 1} → statement M
 unfolding decision_on
-decide-spec =
+decide_spec =
     tie.close
     (tie.spec
     (λ c. search laws)

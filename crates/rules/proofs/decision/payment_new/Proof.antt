@@ -6,9 +6,9 @@ use Rattle.rules.proofs.decision.payment_new.Tie as tie
 
 ruleset laws = (cond_yes, cond_no, rules)
 
-pub payment-new-spec : {M : Type 1} → statement M
+pub payment_new_spec : {M : Type 1} → statement M
 unfolding payment_new
-payment-new-spec =
+payment_new_spec =
     tie.close
     (tie.spec
     (λ c κs. search laws)

@@ -5,8 +5,8 @@ use Rattle.samples.proofs.asked_vectors.write_request_at.Tie as tie
 
 ruleset laws = (part-size, rules)
 
-pub write-request-at-spec : {M : Type 1} → statement M
-write-request-at-spec =
+pub write_request_at_spec : {M : Type 1} → statement M
+write_request_at_spec =
     tie.close
     (tie.spec
     (λ c κs. search laws)

@@ -12,8 +12,8 @@ decreases-loop nums numbers dates n i₀ i = n - i
 
 ruleset laws = (read-nums, read-numbers, read-dates, rules)
 
-pub show-lines-spec : {M : Type 1} → statement M
-show-lines-spec =
+pub show_lines_spec : {M : Type 1} → statement M
+show_lines_spec =
     tie.close
     (tie.spec
     invariant-loop

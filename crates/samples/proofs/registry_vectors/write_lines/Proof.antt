@@ -13,8 +13,8 @@ decreases-loop n dst₀ at₀ i₀ dst at i = n - i
 
 ruleset laws = (rules)
 
-pub write-lines-spec : {M : Type 1} → statement M
-write-lines-spec =
+pub write_lines_spec : {M : Type 1} → statement M
+write_lines_spec =
     tie.close
     (tie.spec
     invariant-loop

@@ -5,8 +5,8 @@ use Rattle.samples.proofs.write_vectors.put_at.Tie as tie
 
 ruleset laws = (part-size, rules)
 
-pub put-at-spec : {M : Type 1} → statement M
-put-at-spec =
+pub put_at_spec : {M : Type 1} → statement M
+put_at_spec =
     tie.close
     (tie.spec
     (λ c κs. search laws)

@@ -5,8 +5,8 @@ use Rattle.settlement.proofs.settle.is_past.Tie as tie
 
 ruleset laws = (past-none, past-day, rules)
 
-pub is-past-spec : {M : Type 1} → statement M
-is-past-spec =
+pub is_past_spec : {M : Type 1} → statement M
+is_past_spec =
     tie.close
     (tie.spec
     (λ c κs. search laws)

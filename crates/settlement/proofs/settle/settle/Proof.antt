@@ -13,8 +13,8 @@ settle-text-requires c κs =
 
 ruleset laws = (not-admitted, settle-read, rules)
 
-pub settle-spec : {M : Type 1} → statement M
-settle-spec =
+pub settle_spec : {M : Type 1} → statement M
+settle_spec =
     tie.close
     (tie.spec
     (λ c κs. search laws)

@@ -5,8 +5,8 @@ use Rattle.settlement.proofs.settle.settle_read.Tie as tie
 
 ruleset laws = (read_next, read_past, read-later, rules)
 
-pub settle-read-spec : {M : Type 1} → statement M
-settle-read-spec =
+pub settle_read_spec : {M : Type 1} → statement M
+settle_read_spec =
     tie.close
     (tie.spec
     (λ c κs. search laws)

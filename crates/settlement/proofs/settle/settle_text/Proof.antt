@@ -17,8 +17,8 @@ returns-2 c =
 
 ruleset laws = (text-fault, rules)
 
-pub settle-text-spec : {M : Type 1} → statement M
-settle-text-spec =
+pub settle_text_spec : {M : Type 1} → statement M
+settle_text_spec =
     tie.close
     (tie.spec
     (λ c κs. search laws)

@@ -5,8 +5,8 @@ use Rattle.table.proofs.accounts.is_account.Tie as tie
 
 ruleset laws = (other-kind, same_kind, rules)
 
-pub is-account-spec : {M : Type 1} → statement M
-is-account-spec =
+pub is_account_spec : {M : Type 1} → statement M
+is_account_spec =
     tie.close
     (tie.spec
     (λ c. search laws)

@@ -5,8 +5,8 @@ use Rattle.table.proofs.accounts.is_less.Tie as tie
 
 ruleset laws = (less-is, rules)
 
-pub is-less-spec : {M : Type 1} → statement M
-is-less-spec =
+pub is_less_spec : {M : Type 1} → statement M
+is_less_spec =
     tie.close
     (tie.spec
     (λ c. search laws)

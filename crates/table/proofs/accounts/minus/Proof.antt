@@ -5,8 +5,8 @@ use Rattle.table.proofs.accounts.minus.Tie as tie
 
 ruleset laws = (minus-fits, minus_is, minus-near, rules)
 
-pub minus-spec : {M : Type 1} → statement M
-minus-spec =
+pub minus_spec : {M : Type 1} → statement M
+minus_spec =
     tie.close
     (tie.spec
     (λ c. search laws)

@@ -3,8 +3,8 @@ use Rattle.table.proofs.ColumnLaws.{account-in}
 use Rattle.table.proofs.columns.account_at.Statement.{statement}
 use Rattle.table.proofs.columns.account_at.Tie as tie
 
-pub account-at-spec : {M : Type 1} → statement M
-account-at-spec =
+pub account_at_spec : {M : Type 1} → statement M
+account_at_spec =
     tie.close
     (tie.spec
     (λ c. search rules)

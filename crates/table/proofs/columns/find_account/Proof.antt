@@ -5,8 +5,8 @@ use Rattle.table.proofs.columns.find_account.Tie as tie
 
 ruleset laws = (held_place, rules)
 
-pub find-account-spec : {M : Type 1} → statement M
-find-account-spec =
+pub find_account_spec : {M : Type 1} → statement M
+find_account_spec =
     tie.close
     (tie.spec
     (λ c κs. search laws)

@@ -18,8 +18,8 @@ decreases-loop names keys balances n kind count i₀ i = count - i
 
 ruleset laws = (account-start, column-other, column-here, column-none, rules)
 
-pub look-up-spec : {M : Type 1} → statement M
-look-up-spec =
+pub look_up_spec : {M : Type 1} → statement M
+look_up_spec =
     tie.close
     (tie.spec
     invariant-loop

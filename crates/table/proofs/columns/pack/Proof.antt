@@ -22,8 +22,8 @@ loop-again c =
     let v = c.before.before.loop.invariant in
     (search rules, search rules, packed_more _ _ _ v.2 (search rules) _ c.account-at2.ensures)
 
-pub pack-spec : {M : Type 1} → statement M
-pack-spec =
+pub pack_spec : {M : Type 1} → statement M
+pack_spec =
     tie.close
     (tie.spec
     invariant-loop

@@ -3,5 +3,5 @@ use Rattle.table.proofs.ColumnLaws.{balance-put}
 use Rattle.table.proofs.columns.put_balance.Statement.{statement}
 use Rattle.table.proofs.columns.put_balance.Tie as tie
 
-pub put-balance-spec : {M : Type 1} → statement M
-put-balance-spec = tie.close (tie.spec (λ c. search rules) (λ c. search rules) (λ c. search rules) (λ c. search (balance-put, rules)))
+pub put_balance_spec : {M : Type 1} → statement M
+put_balance_spec = tie.close (tie.spec (λ c. search rules) (λ c. search rules) (λ c. search rules) (λ c. search (balance-put, rules)))

@@ -21,8 +21,8 @@ loop-again c =
     let v = c.before.before.before.before.before.loop.invariant in
     (search rules, search rules, search rules, search rules, unpacked-more _ _ _ _ _ v.4 (search rules) (search rules) (search rules) _ _ _ refl refl (search (c.struct_told, rules)))
 
-pub unpack-spec : {M : Type 1} → statement M
-unpack-spec =
+pub unpack_spec : {M : Type 1} → statement M
+unpack_spec =
     tie.close
     (tie.spec
     invariant-loop

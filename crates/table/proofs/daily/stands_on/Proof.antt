@@ -5,8 +5,8 @@ use Rattle.table.proofs.daily.stands_on.Tie as tie
 
 ruleset laws = (stands-other, stands_of, rules)
 
-pub stands-on-spec : {M : Type 1} → statement M
-stands-on-spec =
+pub stands_on_spec : {M : Type 1} → statement M
+stands_on_spec =
     tie.close
     (tie.spec
     (λ c. search laws)

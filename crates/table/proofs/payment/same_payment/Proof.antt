@@ -5,8 +5,8 @@ use Rattle.table.proofs.payment.same_payment.Tie as tie
 
 ruleset laws = (other-number, other-type, other-amount, same-date, rules)
 
-pub same-payment-spec : {M : Type 1} → statement M
-same-payment-spec =
+pub same_payment_spec : {M : Type 1} → statement M
+same_payment_spec =
     tie.close
     (tie.spec
     (λ c κs. search laws)

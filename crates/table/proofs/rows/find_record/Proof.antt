@@ -18,8 +18,8 @@ decreases-loop nums numbers dates used receipt i₀ i = used - i
 
 ruleset laws = (receipt-start, receipt-here, receipt-other, receipt-none, rules)
 
-pub find-record-spec : {M : Type 1} → statement M
-find-record-spec =
+pub find_record_spec : {M : Type 1} → statement M
+find_record_spec =
     tie.close
     (tie.spec
     invariant-loop

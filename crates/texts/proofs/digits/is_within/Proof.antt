@@ -5,8 +5,8 @@ use Rattle.texts.proofs.digits.is_within.Tie as tie
 
 ruleset laws = (under, not-under, rules)
 
-pub is-within-spec : {M : Type 1} → statement M
-is-within-spec =
+pub is_within_spec : {M : Type 1} → statement M
+is_within_spec =
     tie.close
     (tie.spec
     (λ c. search laws)

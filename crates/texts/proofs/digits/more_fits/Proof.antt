@@ -5,8 +5,8 @@ use Rattle.texts.proofs.digits.more_fits.Tie as tie
 
 ruleset laws = (more-small, more-large, rules)
 
-pub more-fits-spec : {M : Type 1} → statement M
-more-fits-spec =
+pub more_fits_spec : {M : Type 1} → statement M
+more_fits_spec =
     tie.close
     (tie.spec
     (λ c. search laws)

@@ -9,20 +9,20 @@ use Rattle.texts.specs.Digits.{is_digit, value_after}
 use Rattle.texts.proofs.digits.read_digits.Statement.{statement}
 use Rattle.texts.proofs.digits.read_digits.Tie as tie
 
-abbrev invariant-loop : tie.invariant-loop
-invariant-loop s most value₀ i₀ value i = (i ≤ length s) × (value < 2 ^ 64) × (every is_digit s ≡ every is_digit (drop i s)) × (value_after 0 s ≡ value_after value (drop i s))
+abbrev invariant-loop-i : tie.invariant-loop-i
+invariant-loop-i s most value₀ i₀ value i = (i ≤ length s) × (value < 2 ^ 64) × (every is_digit s ≡ every is_digit (drop i s)) × (value_after 0 s ≡ value_after value (drop i s))
 
-abbrev decreases-loop : tie.decreases-loop
-decreases-loop s most value₀ i₀ value i = length s - i
+abbrev decreases-loop-i : tie.decreases-loop-i
+decreases-loop-i s most value₀ i₀ value i = length s - i
 
 ruleset laws = (read-empty, read-long, read_low, read-high, read-over, more-below, more-tens, more-sum, pass-digit, pass-value, read-value, rules)
 
-pub read-digits-spec : {M : Type 1} → statement M
-read-digits-spec =
+pub read_digits_spec : {M : Type 1} → statement M
+read_digits_spec =
     tie.close
     (tie.spec
-    invariant-loop
-    decreases-loop
+    invariant-loop-i
+    decreases-loop-i
     (λ c. search laws)
     (λ c. search laws)
     (λ c. search laws)

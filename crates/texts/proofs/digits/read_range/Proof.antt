@@ -5,8 +5,8 @@ use Rattle.texts.proofs.digits.read_range.Tie as tie
 
 ruleset laws = (range_none, range-in, range-out, rules)
 
-pub read-range-spec : {M : Type 1} → statement M
-read-range-spec =
+pub read_range_spec : {M : Type 1} → statement M
+read_range_spec =
     tie.close
     (tie.spec
     (λ c κs. search laws)

@@ -5,8 +5,8 @@ use Rattle.texts.proofs.digits.write_digits.Tie as tie
 
 ruleset laws = (size-le, skip-le, decimal-cursor, decimal-written, rules)
 
-pub write-digits-spec : {M : Type 1} → statement M
-write-digits-spec =
+pub write_digits_spec : {M : Type 1} → statement M
+write_digits_spec =
     tie.close
     (tie.spec
     (λ c κs. search laws)

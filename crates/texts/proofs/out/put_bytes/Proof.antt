@@ -9,20 +9,20 @@ use Rattle.texts.specs.Lists.{over}
 use Rattle.texts.proofs.out.put_bytes.Statement.{statement}
 use Rattle.texts.proofs.out.put_bytes.Tie as tie
 
-abbrev invariant-loop : tie.invariant-loop
-invariant-loop src dst₀ at i₀ dst i = (i ≤ length src) × (length dst ≡ length dst₀) × (over dst₀ at src ≡ over dst (at + i) (drop i src))
+abbrev invariant-loop-i : tie.invariant-loop-i
+invariant-loop-i src dst₀ at i₀ dst i = (i ≤ length src) × (length dst ≡ length dst₀) × (over dst₀ at src ≡ over dst (at + i) (drop i src))
 
-abbrev decreases-loop : tie.decreases-loop
-decreases-loop src dst₀ at i₀ dst i = length src - i
+abbrev decreases-loop-i : tie.decreases-loop-i
+decreases-loop-i src dst₀ at i₀ dst i = length src - i
 
 ruleset laws = (past_end, past-end-kept, no_room, no-room-kept, put-cursor, put_step, put-done, add-zero, rules)
 
-pub put-bytes-spec : {M : Type 1} → statement M
-put-bytes-spec =
+pub put_bytes_spec : {M : Type 1} → statement M
+put_bytes_spec =
     tie.close
     (tie.spec
-    invariant-loop
-    decreases-loop
+    invariant-loop-i
+    decreases-loop-i
     (λ c. search laws)
     (λ c. search laws)
     (λ c. search laws)

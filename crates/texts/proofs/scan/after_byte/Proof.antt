@@ -5,8 +5,8 @@ use Rattle.texts.proofs.scan.after_byte.Tie as tie
 
 ruleset laws = (after-fits, part-after, rules)
 
-pub after-byte-spec : {M : Type 1} → statement M
-after-byte-spec =
+pub after_byte_spec : {M : Type 1} → statement M
+after_byte_spec =
     tie.close
     (tie.spec
     (λ c κs. search laws)

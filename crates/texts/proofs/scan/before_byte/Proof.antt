@@ -5,8 +5,8 @@ use Rattle.texts.proofs.scan.before_byte.Tie as tie
 
 ruleset laws = (part-before, rules)
 
-pub before-byte-spec : {M : Type 1} → statement M
-before-byte-spec =
+pub before_byte_spec : {M : Type 1} → statement M
+before_byte_spec =
     tie.close
     (tie.spec
     (λ c κs. search laws)

@@ -5,8 +5,8 @@ use Rattle.texts.proofs.scan.bytes_from.Tie as tie
 
 ruleset laws = (from-none, from_some, rules)
 
-pub bytes-from-spec : {M : Type 1} → statement M
-bytes-from-spec =
+pub bytes_from_spec : {M : Type 1} → statement M
+bytes_from_spec =
     tie.close
     (tie.spec
     (λ c. search laws)

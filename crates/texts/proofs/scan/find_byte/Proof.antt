@@ -9,20 +9,20 @@ use Rattle.texts.proofs.ScanLaws.{find-pass, find-here, find_none}
 use Rattle.texts.proofs.scan.find_byte.Statement.{statement}
 use Rattle.texts.proofs.scan.find_byte.Tie as tie
 
-abbrev invariant-loop : tie.invariant-loop
-invariant-loop s b i₀ i = (i ≤ length s) × (find b s ≡ i + find b (drop i s))
+abbrev invariant-loop-i : tie.invariant-loop-i
+invariant-loop-i s b i₀ i = (i ≤ length s) × (find b s ≡ i + find b (drop i s))
 
-abbrev decreases-loop : tie.decreases-loop
-decreases-loop s b i₀ i = length s - i
+abbrev decreases-loop-i : tie.decreases-loop-i
+decreases-loop-i s b i₀ i = length s - i
 
 ruleset laws = (find-pass, find-here, find_none, zero-add, rules)
 
-pub find-byte-spec : {M : Type 1} → statement M
-find-byte-spec =
+pub find_byte_spec : {M : Type 1} → statement M
+find_byte_spec =
     tie.close
     (tie.spec
-    invariant-loop
-    decreases-loop
+    invariant-loop-i
+    decreases-loop-i
     (λ c. search laws)
     (λ c. search laws)
     (λ c. search laws)

@@ -5,8 +5,8 @@ use Rattle.texts.proofs.scan.first_bytes.Tie as tie
 
 ruleset laws = (first-all, first-size, rules)
 
-pub first-bytes-spec : {M : Type 1} → statement M
-first-bytes-spec =
+pub first_bytes_spec : {M : Type 1} → statement M
+first_bytes_spec =
     tie.close
     (tie.spec
     (λ c. search laws)

@@ -9,21 +9,21 @@ use Rattle.texts.proofs.PassLaws.{is_other, none_more, none-all}
 use Rattle.texts.proofs.scan.none_near.Statement.{statement}
 use Rattle.texts.proofs.scan.none_near.Tie as tie
 
-abbrev invariant-loop : tie.invariant-loop
-invariant-loop s i b none₀ j₀ none j =
+abbrev invariant-loop-j : tie.invariant-loop-j
+invariant-loop-j s i b none₀ j₀ none j =
     (j ≤ 16) × (every (is_other b) (take 16 (drop i s)) ≡ none && every (is_other b) (drop j (take 16 (drop i s))))
 
-abbrev decreases-loop : tie.decreases-loop
-decreases-loop s i b none₀ j₀ none j = 16 - j
+abbrev decreases-loop-j : tie.decreases-loop-j
+decreases-loop-j s i b none₀ j₀ none j = 16 - j
 
 ruleset laws = (none_more, none-all, rules)
 
-pub none-near-spec : {M : Type 1} → statement M
-none-near-spec =
+pub none_near_spec : {M : Type 1} → statement M
+none_near_spec =
     tie.close
     (tie.spec
-    invariant-loop
-    decreases-loop
+    invariant-loop-j
+    decreases-loop-j
     (λ c. search laws)
     (λ c. search laws)
     (λ c. search laws)

@@ -8,20 +8,20 @@ use Rattle.texts.proofs.PassLaws.{others-pass}
 use Rattle.texts.proofs.scan.pass_others.Statement.{statement}
 use Rattle.texts.proofs.scan.pass_others.Tie as tie
 
-abbrev invariant-loop : tie.invariant-loop
-invariant-loop s at b last i₀ i = (at ≤ i) × (at + find b (drop at s) ≡ i + find b (drop i s))
+abbrev invariant-loop-i : tie.invariant-loop-i
+invariant-loop-i s at b last i₀ i = (at ≤ i) × (at + find b (drop at s) ≡ i + find b (drop i s))
 
-abbrev decreases-loop : tie.decreases-loop
-decreases-loop s at b last i₀ i = length s - i
+abbrev decreases-loop-i : tie.decreases-loop-i
+decreases-loop-i s at b last i₀ i = length s - i
 
 ruleset laws = (others-pass, rules)
 
-pub pass-others-spec : {M : Type 1} → statement M
-pass-others-spec =
+pub pass_others_spec : {M : Type 1} → statement M
+pass_others_spec =
     tie.close
     (tie.spec
-    invariant-loop
-    decreases-loop
+    invariant-loop-i
+    decreases-loop-i
     (λ c. search laws)
     (λ c. search laws)
     (λ c. search laws)

@@ -7,20 +7,20 @@ use Rattle.texts.proofs.ScanLaws.{pass_same, bytes-differ, all_same}
 use Rattle.texts.proofs.scan.rest_same.Statement.{statement}
 use Rattle.texts.proofs.scan.rest_same.Tie as tie
 
-abbrev invariant-loop : tie.invariant-loop
-invariant-loop a b from i₀ i = eq_list (drop from a) (drop from b) ≡ eq_list (drop i a) (drop i b)
+abbrev invariant-loop-i : tie.invariant-loop-i
+invariant-loop-i a b from i₀ i = eq_list (drop from a) (drop from b) ≡ eq_list (drop i a) (drop i b)
 
-abbrev decreases-loop : tie.decreases-loop
-decreases-loop a b from i₀ i = length a - i
+abbrev decreases-loop-i : tie.decreases-loop-i
+decreases-loop-i a b from i₀ i = length a - i
 
 ruleset laws = (pass_same, bytes-differ, all_same, rules)
 
-pub rest-same-spec : {M : Type 1} → statement M
-rest-same-spec =
+pub rest_same_spec : {M : Type 1} → statement M
+rest_same_spec =
     tie.close
     (tie.spec
-    invariant-loop
-    decreases-loop
+    invariant-loop-i
+    decreases-loop-i
     (λ c. search laws)
     (λ c. search laws)
     (λ c. search laws)

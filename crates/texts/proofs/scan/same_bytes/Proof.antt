@@ -6,8 +6,8 @@ use Rattle.texts.proofs.scan.same_bytes.Tie as tie
 
 ruleset laws = (lengths_differ, tail-decides, words-decide, rules)
 
-pub same-bytes-spec : {M : Type 1} → statement M
-same-bytes-spec =
+pub same_bytes_spec : {M : Type 1} → statement M
+same_bytes_spec =
     tie.close
     (tie.spec
     (λ c. search laws)

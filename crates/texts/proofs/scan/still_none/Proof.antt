@@ -5,8 +5,8 @@ use Rattle.texts.proofs.scan.still_none.Tie as tie
 
 ruleset laws = (none-on, rules)
 
-pub still-none-spec : {M : Type 1} → statement M
-still-none-spec =
+pub still_none_spec : {M : Type 1} → statement M
+still_none_spec =
     tie.close
     (tie.spec
     (λ c. search laws)

@@ -5,8 +5,8 @@ use Rattle.texts.proofs.scan.word_at.Tie as tie
 
 ruleset laws = (word-is, rules)
 
-pub word-at-spec : {M : Type 1} → statement M
-word-at-spec =
+pub word_at_spec : {M : Type 1} → statement M
+word_at_spec =
     tie.close
     (tie.spec
     (λ c. search laws)

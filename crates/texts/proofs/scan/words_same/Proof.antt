@@ -9,20 +9,20 @@ use Rattle.texts.proofs.WordLaws.{words-pass, words-differ, words-all, whole-nex
 use Rattle.texts.proofs.scan.words_same.Statement.{statement}
 use Rattle.texts.proofs.scan.words_same.Tie as tie
 
-abbrev invariant-loop : tie.invariant-loop
-invariant-loop a b i₀ i = (i ≤ length a) × (i % 8 ≡ 0) × (eq_list (whole_words a) (whole_words b) ≡ eq_list (drop i (whole_words a)) (drop i (whole_words b)))
+abbrev invariant-loop-i : tie.invariant-loop-i
+invariant-loop-i a b i₀ i = (i ≤ length a) × (i % 8 ≡ 0) × (eq_list (whole_words a) (whole_words b) ≡ eq_list (drop i (whole_words a)) (drop i (whole_words b)))
 
-abbrev decreases-loop : tie.decreases-loop
-decreases-loop a b i₀ i = length a - i
+abbrev decreases-loop-i : tie.decreases-loop-i
+decreases-loop-i a b i₀ i = length a - i
 
 ruleset laws = (words-pass, words-differ, words-all, whole-next, rules)
 
-pub words-same-spec : {M : Type 1} → statement M
-words-same-spec =
+pub words_same_spec : {M : Type 1} → statement M
+words_same_spec =
     tie.close
     (tie.spec
-    invariant-loop
-    decreases-loop
+    invariant-loop-i
+    decreases-loop-i
     (λ c. search laws)
     (λ c. search laws)
     (λ c κs. search laws)

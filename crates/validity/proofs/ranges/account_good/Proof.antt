@@ -5,8 +5,8 @@ use Rattle.validity.proofs.ranges.account_good.Tie as tie
 
 ruleset laws = (account-no-number, account-no-kind, account-rest, rules)
 
-pub account-good-spec : {M : Type 1} → statement M
-account-good-spec =
+pub account_good_spec : {M : Type 1} → statement M
+account_good_spec =
     tie.close
     (tie.spec
     (λ c κs. search laws)

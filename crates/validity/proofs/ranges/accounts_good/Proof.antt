@@ -19,8 +19,8 @@ decreases-loop names keys balances hints₀ count i₀ hints i = count - i
 
 ruleset laws = (size_in, accounts-step, accounts-fail, accounts-end, rules)
 
-pub accounts-good-spec : {M : Type 1} → statement M
-accounts-good-spec =
+pub accounts_good_spec : {M : Type 1} → statement M
+accounts_good_spec =
     tie.close
     (tie.spec
     invariant-loop

@@ -7,8 +7,8 @@ use Rattle.validity.proofs.ranges.gate_good.Tie as tie
 
 ruleset laws = (size_in, no-claim, gate-many, gate-no-day, gate-rest, gate-sound, rules)
 
-pub gate-good-spec : {M : Type 1} → statement M
-gate-good-spec =
+pub gate_good_spec : {M : Type 1} → statement M
+gate_good_spec =
     tie.close
     (tie.spec
     (λ c. search laws)

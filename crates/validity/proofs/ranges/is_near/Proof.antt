@@ -5,8 +5,8 @@ use Rattle.validity.proofs.ranges.is_near.Tie as tie
 
 ruleset laws = (balance-over, balance-under, balance-in, rules)
 
-pub is-near-spec : {M : Type 1} → statement M
-is-near-spec =
+pub is_near_spec : {M : Type 1} → statement M
+is_near_spec =
     tie.close
     (tie.spec
     (λ c. search laws)

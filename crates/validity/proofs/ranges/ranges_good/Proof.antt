@@ -5,8 +5,8 @@ use Rattle.validity.proofs.ranges.ranges_good.Tie as tie
 
 ruleset laws = (ranges-receipt, ranges-amount, ranges-date, ranges-credit, ranges-rest, rules)
 
-pub ranges-good-spec : {M : Type 1} → statement M
-ranges-good-spec =
+pub ranges_good_spec : {M : Type 1} → statement M
+ranges_good_spec =
     tie.close
     (tie.spec
     (λ c. search laws)

@@ -5,8 +5,8 @@ use Rattle.validity.proofs.ranges.record_good.Tie as tie
 
 ruleset laws = (authcode-other, authcode-place, rules)
 
-pub record-good-spec : {M : Type 1} → statement M
-record-good-spec =
+pub record_good_spec : {M : Type 1} → statement M
+record_good_spec =
     tie.close
     (tie.spec
     (λ c. search laws)

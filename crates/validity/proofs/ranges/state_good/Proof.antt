@@ -5,8 +5,8 @@ use Rattle.validity.proofs.ranges.state_good.Tie as tie
 
 ruleset laws = (state-done, state-none, state-cancelled, rules)
 
-pub state-good-spec : {M : Type 1} → statement M
-state-good-spec =
+pub state_good_spec : {M : Type 1} → statement M
+state_good_spec =
     tie.close
     (tie.spec
     (λ c. search laws)

@@ -9,8 +9,8 @@ invariant-loop kind n len h₀ i₀ h i = (i ≤ 30) × (h < 4096)
 abbrev decreases-loop : tie.decreases-loop
 decreases-loop kind n len h₀ i₀ h i = 30 - i
 
-pub slot-spec : {M : Type 1} → statement M
-slot-spec =
+pub slot_spec : {M : Type 1} → statement M
+slot_spec =
     tie.close
     (tie.spec
     invariant-loop

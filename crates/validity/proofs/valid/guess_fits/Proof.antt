@@ -5,8 +5,8 @@ use Rattle.validity.proofs.valid.guess_fits.Tie as tie
 
 ruleset laws = (guess-past, guess-is, rules)
 
-pub guess-fits-spec : {M : Type 1} → statement M
-guess-fits-spec =
+pub guess_fits_spec : {M : Type 1} → statement M
+guess_fits_spec =
     tie.close
     (tie.spec
     (λ c. search laws)

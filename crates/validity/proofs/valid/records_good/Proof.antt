@@ -52,8 +52,8 @@ loop-again-2 c =
       whole-more _ _ _ v.2 h s.requires.0.0 s.requires.0.1 s.requires.0.2 r.record-good.ensures.1.0 r.record-good.ensures.1.1,
     )
 
-pub records-good-spec : {M : Type 1} → statement M
-records-good-spec =
+pub records_good_spec : {M : Type 1} → statement M
+records_good_spec =
     tie.close
     (tie.spec
     invariant-loop

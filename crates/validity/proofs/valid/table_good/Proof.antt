@@ -12,8 +12,8 @@ records-good-requires c κs =
     let f = lent_is _ _ _ _ _ e.before.is-lent.ensures.1 e.if1.false in
     ((f.room, omega (arith, f.room, f.second), omega (arith, f.room, f.third)), (search sound-gate, omega (arith, f.room, f.most)))
 
-pub table-good-spec : {M : Type 1} → statement M
-table-good-spec =
+pub table_good_spec : {M : Type 1} → statement M
+table_good_spec =
     tie.close
     (tie.spec
     (λ c κs. search rules)

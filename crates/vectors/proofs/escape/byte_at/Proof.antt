@@ -5,5 +5,5 @@ use Rattle.vectors.proofs.escape.byte_at.Tie as tie
 
 ruleset laws = (byte_past, rules)
 
-pub byte-at-spec : {M : Type 1} → statement M
-byte-at-spec = tie.close (tie.spec (λ c. search laws) (λ c. search laws) (λ c. search laws))
+pub byte_at_spec : {M : Type 1} → statement M
+byte_at_spec = tie.close (tie.spec (λ c. search laws) (λ c. search laws) (λ c. search laws))

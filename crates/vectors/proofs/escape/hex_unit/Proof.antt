@@ -6,8 +6,8 @@ use Rattle.vectors.proofs.escape.hex_unit.Tie as tie
 
 ruleset laws = (hex-no-high, hex-no-low, hex-both, high_fits, pair_fits, rules)
 
-pub hex-unit-spec : {M : Type 1} → statement M
-hex-unit-spec =
+pub hex_unit_spec : {M : Type 1} → statement M
+hex_unit_spec =
     tie.close
     (tie.spec
     (λ c κs. search laws)

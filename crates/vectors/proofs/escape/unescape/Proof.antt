@@ -19,8 +19,8 @@ decreases-loop s dst₀ i₀ j₀ dst i j = length s - i
 
 ruleset laws = (unit-fits, unit-falls, unit-behind, count-step, bytes-step, short-count, short-kept, all-count, all-into, zero-add, rules)
 
-pub unescape-spec : {M : Type 1} → statement M
-unescape-spec =
+pub unescape_spec : {M : Type 1} → statement M
+unescape_spec =
     tie.close
     (tie.spec
     invariant-loop

@@ -5,8 +5,8 @@ use Rattle.vectors.proofs.escape.unit_of.Tie as tie
 
 ruleset laws = (unit-plain, unit-tab, unit-return, unit-line, unit-back, unit-hex, unit-other, rules)
 
-pub unit-of-spec : {M : Type 1} → statement M
-unit-of-spec =
+pub unit_of_spec : {M : Type 1} → statement M
+unit_of_spec =
     tie.close
     (tie.spec
     (λ c. search laws)

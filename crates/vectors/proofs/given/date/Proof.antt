@@ -5,8 +5,8 @@ use Rattle.vectors.proofs.given.date.Tie as tie
 
 ruleset laws = (date-is, rules)
 
-pub date-spec : {M : Type 1} → statement M
-date-spec =
+pub date_spec : {M : Type 1} → statement M
+date_spec =
     tie.close
     (tie.spec
     (λ c κs. search laws)

@@ -5,8 +5,8 @@ use Rattle.vectors.proofs.given.day.Tie as tie
 
 ruleset laws = (day-good, day-none, rules)
 
-pub day-spec : {M : Type 1} → statement M
-day-spec =
+pub day_spec : {M : Type 1} → statement M
+day_spec =
     tie.close
     (tie.spec
     (λ c κs. search laws)

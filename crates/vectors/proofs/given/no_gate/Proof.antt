@@ -5,8 +5,8 @@ use Rattle.vectors.proofs.given.no_gate.Tie as tie
 
 ruleset laws = (no-gate-is, rules)
 
-pub no-gate-spec : {M : Type 1} → statement M
-no-gate-spec =
+pub no_gate_spec : {M : Type 1} → statement M
+no_gate_spec =
     tie.close
     (tie.spec
     (λ c. search laws))

@@ -5,8 +5,8 @@ use Rattle.vectors.proofs.given.number.Tie as tie
 
 ruleset laws = (number_is, rules)
 
-pub number-spec : {M : Type 1} → statement M
-number-spec =
+pub number_spec : {M : Type 1} → statement M
+number_spec =
     tie.close
     (tie.spec
     (λ c κs. search laws)

@@ -5,8 +5,8 @@ use Rattle.vectors.proofs.line.is_heading.Tie as tie
 
 ruleset laws = (heading-none, heading-first, rules)
 
-pub is-heading-spec : {M : Type 1} → statement M
-is-heading-spec =
+pub is_heading_spec : {M : Type 1} → statement M
+is_heading_spec =
     tie.close
     (tie.spec
     (λ c. search laws)

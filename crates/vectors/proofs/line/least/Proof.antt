@@ -6,8 +6,8 @@ use Rattle.vectors.proofs.line.least.Tie as tie
 
 ruleset laws = (least_first, least-second, least-inside, le_refl, rules)
 
-pub least-spec : {M : Type 1} → statement M
-least-spec =
+pub least_spec : {M : Type 1} → statement M
+least_spec =
     tie.close
     (tie.spec
     (λ c. search laws)

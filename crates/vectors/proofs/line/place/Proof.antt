@@ -15,8 +15,8 @@ decreases-loop word words at₀ i₀ at i = (length words + 1) - at
 
 ruleset laws = (word-inside, word-here, word-passed, words-start, words-done, word_size, word_fits, place-fits, place-falls, place-below, rules)
 
-pub place-spec : {M : Type 1} → statement M
-place-spec =
+pub place_spec : {M : Type 1} → statement M
+place_spec =
     tie.close
     (tie.spec
     invariant-loop

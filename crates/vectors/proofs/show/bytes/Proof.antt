@@ -12,8 +12,8 @@ decreases-loop s i₀ i = length s - i
 
 ruleset laws = (rules)
 
-pub bytes-spec : {M : Type 1} → statement M
-bytes-spec =
+pub bytes_spec : {M : Type 1} → statement M
+bytes_spec =
     tie.close
     (tie.spec
     invariant-loop

@@ -17,8 +17,8 @@ decreases-loop names keys i₀ i = length names - i
 
 ruleset laws = (accounts-step, accounts-fail, accounts-end, rules)
 
-pub accounts-good-spec : {M : Type 1} → statement M
-accounts-good-spec =
+pub accounts_good_spec : {M : Type 1} → statement M
+accounts_good_spec =
     tie.close
     (tie.spec
     invariant-loop

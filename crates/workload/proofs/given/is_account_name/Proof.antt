@@ -5,8 +5,8 @@ use Rattle.workload.proofs.given.is_account_name.Tie as tie
 
 ruleset laws = (name-not, name-then, rules)
 
-pub is-account-name-spec : {M : Type 1} → statement M
-is-account-name-spec =
+pub is_account_name_spec : {M : Type 1} → statement M
+is_account_name_spec =
     tie.close
     (tie.spec
     (λ c κs. search laws)

@@ -6,8 +6,8 @@ use Rattle.workload.proofs.given.is_load.Tie as tie
 
 ruleset laws = (few-names, many-names, odd-keys, not-dated, not-reasoned, load_is, load-good, rules)
 
-pub is-load-spec : {M : Type 1} → statement M
-is-load-spec =
+pub is_load_spec : {M : Type 1} → statement M
+is_load_spec =
     tie.close
     (tie.spec
     (λ c κs. search laws)

@@ -5,8 +5,8 @@ use Rattle.workload.proofs.line.asked_of.Tie as tie
 
 ruleset laws = (asked_is, rules)
 
-pub asked-of-spec : {M : Type 1} → statement M
-asked-of-spec =
+pub asked_of_spec : {M : Type 1} → statement M
+asked_of_spec =
     tie.close
     (tie.spec
     (λ c κs. search laws)

@@ -5,8 +5,8 @@ use Rattle.workload.proofs.line.step_of.Tie as tie
 
 ruleset laws = (picks-payment, picks-status, picks-cancel, picks-draw, rules)
 
-pub step-of-spec : {M : Type 1} → statement M
-step-of-spec =
+pub step_of_spec : {M : Type 1} → statement M
+step_of_spec =
     tie.close
     (tie.spec
     (λ c. search laws)

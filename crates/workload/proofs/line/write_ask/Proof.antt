@@ -6,8 +6,8 @@ use Rattle.workload.proofs.line.write_ask.Tie as tie
 
 ruleset laws = (then-cursor, then-buffer, two-cursor, two-buffer, rules)
 
-pub write-ask-spec : {M : Type 1} → statement M
-write-ask-spec =
+pub write_ask_spec : {M : Type 1} → statement M
+write_ask_spec =
     tie.close
     (tie.spec
     (λ c. search laws)

@@ -5,8 +5,8 @@ use Rattle.workload.proofs.line.write_draw.Tie as tie
 
 ruleset laws = (draw-cursor, draw-buffer, rules)
 
-pub write-draw-spec : {M : Type 1} → statement M
-write-draw-spec =
+pub write_draw_spec : {M : Type 1} → statement M
+write_draw_spec =
     tie.close
     (tie.spec
     (λ c. search laws)

@@ -5,8 +5,8 @@ use Rattle.workload.proofs.line.write_figure.Tie as tie
 
 ruleset laws = (figure-cursor, figure-buffer, rules)
 
-pub write-figure-spec : {M : Type 1} → statement M
-write-figure-spec =
+pub write_figure_spec : {M : Type 1} → statement M
+write_figure_spec =
     tie.close
     (tie.spec
     (λ c κs. search laws)

@@ -5,8 +5,8 @@ use Rattle.workload.proofs.line.write_head.Tie as tie
 
 ruleset laws = (head-cursor, head-buffer, rules)
 
-pub write-head-spec : {M : Type 1} → statement M
-write-head-spec =
+pub write_head_spec : {M : Type 1} → statement M
+write_head_spec =
     tie.close
     (tie.spec
     (λ c κs. search laws)

@@ -5,8 +5,8 @@ use Rattle.workload.proofs.line.write_line.Tie as tie
 
 ruleset laws = (line-cursor, line-written, rules)
 
-pub write-line-spec : {M : Type 1} → statement M
-write-line-spec =
+pub write_line_spec : {M : Type 1} → statement M
+write_line_spec =
     tie.close
     (tie.spec
     (λ c. search laws)

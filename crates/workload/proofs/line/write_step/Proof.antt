@@ -5,8 +5,8 @@ use Rattle.workload.proofs.line.write_step.Tie as tie
 
 ruleset laws = (asks-cursor, asks-buffer, draws-cursor, draws-buffer, rules)
 
-pub write-step-spec : {M : Type 1} → statement M
-write-step-spec =
+pub write_step_spec : {M : Type 1} → statement M
+write_step_spec =
     tie.close
     (tie.spec
     (λ c κs. search laws)

@@ -5,8 +5,8 @@ use Rattle.workload.proofs.load.write_load.Tie as tie
 
 ruleset laws = (load-is-all, rules)
 
-pub write-load-spec : {M : Type 1} → statement M
-write-load-spec =
+pub write_load_spec : {M : Type 1} → statement M
+write_load_spec =
     tie.close
     (tie.spec
     (λ c κs. search laws)

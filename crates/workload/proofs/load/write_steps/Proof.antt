@@ -5,8 +5,8 @@ use Rattle.workload.proofs.load.write_steps.Tie as tie
 
 ruleset laws = (load-refused, load-written, load-facts, rules)
 
-pub write-steps-spec : {M : Type 1} → statement M
-write-steps-spec =
+pub write_steps_spec : {M : Type 1} → statement M
+write_steps_spec =
     tie.close
     (tie.spec
     (λ c κs. search laws)

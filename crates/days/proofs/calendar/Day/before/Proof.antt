@@ -5,8 +5,8 @@ use Rattle.days.proofs.calendar.Day.before.Tie as tie
 
 ruleset laws = (before-is, rules)
 
-pub before-spec : {M : Type 1} → statement M
-before-spec =
+pub before_spec : {M : Type 1} → statement M
+before_spec =
     tie.close
     (tie.spec
     (λ c. search laws)

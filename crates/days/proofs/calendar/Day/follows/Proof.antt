@@ -5,8 +5,8 @@ use Rattle.days.proofs.calendar.Day.follows.Tie as tie
 
 ruleset laws = (this-of, rules)
 
-pub follows-spec : {M : Type 1} → statement M
-follows-spec =
+pub follows_spec : {M : Type 1} → statement M
+follows_spec =
     tie.close
     (tie.spec
     (λ c κs. search laws)

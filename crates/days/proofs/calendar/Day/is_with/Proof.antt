@@ -5,8 +5,8 @@ use Rattle.days.proofs.calendar.Day.is_with.Tie as tie
 
 ruleset laws = (on-dash, on-other, on-century, on-year, on-month, on-day, on-all, rules)
 
-pub is-with-spec : {M : Type 1} → statement M
-is-with-spec =
+pub is_with_spec : {M : Type 1} → statement M
+is_with_spec =
     tie.close
     (tie.spec
     (λ c. search laws)

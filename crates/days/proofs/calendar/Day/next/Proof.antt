@@ -5,8 +5,8 @@ use Rattle.days.proofs.calendar.Day.next.Tie as tie
 
 ruleset laws = (next-no-date, next-year-fits, next-in-month, next-month, next-year, rules)
 
-pub next-spec : {M : Type 1} → statement M
-next-spec =
+pub next_spec : {M : Type 1} → statement M
+next_spec =
     tie.close
     (tie.spec
     (λ c κs. search laws)

@@ -5,8 +5,8 @@ use Rattle.fields.proofs.number.Number.is_valid.Tie as tie
 
 ruleset laws = (valid-none, valid-long, valid-bytes, rules)
 
-pub is-valid-spec : {M : Type 1} → statement M
-is-valid-spec =
+pub is_valid_spec : {M : Type 1} → statement M
+is_valid_spec =
     tie.close
     (tie.spec
     (λ c. search laws)

@@ -5,8 +5,8 @@ use Rattle.lines.proofs.line.Line.is_valid.Tie as tie
 
 ruleset laws = (bad-number, bad_kind, bad-date, bad-amount, last-receipt, rules)
 
-pub is-valid-spec : {M : Type 1} → statement M
-is-valid-spec =
+pub is_valid_spec : {M : Type 1} → statement M
+is_valid_spec =
     tie.close
     (tie.spec
     (λ c κs. search laws)

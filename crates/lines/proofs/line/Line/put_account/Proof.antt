@@ -5,8 +5,8 @@ use Rattle.lines.proofs.line.Line.put_account.Tie as tie
 
 ruleset laws = (number_fits, kind_fits, account-cursor, account-written, rules)
 
-pub put-account-spec : {M : Type 1} → statement M
-put-account-spec =
+pub put_account_spec : {M : Type 1} → statement M
+put_account_spec =
     tie.close
     (tie.spec
     (λ c κs. search laws)

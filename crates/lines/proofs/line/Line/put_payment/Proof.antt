@@ -5,8 +5,8 @@ use Rattle.lines.proofs.line.Line.put_payment.Tie as tie
 
 ruleset laws = (account-fits, amount-fits, bytes-cursor, bytes-written, rules)
 
-pub put-payment-spec : {M : Type 1} → statement M
-put-payment-spec =
+pub put_payment_spec : {M : Type 1} → statement M
+put_payment_spec =
     tie.close
     (tie.spec
     (λ c. search laws)
