@@ -35,16 +35,16 @@ OTHERWISE = {
     "same_number": "same-number",
     "settle_read": "settle-read",
     "two_digits": "two-digits",
-    # a type is in upper camel case
-    "went": "Went",
 }
+# A type is in upper camel case; the same word is a value's elsewhere.
+TYPES = {os.path.join("crates", "channel", "proofs", "steps", "LinesSims.antt"): {"went": "Went"}}
 # Where a name above is also a function's or a variable's: only .antt files outside the paths of generated modules are turned.
 LEMMAS = {old for old, new in OTHERWISE.items() if "-" in new}
 
 
 def files(*ends):
     for base, dirs, names in os.walk("crates"):
-        dirs[:] = sorted(d for d in dirs if d != "out")
+        dirs[:] = sorted(d for d in dirs if d != "out" or base.count(os.sep) > 1)
         for name in sorted(names):
             if name.endswith(ends):
                 yield os.path.join(base, name)
@@ -102,7 +102,7 @@ def main():
         elif path.endswith(".edit"):
             new = "\n".join(turn(l, turns, False) if l.startswith(("old:", "new:")) else l for l in old.split("\n"))
         else:
-            new = turn(old, turns, path.endswith(".antt"))
+            new = turn(old, turns | TYPES.get(path, {}), path.endswith(".antt"))
         if new != old:
             changed += 1
             with open(path, "w", encoding="utf-8", newline="") as f:

@@ -1,4 +1,4 @@
-//! Links `libffi.a`, the archive of the proved calls, which `rt staticlib ffi` writes.
+//! Links `libffi.a`, the archive of the proved calls, which `tools/build ffi` writes.
 //!
 //! `ROOSTERYORE_LIB` names its folder; without it, `target/staticlib` of this repository is taken.
 use std::env;
@@ -16,7 +16,7 @@ fn main() {
     if !archive.is_file() {
         eprintln!("The proved calls are not built: there is no {}.", archive.display());
         eprintln!(
-            "Run `rt staticlib ffi` at the top of the repository, or name the folder of {ARCHIVE} in {VARIABLE}."
+            "Run `tools/build ffi` at the top of the repository, or name the folder of {ARCHIVE} in {VARIABLE}."
         );
         exit(1);
     }

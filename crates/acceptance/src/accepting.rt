@@ -2,7 +2,7 @@
 ghost use Rattle.std.specs.Prelude.{◌≡◌, true, ◌<◌, ◌≤◌, length};
 ghost use Rattle.dates.specs.Date.{date_day};
 ghost use Rattle.book.specs.Entries.{entries_of};
-ghost use Rattle.book.specs.Lent.{lent_book, book_before, book_after};
+ghost use Rattle.book.specs.Lent.{lent_book};
 ghost use Rattle.book_validity.specs.BookValid.{book_good, ReadyBook, Dated};
 ghost use Rattle.acceptance.specs.Acceptance.{acceptance_of, made_entry, may_accept, day_open, has_place, accept_fault, accept};
 
@@ -51,8 +51,8 @@ pub fn day_open(
     written: [u8; 19],
 ) -> bool
     requires used_in_bounds { (used ≤ length nums.now) × (used ≤ length numbers.now) × (used ≤ length dates.now) }
-    requires dated { Dated (lent_book nums numbers dates) used }
-    ensures { result ≡ day_open (entries_of (book_before nums numbers dates) used) (date_day written) }
+    requires dated { Dated (lent_book nums.now numbers.now dates.now) used }
+    ensures { result ≡ day_open (entries_of (lent_book nums.now numbers.now dates.now) used) (date_day written) }
 {
     let DayRead::Good(day) = date::day_of_date(written) else {
         return false;
@@ -71,8 +71,8 @@ pub fn has_place(
     b: Book,
     written: [u8; 19],
 ) -> bool
-    requires { (book_good b (lent_book nums numbers dates) ≡ true) × ReadyBook b (lent_book nums numbers dates) }
-    ensures { result ≡ has_place b (book_before nums numbers dates) written }
+    requires { (book_good b (lent_book nums.now numbers.now dates.now) ≡ true) × ReadyBook b (lent_book nums.now numbers.now dates.now) }
+    ensures { result ≡ has_place b (lent_book nums.now numbers.now dates.now) written }
 {
     let used = b.used;
     if nums.len() <= used {
@@ -111,8 +111,8 @@ pub fn accept_fault(
     kopecks: u64,
     written: [u8; 19],
 ) -> u64
-    ensures value { result ≡ accept_fault b (book_before nums numbers dates) n kind kopecks written }
-    ensures ready_book { result ≡ 0 → ReadyBook b (book_before nums numbers dates) }
+    ensures value { result ≡ accept_fault b (lent_book nums.now numbers.now dates.now) n kind kopecks written }
+    ensures ready_book { result ≡ 0 → ReadyBook b (lent_book nums.now numbers.now dates.now) }
 {
     if !valid::book_good(nums, numbers, dates, b) {
         return 68;
@@ -137,7 +137,7 @@ pub fn accept(
     kopecks: u64,
     written: [u8; 19],
 ) -> Acceptance
-    ensures { acceptance_of result (book_after nums numbers dates) ≡ accept book (book_before nums numbers dates) number kind kopecks written }
+    ensures { acceptance_of result (lent_book nums.new numbers.new dates.new) ≡ accept book (lent_book nums.old numbers.old dates.old) number kind kopecks written }
 {
     let code = accept_fault(nums, numbers, dates, book, number, kind, kopecks, written);
     if code != 0 {

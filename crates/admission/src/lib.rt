@@ -1,8 +1,8 @@
 #![tactic(auto)]
 // What is looked at before a request or a registry: everything lent, the buffer's room and the clock.
 ghost use Rattle.std.specs.Prelude.{◌≡◌};
-ghost use Rattle.table.specs.Lent.{before};
-ghost use Rattle.table.specs.Columns.{gate_of, columns_before};
+ghost use Rattle.table.specs.Lent.{lent};
+ghost use Rattle.table.specs.Columns.{gate_of, columns_of};
 ghost use Rattle.validity.specs.Valid.{Ready};
 ghost use Rattle.admission.specs.Delivery.{admission};
 
@@ -25,8 +25,8 @@ pub fn admit(
     clock: [u8; 19],
     room: usize,
 ) -> u64
-    ensures value { result ≡ admission (gate_of head (columns_before names keys balances)) (before nums numbers dates) clock room }
-    ensures ready { result ≡ 0 → Ready (gate_of head (columns_before names keys balances)) (before nums numbers dates) }
+    ensures value { result ≡ admission (gate_of head (columns_of names.now keys.now balances.now)) (lent nums.now numbers.now dates.now) clock room }
+    ensures ready { result ≡ 0 → Ready (gate_of head (columns_of names.now keys.now balances.now)) (lent nums.now numbers.now dates.now) }
 {
     if !valid::table_good(nums, numbers, dates, names, keys, balances, head) {
         return 68;
@@ -49,8 +49,8 @@ pub fn admit_gate(
     clock: [u8; 19],
     room: usize,
 ) -> u64
-    ensures value { result ≡ admission gate (before nums numbers dates) clock room }
-    ensures ready { result ≡ 0 → Ready gate (before nums numbers dates) }
+    ensures value { result ≡ admission gate (lent nums.now numbers.now dates.now) clock room }
+    ensures ready { result ≡ 0 → Ready gate (lent nums.now numbers.now dates.now) }
 {
     let mut names = columns::empty_names();
     let mut keys = columns::empty_keys();

@@ -6,7 +6,7 @@ ghost use Rattle.std.specs.Prelude.{◌≡◌, true, ◌<◌};
 ghost use Rattle.lists.specs.declared.Found.TheVariants.{At};
 ghost use Rattle.book_validity.specs.BookValid.{book_good, ReadyBook};
 ghost use Rattle.answering.specs.Answering.{taking_of, authcode_after, answered_entry, take_at_place, take_receipt, is_check, check_code, take_answer};
-ghost use Rattle.book.specs.Lent.{lent_book, book_before, book_after};
+ghost use Rattle.book.specs.Lent.{lent_book};
 
 use answer_reader::read;
 use book::{Book, Entry, rows, states};
@@ -55,8 +55,8 @@ pub(crate) fn take_at(
     a: Action,
     text: &[u8],
 ) -> u64
-    requires { ReadyBook b (lent_book nums numbers dates) × (i < b.used) }
-    ensures { taking_of result (book_after nums numbers dates) ≡ take_at_place b (book_before nums numbers dates) a text.now (At i) }
+    requires { ReadyBook b (lent_book nums.old numbers.old dates.old) × (i < b.used) }
+    ensures { taking_of result (lent_book nums.new numbers.new dates.new) ≡ take_at_place b (lent_book nums.old numbers.old dates.old) a text.now (At i) }
 {
     let x = read::read_undated(a, text);
     if !x.ok {
@@ -83,8 +83,8 @@ pub(crate) fn take_receipt(
     receipt: u64,
     text: &[u8],
 ) -> u64
-    requires { (book_good b (lent_book nums numbers dates) ≡ true) × ReadyBook b (lent_book nums numbers dates) }
-    ensures { taking_of result (book_after nums numbers dates) ≡ take_receipt b (book_before nums numbers dates) a receipt text.now }
+    requires { (book_good b (lent_book nums.old numbers.old dates.old) ≡ true) × ReadyBook b (lent_book nums.old numbers.old dates.old) }
+    ensures { taking_of result (lent_book nums.new numbers.new dates.new) ≡ take_receipt b (lent_book nums.old numbers.old dates.old) a receipt text.now }
 {
     if !codes::is_receipt(receipt) {
         return 60;
@@ -125,7 +125,7 @@ pub fn take_answer(
     receipt: u64,
     text: &[u8],
 ) -> u64
-    ensures { taking_of result (book_after nums numbers dates) ≡ take_answer book (book_before nums numbers dates) action receipt text.now }
+    ensures { taking_of result (lent_book nums.new numbers.new dates.new) ≡ take_answer book (lent_book nums.old numbers.old dates.old) action receipt text.now }
 {
     if !valid::book_good(nums, numbers, dates, book) {
         return 68;

@@ -1,7 +1,7 @@
 // The book's rows, read and written an entry at a time.
 ghost use Rattle.std.specs.Prelude.{◌≡◌, [], ◌<◌, length, get_or};
 ghost use Rattle.book.specs.Entries.{entry_from, entry_at, book_with};
-ghost use Rattle.book.specs.Lent.{book_before, book_after};
+ghost use Rattle.book.specs.Lent.{lent_book};
 
 use crate::Entry;
 use fields::number::Number;
@@ -29,7 +29,7 @@ fn entry_of(w: [u64; 6], bytes: [u8; 30], date: [u8; 19]) -> Entry
 // The entry at i.
 pub fn load_entry(nums: &[[u64; 6]], numbers: &[[u8; 30]], dates: &[[u8; 19]], i: usize) -> Entry
     requires { (i < length nums.now) × (i < length numbers.now) × (i < length dates.now) }
-    ensures value { result ≡ entry_at (book_before nums numbers dates) i }
+    ensures value { result ≡ entry_at (lent_book nums.now numbers.now dates.now) i }
     ensures i_len { length (get_or nums.now i []) ≡ 6 }
     ensures bytes_len { (length result.number.bytes ≡ 30) × (length result.date ≡ 19) }
 {
@@ -48,7 +48,7 @@ pub fn store_entry(
     e: Entry,
 )
     requires { (i < length nums.old) × (i < length numbers.old) × (i < length dates.old) }
-    ensures { book_after nums numbers dates ≡ book_with (book_before nums numbers dates) i e }
+    ensures { lent_book nums.new numbers.new dates.new ≡ book_with (lent_book nums.old numbers.old dates.old) i e }
 {
     let number = e.number;
     let len = number.len as u64;

@@ -2,7 +2,7 @@
 ghost use Rattle.std.specs.Prelude.{true, ◌≡◌, ◌<◌, ◌≤◌, length, replicate};
 ghost use Rattle.days.specs.Calendar.{is_day};
 ghost use Rattle.book.specs.Entries.{entries_of};
-ghost use Rattle.book.specs.Lent.{lent_book, book_before};
+ghost use Rattle.book.specs.Lent.{lent_book};
 ghost use Rattle.book_validity.specs.BookValid.{day_count, days_good, Dated};
 ghost use Rattle.book_validity.specs.BookWalk.{day_slot};
 
@@ -25,8 +25,8 @@ pub fn count_day(
     day: Day,
 ) -> usize
     requires used_in_bounds { (used ≤ length nums.now) × (used ≤ length numbers.now) × (used ≤ length dates.now) }
-    requires dated { Dated (lent_book nums numbers dates) used }
-    ensures { result ≡ day_count day (entries_of (book_before nums numbers dates) used) }
+    requires dated { Dated (lent_book nums.now numbers.now dates.now) used }
+    ensures { result ≡ day_count day (entries_of (lent_book nums.now numbers.now dates.now) used) }
 {
     let mut n: usize = 0;
     let mut i: usize = 0;
@@ -69,8 +69,8 @@ pub(crate) fn days_good(
     used: usize,
 ) -> bool
     requires used_in_bounds { (used ≤ length nums.now) × (used ≤ length numbers.now) × (used ≤ length dates.now) }
-    requires dated { Dated (lent_book nums numbers dates) used }
-    ensures { result ≡ days_good (entries_of (book_before nums numbers dates) used) }
+    requires dated { Dated (lent_book nums.now numbers.now dates.now) used }
+    ensures { result ≡ days_good (entries_of (lent_book nums.now numbers.now dates.now) used) }
 {
     if used <= DAY_MOST {
         return true;

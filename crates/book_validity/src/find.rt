@@ -1,7 +1,7 @@
 // The entry of a receipt, by its place.
 ghost use Rattle.std.specs.Prelude.{true, ◌≡◌};
 ghost use Rattle.book.specs.Entries.{entries_of, find_entry};
-ghost use Rattle.book.specs.Lent.{lent_book, book_before};
+ghost use Rattle.book.specs.Lent.{lent_book};
 ghost use Rattle.book_validity.specs.BookValid.{book_good};
 
 use book::Book;
@@ -15,8 +15,8 @@ pub fn find_entry(
     b: Book,
     receipt: u64,
 ) -> Found
-    requires { book_good b (lent_book nums numbers dates) ≡ true }
-    ensures { result ≡ find_entry receipt (entries_of (book_before nums numbers dates) b.used) }
+    requires { book_good b (lent_book nums.now numbers.now dates.now) ≡ true }
+    ensures { result ≡ find_entry receipt (entries_of (lent_book nums.now numbers.now dates.now) b.used) }
 {
     if receipt < b.first {
         return Found::Nothing;

@@ -3,7 +3,7 @@ ghost use Rattle.std.specs.Prelude.{true, ◌≡◌, ◌<◌, ◌≤◌, length}
 ghost use Rattle.fields.specs.Codes.{is_receipt};
 ghost use Rattle.lists.specs.Lists.{all_from};
 ghost use Rattle.book.specs.Entries.{entries_of, WholeBook};
-ghost use Rattle.book.specs.Lent.{book_before};
+ghost use Rattle.book.specs.Lent.{lent_book};
 ghost use Rattle.book_validity.specs.BookValid.{entry_fields, entry_good, book_head, book_good, ReadyBook};
 
 use crate::counts;
@@ -57,8 +57,8 @@ fn entry_good(b: Book, i: usize, e: Entry) -> bool
 fn entries_good(nums: &[[u64; 6]], numbers: &[[u8; 30]], dates: &[[u8; 19]], b: Book) -> bool
     requires used_in_bounds { (b.used ≤ length nums.now) × (b.used ≤ length numbers.now) × (b.used ≤ length dates.now) }
     requires first_value { (is_receipt b.first ≡ true) × (b.used ≤ 4096) }
-    ensures value { result ≡ all_from (entry_good b) 0 (entries_of (book_before nums numbers dates) b.used) }
-    ensures whole_book { result ≡ true → WholeBook (book_before nums numbers dates) b.used }
+    ensures value { result ≡ all_from (entry_good b) 0 (entries_of (lent_book nums.now numbers.now dates.now) b.used) }
+    ensures whole_book { result ≡ true → WholeBook (lent_book nums.now numbers.now dates.now) b.used }
 {
     let used = b.used;
     let mut i: usize = 0;
@@ -85,8 +85,8 @@ fn head_good(b: Book) -> bool
 
 // Whether a lent book is in its ranges.
 pub fn book_good(nums: &[[u64; 6]], numbers: &[[u8; 30]], dates: &[[u8; 19]], b: Book) -> bool
-    ensures value { result ≡ book_good b (book_before nums numbers dates) }
-    ensures ready_book { result ≡ true → ReadyBook b (book_before nums numbers dates) }
+    ensures value { result ≡ book_good b (lent_book nums.now numbers.now dates.now) }
+    ensures ready_book { result ≡ true → ReadyBook b (lent_book nums.now numbers.now dates.now) }
 {
     if !lists::is_lent(b.used, nums.len(), numbers.len(), dates.len()) {
         return false;

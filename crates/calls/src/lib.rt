@@ -1,7 +1,7 @@
 #![tactic(auto)]
 // A call on the gate as one value: what it asks for, with its parameters.
 ghost use Rattle.std.specs.Prelude.{◌≡◌};
-ghost use Rattle.table.specs.Lent.{before, after};
+ghost use Rattle.table.specs.Lent.{lent};
 ghost use Rattle.admission.specs.Delivery.{delivery_of};
 ghost use Rattle.calls.specs.Calls.{call_on, request_call, registry_call, opening_call, drawing_call};
 
@@ -42,7 +42,7 @@ pub fn call_on(
     text: &[u8],
     out: &mut [u8],
 ) -> Reply
-    ensures { delivery_of result (after nums numbers dates) out.new ≡ call_on gate call text.now out.old (before nums numbers dates) }
+    ensures { delivery_of result (lent nums.new numbers.new dates.new) out.new ≡ call_on gate call text.now out.old (lent nums.old numbers.old dates.old) }
 {
     let what = call.what;
     let clock = call.clock;

@@ -1,13 +1,13 @@
 // The lines of a registry, in their order.
 ghost use Rattle.std.specs.Prelude.{◌≡◌, length};
 ghost use Rattle.index.specs.Index.{Chained};
-ghost use Rattle.table.specs.Lent.{lent, before, after};
+ghost use Rattle.table.specs.Lent.{lent};
 ghost use Rattle.directory.specs.Directory.{Listed};
 ghost use Rattle.posting.specs.Posting.{Ledger, ledger_of};
 ghost use Rattle.posting.specs.Lookup.{receipt_at};
 ghost use Rattle.clearing.specs.Clearing.{settle_lines};
 ghost use Rattle.posting.specs.Steps.{Held, Left};
-ghost use Rattle.line_rows.specs.Lines.{lines_of, Read, lines_lent, lines_before};
+ghost use Rattle.line_rows.specs.Lines.{lines_of, Read, lines_lent};
 
 use line_rows::reading;
 use lists::Found;
@@ -30,15 +30,15 @@ pub fn settle_lines(
     heads: &mut [u16],
     next: &mut [u16],
 ) -> Gate
-    requires held { Held g (lent nums numbers dates) 10000000000000 × Read (lines_lent values holders days) count }
+    requires held { Held g (lent nums.old numbers.old dates.old) 10000000000000 × Read (lines_lent values.now holders.now days.now) count }
     requires listed { Listed names.now keys.now g }
     requires chained { Chained (receipt_at nums.old) 0 g.used heads.old next.old × (4096 ≡ length next.old) }
-    ensures left { Left (before nums numbers dates)
-        (settle_lines clock (length nums.old) (lines_of (lines_before values holders days) count) (ledger_of g (before nums numbers dates)))
-        result (after nums numbers dates) }
-    ensures held_2 { Held result (after nums numbers dates) 11000000000000 }
-    ensures fact { ◌≡◌ {A = Ledger} (settle_lines clock (length nums.old) (lines_of (lines_before values holders days) count) (ledger_of g (before nums numbers dates)))
-        (ledger_of result (after nums numbers dates)) }
+    ensures left { Left (lent nums.old numbers.old dates.old)
+        (settle_lines clock (length nums.old) (lines_of (lines_lent values.now holders.now days.now) count) (ledger_of g (lent nums.old numbers.old dates.old)))
+        result (lent nums.new numbers.new dates.new) }
+    ensures held_2 { Held result (lent nums.new numbers.new dates.new) 11000000000000 }
+    ensures fact { ◌≡◌ {A = Ledger} (settle_lines clock (length nums.old) (lines_of (lines_lent values.now holders.now days.now) count) (ledger_of g (lent nums.old numbers.old dates.old)))
+        (ledger_of result (lent nums.new numbers.new dates.new)) }
     ensures listed_2 { Listed names.now keys.now result }
     ensures chained_2 { Chained (receipt_at nums.new) 0 result.used heads.new next.new }
 {

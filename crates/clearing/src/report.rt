@@ -3,10 +3,10 @@ ghost use Rattle.std.specs.Prelude.{◌≡◌, cond, ◌≤◌, length};
 ghost use Rattle.texts.specs.Lists.{over};
 ghost use Rattle.index.specs.Index.{Chained};
 ghost use Rattle.table.specs.Table.{records_of};
-ghost use Rattle.table.specs.Lent.{before};
+ghost use Rattle.table.specs.Lent.{lent};
 ghost use Rattle.posting.specs.Lookup.{receipt_at};
 ghost use Rattle.clearing.specs.Clearing.{any_done, report_of};
-ghost use Rattle.line_rows.specs.Lines.{lines_of, Read, lines_lent, lines_before};
+ghost use Rattle.line_rows.specs.Lines.{lines_of, Read, lines_lent};
 
 use line_rows::reading;
 use lines::line::Line;
@@ -25,7 +25,7 @@ fn any_done(
 ) -> bool
     requires used_in_bounds { (used ≤ length nums.now) × (used ≤ length numbers.now) × (used ≤ length dates.now) }
     requires chained { Chained (receipt_at nums.now) 0 used heads.now next.now }
-    ensures { result ≡ any_done x (records_of (before nums numbers dates) used) }
+    ensures { result ≡ any_done x (records_of (lent nums.now numbers.now dates.now) used) }
 {
     let sought = Sought::MatchedDone;
     lists::is_found(lookup::find(nums, numbers, dates, used, heads, next, sought, x))
@@ -53,8 +53,8 @@ pub fn write_report(
     out: &mut [u8],
 )
     requires used_in_bounds { (used ≤ length nums.now) × (used ≤ length numbers.now) × (used ≤ length dates.now) × (count ≤ length out.old) }
-    requires chained { Chained (receipt_at nums.now) 0 used heads.now next.now × Read (lines_lent values holders days) count }
-    ensures { out.new ≡ over out.old 0 (report_of (lines_of (lines_before values holders days) count) (records_of (before nums numbers dates) used)) }
+    requires chained { Chained (receipt_at nums.now) 0 used heads.now next.now × Read (lines_lent values.now holders.now days.now) count }
+    ensures { out.new ≡ over out.old 0 (report_of (lines_of (lines_lent values.now holders.now days.now) count) (records_of (lent nums.now numbers.now dates.now) used)) }
 {
     let mut i: usize = 0;
     while i < count {

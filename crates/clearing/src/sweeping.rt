@@ -2,7 +2,7 @@
 ghost use Rattle.std.specs.Prelude.{◌≡◌, ℕ, ◌<◌, ◌≤◌, length, get_or};
 ghost use Rattle.index.specs.Index.{Chained};
 ghost use Rattle.table.specs.Table.{rows_with};
-ghost use Rattle.table.specs.Lent.{lent, before, after};
+ghost use Rattle.table.specs.Lent.{lent};
 ghost use Rattle.table.specs.Accounts.{find_account};
 ghost use Rattle.directory.specs.Directory.{holders_of, Keyed, Listed};
 ghost use Rattle.ledger.specs.Change.{revoked};
@@ -10,7 +10,7 @@ ghost use Rattle.posting.specs.Posting.{Ledger, ledger_of};
 ghost use Rattle.clearing.specs.Clearing.{any_matches, is_stray, swept};
 ghost use Rattle.posting.specs.Steps.{Held, Left};
 ghost use Rattle.clearing.specs.Steps.{receipt_in};
-ghost use Rattle.line_rows.specs.Lines.{lines_of, Read, lines_lent, lines_before};
+ghost use Rattle.line_rows.specs.Lines.{lines_of, Read, lines_lent};
 
 use days::calendar::Day;
 use ledger::change;
@@ -43,8 +43,8 @@ fn any_matches(
     next: &[u16],
     r: Record,
 ) -> bool
-    requires { Read (lines_lent values holders days) count × Chained (receipt_in values.now) 0 count heads.now next.now }
-    ensures { result ≡ any_matches (lines_of (lines_before values holders days) count) r }
+    requires { Read (lines_lent values.now holders.now days.now) count × Chained (receipt_in values.now) 0 count heads.now next.now }
+    ensures { result ≡ any_matches (lines_of (lines_lent values.now holders.now days.now) count) r }
 {
     let mut at = index::first(heads, r.receipt);
     while 0 < at {
@@ -69,8 +69,8 @@ fn is_stray(
     heads: &[u16],
     next: &[u16],
 ) -> bool
-    requires { Read (lines_lent values holders days) count × Chained (receipt_in values.now) 0 count heads.now next.now }
-    ensures { result ≡ is_stray day (lines_of (lines_before values holders days) count) r }
+    requires { Read (lines_lent values.now holders.now days.now) count × Chained (receipt_in values.now) 0 count heads.now next.now }
+    ensures { result ≡ is_stray day (lines_of (lines_lent values.now holders.now days.now) count) r }
 {
     if !daily::stands_on(r, day, table::DONE) {
         return false;
@@ -90,7 +90,7 @@ fn revoke_at(
     keys: &[[u64; 3]],
 ) -> Found
     requires { (i < length nums.old) × (i < length numbers.old) × (i < length dates.old) × Keyed names.now keys.now }
-    ensures dates_value { after nums numbers dates ≡ rows_with (before nums numbers dates) i (revoked clock r) }
+    ensures dates_value { lent nums.new numbers.new dates.new ≡ rows_with (lent nums.old numbers.old dates.old) i (revoked clock r) }
     ensures value { result ≡ find_account r.number r.kind (holders_of names.now keys.now) }
 {
     rows::store(nums, numbers, dates, i, change::revoke_record(clock, r));
@@ -115,15 +115,15 @@ pub fn sweep(
     heads: &[u16],
     next: &[u16],
 ) -> Gate
-    requires held { Held g (lent nums numbers dates) 11000000000000 × Read (lines_lent values holders days) count }
+    requires held { Held g (lent nums.old numbers.old dates.old) 11000000000000 × Read (lines_lent values.now holders.now days.now) count }
     requires listed { Listed names.now keys.now g }
     requires chained { Chained (receipt_in values.now) 0 count heads.now next.now }
-    ensures left { Left (before nums numbers dates)
-        (swept clock day (lines_of (lines_before values holders days) count) (ledger_of g (before nums numbers dates)))
-        result (after nums numbers dates) }
-    ensures held_2 { Held result (after nums numbers dates) 16000000000000 }
-    ensures fact { ◌≡◌ {A = Ledger} (swept clock day (lines_of (lines_before values holders days) count) (ledger_of g (before nums numbers dates)))
-        (ledger_of result (after nums numbers dates)) }
+    ensures left { Left (lent nums.old numbers.old dates.old)
+        (swept clock day (lines_of (lines_lent values.now holders.now days.now) count) (ledger_of g (lent nums.old numbers.old dates.old)))
+        result (lent nums.new numbers.new dates.new) }
+    ensures held_2 { Held result (lent nums.new numbers.new dates.new) 16000000000000 }
+    ensures fact { ◌≡◌ {A = Ledger} (swept clock day (lines_of (lines_lent values.now holders.now days.now) count) (ledger_of g (lent nums.old numbers.old dates.old)))
+        (ledger_of result (lent nums.new numbers.new dates.new)) }
 {
     let used = g.used;
     let mut gate = g;

@@ -3,14 +3,14 @@
 ghost use Rattle.std.specs.Prelude.{◌≡◌, ◌≤◌, length};
 ghost use Rattle.index.specs.Index.{Chained};
 ghost use Rattle.table.specs.Table.{records_of, rows_from, Whole};
-ghost use Rattle.table.specs.Lent.{lent, before, after};
+ghost use Rattle.table.specs.Lent.{lent};
 ghost use Rattle.clearing.specs.Clearing.{settle_lines, swept};
 ghost use Rattle.closing.specs.Closing.{settle_day, reported};
 ghost use Rattle.admission.specs.Delivery.{delivery_of};
 ghost use Rattle.posting.specs.Posting.{Ledger, ledger_of};
 ghost use Rattle.posting.specs.Lookup.{receipt_at};
 ghost use Rattle.posting.specs.Steps.{Held};
-ghost use Rattle.line_rows.specs.Lines.{lines_of, Read, lines_lent, lines_before};
+ghost use Rattle.line_rows.specs.Lines.{lines_of, Read, lines_lent};
 
 use clearing::{each_line, report, sweeping};
 use days::calendar::Day;
@@ -33,13 +33,13 @@ fn clear_day(
     heads: &mut [u16],
     next: &mut [u16],
 ) -> Gate
-    requires held { Held g (lent nums numbers dates) 10000000000000 × Read (lines_lent values holders days) count }
+    requires held { Held g (lent nums.old numbers.old dates.old) 10000000000000 × Read (lines_lent values.now holders.now days.now) count }
     requires chained { Chained (receipt_at nums.old) 0 g.used heads.old next.old × (4096 ≡ length next.old) }
-    ensures fact { ◌≡◌ {A = Ledger} (swept clock day (lines_of (lines_before values holders days) count)
-        (settle_lines clock (length nums.old) (lines_of (lines_before values holders days) count) (ledger_of g (before nums numbers dates))))
-        (ledger_of result (after nums numbers dates)) }
-    ensures dates_value { after nums numbers dates ≡ rows_from (before nums numbers dates) (records_of (after nums numbers dates) result.used) }
-    ensures whole { Whole (after nums numbers dates) result.used }
+    ensures fact { ◌≡◌ {A = Ledger} (swept clock day (lines_of (lines_lent values.now holders.now days.now) count)
+        (settle_lines clock (length nums.old) (lines_of (lines_lent values.now holders.now days.now) count) (ledger_of g (lent nums.old numbers.old dates.old))))
+        (ledger_of result (lent nums.new numbers.new dates.new)) }
+    ensures dates_value { lent nums.new numbers.new dates.new ≡ rows_from (lent nums.old numbers.old dates.old) (records_of (lent nums.new numbers.new dates.new) result.used) }
+    ensures whole { Whole (lent nums.new numbers.new dates.new) result.used }
     ensures chained_2 { Chained (receipt_at nums.new) 0 result.used heads.new next.new }
 {
     let n = g.count;
@@ -96,10 +96,10 @@ pub fn settle_day(
     count: usize,
     out: &mut [u8],
 ) -> Reply
-    requires held { Held g (lent nums numbers dates) 10000000000000 }
-    requires read { Read (lines_lent values holders days) count × (512 ≤ length out.old) }
-    ensures { delivery_of result (after nums numbers dates) out.new
-        ≡ settle_day g (before nums numbers dates) clock day (lines_of (lines_before values holders days) count) out.old }
+    requires held { Held g (lent nums.old numbers.old dates.old) 10000000000000 }
+    requires read { Read (lines_lent values.now holders.now days.now) count × (512 ≤ length out.old) }
+    ensures { delivery_of result (lent nums.new numbers.new dates.new) out.new
+        ≡ settle_day g (lent nums.old numbers.old dates.old) clock day (lines_of (lines_lent values.now holders.now days.now) count) out.old }
 {
     let mut heads = index::no_heads();
     let mut next = index::no_links();
@@ -132,10 +132,10 @@ pub fn report_day(
     count: usize,
     out: &mut [u8],
 ) -> Reply
-    requires held { Held g (lent nums numbers dates) 10000000000000 }
-    requires read { Read (lines_lent values holders days) count × (512 ≤ length out.old) }
-    ensures { delivery_of result (before nums numbers dates) out.new
-        ≡ reported g (before nums numbers dates) (lines_of (lines_before values holders days) count) out.old }
+    requires held { Held g (lent nums.now numbers.now dates.now) 10000000000000 }
+    requires read { Read (lines_lent values.now holders.now days.now) count × (512 ≤ length out.old) }
+    ensures { delivery_of result (lent nums.now numbers.now dates.now) out.new
+        ≡ reported g (lent nums.now numbers.now dates.now) (lines_of (lines_lent values.now holders.now days.now) count) out.old }
 {
     let used = g.used;
     let mut heads = index::no_heads();

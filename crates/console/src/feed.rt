@@ -1,7 +1,7 @@
 // A session's input, fed in parts, or whole. Accounts and the bytes of a line that has not ended are lent.
 ghost use Rattle.std.specs.Prelude.{◌≡◌, ◌+◌, ◌≤◌, length};
-ghost use Rattle.table.specs.Lent.{before, after};
-ghost use Rattle.table.specs.Columns.{gate_of, columns_lent, columns_before, columns_after};
+ghost use Rattle.table.specs.Lent.{lent};
+ghost use Rattle.table.specs.Columns.{gate_of, columns_of};
 ghost use Rattle.figures.specs.Sums.{Summable};
 ghost use Rattle.gathering.specs.Held.{held_of};
 ghost use Rattle.orders.specs.Order.{console_of};
@@ -51,10 +51,10 @@ pub(crate) fn end_line(
     out: &mut [u8],
     at: usize,
 ) -> Printed
-    requires { Summable (gate_of x.head (columns_lent names keys balances)) × (at + line_room (length nums.old) ≤ length out.old) }
-    ensures ended_at { EndedAt (console_of x (columns_before names keys balances)) (held_of bytes.now m) (before nums numbers dates) out.old at
-        (console_of result.console (columns_after names keys balances)) (after nums numbers dates) out.new result.size }
-    ensures summable { Summable (gate_of result.console.head (columns_after names keys balances)) }
+    requires { Summable (gate_of x.head (columns_of names.old keys.old balances.old)) × (at + line_room (length nums.old) ≤ length out.old) }
+    ensures ended_at { EndedAt (console_of x (columns_of names.old keys.old balances.old)) (held_of bytes.now m) (lent nums.old numbers.old dates.old) out.old at
+        (console_of result.console (columns_of names.new keys.new balances.new)) (lent nums.new numbers.new dates.new) out.new result.size }
+    ensures summable { Summable (gate_of result.console.head (columns_of names.new keys.new balances.new)) }
 {
     let line = scan::first_bytes(bytes, m.len);
     let r = turn::line_turn(nums, numbers, dates, names, keys, balances, x, line);
@@ -77,10 +77,10 @@ pub fn feed(
     input: &[u8],
     out: &mut [u8],
 ) -> Part
-    requires { Summable (gate_of x.head (columns_lent names keys balances)) }
-    ensures out_after { part_of result (columns_after names keys balances) bytes.new (after nums numbers dates) out.new
-        ≡ feed_part (console_of x (columns_before names keys balances)) (held_of bytes.old m) (before nums numbers dates) input.now out.old }
-    ensures summable { Summable (gate_of result.console.head (columns_after names keys balances)) }
+    requires { Summable (gate_of x.head (columns_of names.old keys.old balances.old)) }
+    ensures out_after { part_of result (columns_of names.new keys.new balances.new) bytes.new (lent nums.new numbers.new dates.new) out.new
+        ≡ feed_part (console_of x (columns_of names.old keys.old balances.old)) (held_of bytes.old m) (lent nums.old numbers.old dates.old) input.now out.old }
+    ensures summable { Summable (gate_of result.console.head (columns_of names.new keys.new balances.new)) }
 {
     let need = show::line_room(nums.len());
     let mut console = x;
@@ -128,9 +128,9 @@ pub fn finish(
     out: &mut [u8],
     at: usize,
 ) -> Part
-    requires { Summable (gate_of x.head (columns_lent names keys balances)) × (at + line_room (length nums.old) ≤ length out.old) }
-    ensures { part_of result (columns_after names keys balances) bytes.now (after nums numbers dates) out.new
-        ≡ last_part (console_of x (columns_before names keys balances)) (held_of bytes.now m) (before nums numbers dates) out.old at }
+    requires { Summable (gate_of x.head (columns_of names.old keys.old balances.old)) × (at + line_room (length nums.old) ≤ length out.old) }
+    ensures { part_of result (columns_of names.new keys.new balances.new) bytes.now (lent nums.new numbers.new dates.new) out.new
+        ≡ last_part (console_of x (columns_of names.old keys.old balances.old)) (held_of bytes.now m) (lent nums.old numbers.old dates.old) out.old at }
 {
     if m.len == 0 {
         return Part {
@@ -160,7 +160,7 @@ pub fn run_session(
     input: &[u8],
     out: &mut [u8],
 ) -> Run
-    ensures { run_of result (after nums numbers dates) out.new ≡ run_all (before nums numbers dates) input.now out.old }
+    ensures { run_of result (lent nums.new numbers.new dates.new) out.new ≡ run_all (lent nums.old numbers.old dates.old) input.now out.old }
 {
     if out.len() / show::line_room(nums.len()) <= input.len() {
         return Run { ok: false, size: 0 };

@@ -1,6 +1,6 @@
 // What a line prints, and how much that can be.
 ghost use Rattle.std.specs.Prelude.{◌≡◌, ◌&&◌, ◌+◌, ◌-◌, ◌≤◌, leb, ltb, length};
-ghost use Rattle.table.specs.Lent.{lent, before};
+ghost use Rattle.table.specs.Lent.{lent};
 ghost use Rattle.figures.specs.Sums.{Summable, nameless};
 ghost use Rattle.figures.specs.Listing.{Put};
 ghost use Rattle.orders.specs.Order.{shown_text};
@@ -45,10 +45,10 @@ pub(crate) fn write_shown(
     out: &mut [u8],
     at: usize,
 ) -> usize
-    requires summable { Summable (nameless r.console.head balances.now) × Showable r.shown (lent nums numbers dates) r.console.head.used }
+    requires summable { Summable (nameless r.console.head balances.now) × Showable r.shown (lent nums.now numbers.now dates.now) r.console.head.used }
     requires nums_in_bounds { at + line_room (length nums.now) ≤ length out.old }
     ensures { Put out.old at
-        (shown_text r.shown r.code (nameless r.console.head balances.now) (before nums numbers dates)) result out.new }
+        (shown_text r.shown r.code (nameless r.console.head balances.now) (lent nums.now numbers.now dates.now)) result out.new }
 {
     let console = r.console;
     let head = console.head;

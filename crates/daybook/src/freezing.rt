@@ -2,7 +2,7 @@
 ghost use Rattle.std.specs.Prelude.{◌≡◌, ◌&&◌};
 ghost use Rattle.days.specs.Calendar.{next_day, on_day};
 ghost use Rattle.daybook.specs.Freezing.{freeze};
-ghost use Rattle.book.specs.Lent.{book_before};
+ghost use Rattle.book.specs.Lent.{lent_book};
 
 use book::Book;
 use book_validity::valid;
@@ -35,7 +35,7 @@ pub fn freeze(
     book: Book,
     day: Day,
 ) -> Freezing
-    ensures { result ≡ freeze book (book_before nums numbers dates) day }
+    ensures { result ≡ freeze book (lent_book nums.now numbers.now dates.now) day }
 {
     if !valid::book_good(nums, numbers, dates, book) {
         return Freezing { code: 68, book };

@@ -1,7 +1,7 @@
 // The calls of the agent.
 ghost use Rattle.std.specs.Prelude.{◌≡◌};
 ghost use Rattle.payments.specs.declared.Action.TheVariants.{Check, Payment, Status, Cancel};
-ghost use Rattle.book.specs.Lent.{book_before, book_after};
+ghost use Rattle.book.specs.Lent.{lent_book};
 ghost use Rattle.acceptance.specs.Acceptance.{acceptance_of, accept};
 ghost use Rattle.daybook.specs.Freezing.{freeze};
 ghost use Rattle.listing.specs.Listing.{listing_of, write_registry};
@@ -32,7 +32,7 @@ pub extern "C" fn roosteryore_accept(
     kopecks: u64,
     date: &[u8; 19],
 ) -> Acceptance
-    ensures { acceptance_of result (book_after nums numbers dates) ≡ accept book (book_before nums numbers dates) number kind kopecks date.now }
+    ensures { acceptance_of result (lent_book nums.new numbers.new dates.new) ≡ accept book (lent_book nums.old numbers.old dates.old) number kind kopecks date.now }
 {
     let written = *date;
     accepting::accept(nums, numbers, dates, book, number, kind, kopecks, written)
@@ -47,7 +47,7 @@ pub extern "C" fn roosteryore_freeze(
     book: Book,
     day: Day,
 ) -> Freezing
-    ensures { result ≡ freeze book (book_before nums numbers dates) day }
+    ensures { result ≡ freeze book (lent_book nums.now numbers.now dates.now) day }
 {
     freezing::freeze(nums, numbers, dates, book, day)
 }
@@ -62,7 +62,7 @@ pub extern "C" fn roosteryore_write_registry(
     day: Day,
     out: &mut [u8],
 ) -> Writing
-    ensures { listing_of result out.new ≡ write_registry book (book_before nums numbers dates) day out.old }
+    ensures { listing_of result out.new ≡ write_registry book (lent_book nums.now numbers.now dates.now) day out.old }
 {
     listing::write_registry(nums, numbers, dates, book, day, out)
 }
@@ -79,7 +79,7 @@ pub extern "C" fn roosteryore_write_check(
     kopecks: u64,
     out: &mut [u8],
 ) -> Writing
-    ensures { writing_of result (book_before nums numbers dates) out.new ≡ write_check book (book_before nums numbers dates) number kind kopecks out.old }
+    ensures { writing_of result (lent_book nums.now numbers.now dates.now) out.new ≡ write_check book (lent_book nums.now numbers.now dates.now) number kind kopecks out.old }
 {
     writing::write_check(nums, numbers, dates, book, number, kind, kopecks, out)
 }
@@ -94,7 +94,7 @@ pub extern "C" fn roosteryore_write_payment(
     receipt: u64,
     out: &mut [u8],
 ) -> Writing
-    ensures { writing_of result (book_after nums numbers dates) out.new ≡ write_request book (book_before nums numbers dates) Payment receipt 0 out.old }
+    ensures { writing_of result (lent_book nums.new numbers.new dates.new) out.new ≡ write_request book (lent_book nums.old numbers.old dates.old) Payment receipt 0 out.old }
 {
     writing::write_payment(nums, numbers, dates, book, receipt, out)
 }
@@ -109,7 +109,7 @@ pub extern "C" fn roosteryore_write_status(
     receipt: u64,
     out: &mut [u8],
 ) -> Writing
-    ensures { writing_of result (book_after nums numbers dates) out.new ≡ write_request book (book_before nums numbers dates) Status receipt 0 out.old }
+    ensures { writing_of result (lent_book nums.new numbers.new dates.new) out.new ≡ write_request book (lent_book nums.old numbers.old dates.old) Status receipt 0 out.old }
 {
     writing::write_status(nums, numbers, dates, book, receipt, out)
 }
@@ -125,7 +125,7 @@ pub extern "C" fn roosteryore_write_cancel(
     reason: u64,
     out: &mut [u8],
 ) -> Writing
-    ensures { writing_of result (book_after nums numbers dates) out.new ≡ write_request book (book_before nums numbers dates) Cancel receipt reason out.old }
+    ensures { writing_of result (lent_book nums.new numbers.new dates.new) out.new ≡ write_request book (lent_book nums.old numbers.old dates.old) Cancel receipt reason out.old }
 {
     writing::write_cancel(nums, numbers, dates, book, receipt, reason, out)
 }
@@ -139,7 +139,7 @@ pub extern "C" fn roosteryore_take_check_answer(
     book: Book,
     text: &[u8],
 ) -> u64
-    ensures { taking_of result (book_after nums numbers dates) ≡ take_answer book (book_before nums numbers dates) Check 0 text.now }
+    ensures { taking_of result (lent_book nums.new numbers.new dates.new) ≡ take_answer book (lent_book nums.old numbers.old dates.old) Check 0 text.now }
 {
     answering::take_answer(nums, numbers, dates, book, Action::Check, 0, text)
 }
@@ -154,7 +154,7 @@ pub extern "C" fn roosteryore_take_payment_answer(
     receipt: u64,
     text: &[u8],
 ) -> u64
-    ensures { taking_of result (book_after nums numbers dates) ≡ take_answer book (book_before nums numbers dates) Payment receipt text.now }
+    ensures { taking_of result (lent_book nums.new numbers.new dates.new) ≡ take_answer book (lent_book nums.old numbers.old dates.old) Payment receipt text.now }
 {
     answering::take_answer(nums, numbers, dates, book, Action::Payment, receipt, text)
 }
@@ -169,7 +169,7 @@ pub extern "C" fn roosteryore_take_status_answer(
     receipt: u64,
     text: &[u8],
 ) -> u64
-    ensures { taking_of result (book_after nums numbers dates) ≡ take_answer book (book_before nums numbers dates) Status receipt text.now }
+    ensures { taking_of result (lent_book nums.new numbers.new dates.new) ≡ take_answer book (lent_book nums.old numbers.old dates.old) Status receipt text.now }
 {
     answering::take_answer(nums, numbers, dates, book, Action::Status, receipt, text)
 }
@@ -184,7 +184,7 @@ pub extern "C" fn roosteryore_take_cancel_answer(
     receipt: u64,
     text: &[u8],
 ) -> u64
-    ensures { taking_of result (book_after nums numbers dates) ≡ take_answer book (book_before nums numbers dates) Cancel receipt text.now }
+    ensures { taking_of result (lent_book nums.new numbers.new dates.new) ≡ take_answer book (lent_book nums.old numbers.old dates.old) Cancel receipt text.now }
 {
     answering::take_answer(nums, numbers, dates, book, Action::Cancel, receipt, text)
 }
@@ -199,7 +199,7 @@ pub extern "C" fn roosteryore_take_report(
     day: Day,
     marks: &[u8],
 ) -> Reporting
-    ensures { reporting_of result (book_after nums numbers dates) ≡ take_report book (book_before nums numbers dates) day marks.now }
+    ensures { reporting_of result (lent_book nums.new numbers.new dates.new) ≡ take_report book (lent_book nums.old numbers.old dates.old) day marks.now }
 {
     taking::take_report(nums, numbers, dates, book, day, marks)
 }

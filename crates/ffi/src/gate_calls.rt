@@ -1,6 +1,6 @@
 // The calls of the gate.
 ghost use Rattle.std.specs.Prelude.{◌≡◌};
-ghost use Rattle.table.specs.Lent.{before, after};
+ghost use Rattle.table.specs.Lent.{lent};
 ghost use Rattle.opening.specs.Opening.{open_account, draw_funds};
 ghost use Rattle.admission.specs.Delivery.{delivery_of};
 ghost use Rattle.gate.specs.Deliver.{deliver};
@@ -23,7 +23,7 @@ pub extern "C" fn roosteryore_open_account(
     number: Number,
     kind: u64,
 ) -> Reply
-    ensures { result ≡ open_account gate (before nums numbers dates) number kind }
+    ensures { result ≡ open_account gate (lent nums.now numbers.now dates.now) number kind }
 {
     opening::open_account(nums, numbers, dates, gate, number, kind)
 }
@@ -39,7 +39,7 @@ pub extern "C" fn roosteryore_draw_funds(
     kind: u64,
     kopecks: u64,
 ) -> Reply
-    ensures { result ≡ draw_funds gate (before nums numbers dates) number kind kopecks }
+    ensures { result ≡ draw_funds gate (lent nums.now numbers.now dates.now) number kind kopecks }
 {
     opening::draw_funds(nums, numbers, dates, gate, number, kind, kopecks)
 }
@@ -55,7 +55,7 @@ pub extern "C" fn roosteryore_deliver(
     params: &[u8],
     out: &mut [u8],
 ) -> Reply
-    ensures { delivery_of result (after nums numbers dates) out.new ≡ deliver gate (before nums numbers dates) clock.now params.now out.old }
+    ensures { delivery_of result (lent nums.new numbers.new dates.new) out.new ≡ deliver gate (lent nums.old numbers.old dates.old) clock.now params.now out.old }
 {
     let written = *clock;
     deliver::deliver(nums, numbers, dates, gate, written, params, out)
@@ -73,7 +73,7 @@ pub extern "C" fn roosteryore_settle(
     bytes: &[u8],
     out: &mut [u8],
 ) -> Reply
-    ensures { delivery_of result (after nums numbers dates) out.new ≡ settle gate (before nums numbers dates) clock.now day bytes.now out.old }
+    ensures { delivery_of result (lent nums.new numbers.new dates.new) out.new ≡ settle gate (lent nums.old numbers.old dates.old) clock.now day bytes.now out.old }
 {
     let written = *clock;
     settle::settle(nums, numbers, dates, gate, written, day, bytes, out)

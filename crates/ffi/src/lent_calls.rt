@@ -1,7 +1,7 @@
 // The calls of the gate over accounts that are lent in columns, each a pointer to 256 elements.
 ghost use Rattle.std.specs.Prelude.{◌≡◌};
-ghost use Rattle.table.specs.Lent.{before, after};
-ghost use Rattle.table.specs.Columns.{gate_of, columns_before, columns_after, columns_moved};
+ghost use Rattle.table.specs.Lent.{lent};
+ghost use Rattle.table.specs.Columns.{gate_of, columns_of};
 ghost use Rattle.opening.specs.Opening.{lent_reply, open_account, draw_funds};
 ghost use Rattle.admission.specs.Delivery.{lent_delivery};
 ghost use Rattle.gate.specs.Deliver.{deliver};
@@ -24,7 +24,7 @@ pub extern "C" fn roosteryore_open_account_lent(
     number: Number,
     kind: u64,
 ) -> HeadReply
-    ensures { lent_reply result (columns_after names keys balances) ≡ open_account (gate_of head (columns_before names keys balances)) (before nums numbers dates) number kind }
+    ensures { lent_reply result (columns_of names.new keys.new balances.new) ≡ open_account (gate_of head (columns_of names.old keys.old balances.old)) (lent nums.now numbers.now dates.now) number kind }
 {
     opening::open_lent(
         nums, numbers, dates, names, keys, balances, head, number, kind,
@@ -45,7 +45,7 @@ pub extern "C" fn roosteryore_draw_funds_lent(
     kind: u64,
     kopecks: u64,
 ) -> HeadReply
-    ensures { lent_reply result (columns_moved names keys balances) ≡ draw_funds (gate_of head (columns_before names keys balances)) (before nums numbers dates) number kind kopecks }
+    ensures { lent_reply result (columns_of names.now keys.now balances.new) ≡ draw_funds (gate_of head (columns_of names.now keys.now balances.old)) (lent nums.now numbers.now dates.now) number kind kopecks }
 {
     opening::draw_lent(
         nums, numbers, dates, names, keys, balances, head, number, kind, kopecks,
@@ -66,8 +66,8 @@ pub extern "C" fn roosteryore_deliver_lent(
     params: &[u8],
     out: &mut [u8],
 ) -> HeadReply
-    ensures { lent_delivery result (columns_moved names keys balances) (after nums numbers dates) out.new
-        ≡ deliver (gate_of head (columns_before names keys balances)) (before nums numbers dates) clock.now params.now out.old }
+    ensures { lent_delivery result (columns_of names.now keys.now balances.new) (lent nums.new numbers.new dates.new) out.new
+        ≡ deliver (gate_of head (columns_of names.now keys.now balances.old)) (lent nums.old numbers.old dates.old) clock.now params.now out.old }
 {
     let written = *clock;
     deliver::deliver_lent(

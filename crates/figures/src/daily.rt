@@ -1,7 +1,7 @@
 // What P prints of a day.
 ghost use Rattle.std.specs.Prelude.{[], ◌∷◌, ◌+◌, ◌*◌, ◌≤◌, length};
 ghost use Rattle.table.specs.Table.{records_of, done};
-ghost use Rattle.table.specs.Lent.{lent, before};
+ghost use Rattle.table.specs.Lent.{lent};
 ghost use Rattle.table.specs.Daily.{records_on};
 ghost use Rattle.figures.specs.Daily.{record_text, records_text, sum_text, day_text};
 ghost use Rattle.figures.specs.Listing.{Payable, Put, Summed};
@@ -51,8 +51,8 @@ fn write_records(
     dst: &mut [u8],
     at: usize,
 ) -> usize
-    requires { Payable (lent nums numbers dates) used × (at + 64 * used ≤ length dst.old) }
-    ensures { Put dst.old at (records_text (records_on day done (records_of (before nums numbers dates) used))) result dst.new }
+    requires { Payable (lent nums.now numbers.now dates.now) used × (at + 64 * used ≤ length dst.old) }
+    ensures { Put dst.old at (records_text (records_on day done (records_of (lent nums.now numbers.now dates.now) used))) result dst.new }
 {
     let mut cursor = at;
     let mut i: usize = 0;
@@ -73,8 +73,8 @@ fn sum_on(
     day: Day,
     state: u64,
 ) -> Sum
-    requires { Payable (lent nums numbers dates) used }
-    ensures { Summed day state (records_of (before nums numbers dates) used) result.count result.total }
+    requires { Payable (lent nums.now numbers.now dates.now) used }
+    ensures { Summed day state (records_of (lent nums.now numbers.now dates.now) used) result.count result.total }
 {
     let mut count: u64 = 0;
     let mut total: u64 = 0;
@@ -111,8 +111,8 @@ pub fn write_day(
     dst: &mut [u8],
     at: usize,
 ) -> usize
-    requires { Payable (lent nums numbers dates) used × (at + 64 * (used + 2) ≤ length dst.old) }
-    ensures { Put dst.old at (day_text day (records_of (before nums numbers dates) used)) result dst.new }
+    requires { Payable (lent nums.now numbers.now dates.now) used × (at + 64 * (used + 2) ≤ length dst.old) }
+    ensures { Put dst.old at (day_text day (records_of (lent nums.now numbers.now dates.now) used)) result dst.new }
 {
     let a = write_records(nums, numbers, dates, used, day, dst, at);
     let paid = sum_on(nums, numbers, dates, used, day, table::DONE);

@@ -1,7 +1,7 @@
 // A request delivered to the gate.
 ghost use Rattle.std.specs.Prelude.{◌≡◌, true, ◌<◌};
-ghost use Rattle.table.specs.Lent.{lent, before, after};
-ghost use Rattle.table.specs.Columns.{gate_of, columns_lent, columns_before, columns_moved};
+ghost use Rattle.table.specs.Lent.{lent};
+ghost use Rattle.table.specs.Columns.{gate_of, columns_of};
 ghost use Rattle.validity.specs.Valid.{Ready, table_good};
 ghost use Rattle.gate.specs.Deliver.{instruction_of, respond, deliver};
 ghost use Rattle.admission.specs.Delivery.{delivery_of, lent_delivery};
@@ -44,10 +44,10 @@ fn answer_read(
     q: RequestRead,
     out: &mut [u8],
 ) -> HeadReply
-    requires ready { Ready (gate_of head (columns_lent names keys balances)) (lent nums numbers dates) }
-    requires dates_value { (table_good (gate_of head (columns_lent names keys balances)) (lent nums numbers dates) ≡ true) × (q.asked.amount < 1000000000) }
-    ensures { lent_delivery result (columns_moved names keys balances) (after nums numbers dates) out.new
-        ≡ respond (gate_of head (columns_before names keys balances)) (before nums numbers dates) clock q.fault (instruction_of q.asked) out.old }
+    requires ready { Ready (gate_of head (columns_of names.now keys.now balances.old)) (lent nums.old numbers.old dates.old) }
+    requires dates_value { (table_good (gate_of head (columns_of names.now keys.now balances.old)) (lent nums.old numbers.old dates.old) ≡ true) × (q.asked.amount < 1000000000) }
+    ensures { lent_delivery result (columns_of names.now keys.now balances.new) (lent nums.new numbers.new dates.new) out.new
+        ≡ respond (gate_of head (columns_of names.now keys.now balances.old)) (lent nums.old numbers.old dates.old) clock q.fault (instruction_of q.asked) out.old }
 {
     let asked = q.asked;
     let a = asked.action;
@@ -86,8 +86,8 @@ pub fn deliver_lent(
     params: &[u8],
     out: &mut [u8],
 ) -> HeadReply
-    ensures { lent_delivery result (columns_moved names keys balances) (after nums numbers dates) out.new
-        ≡ deliver (gate_of head (columns_before names keys balances)) (before nums numbers dates) clock params.now out.old }
+    ensures { lent_delivery result (columns_of names.now keys.now balances.new) (lent nums.new numbers.new dates.new) out.new
+        ≡ deliver (gate_of head (columns_of names.now keys.now balances.old)) (lent nums.old numbers.old dates.old) clock params.now out.old }
 {
     let fault = admission::admit(
         nums,
@@ -123,7 +123,7 @@ pub fn deliver(
     params: &[u8],
     out: &mut [u8],
 ) -> Reply
-    ensures { delivery_of result (after nums numbers dates) out.new ≡ deliver gate (before nums numbers dates) clock params.now out.old }
+    ensures { delivery_of result (lent nums.new numbers.new dates.new) out.new ≡ deliver gate (lent nums.old numbers.old dates.old) clock params.now out.old }
 {
     let mut names = columns::empty_names();
     let mut keys = columns::empty_keys();

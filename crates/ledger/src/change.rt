@@ -2,9 +2,9 @@
 ghost use Rattle.std.specs.Prelude.{◌≡◌, List, [], ◌∷◌, ◌++◌, true, ℕ, ◌+◌, ◌<◌, ◌≤◌, length, ℤ, pos, ◌+ℤ◌, ◌-ℤ◌};
 ghost use Rattle.std.specs.Int.Signed.{mag};
 ghost use Rattle.table.specs.Table.{records_of, rows_from, Whole, SameLengths};
-ghost use Rattle.table.specs.Lent.{lent, before, after};
+ghost use Rattle.table.specs.Lent.{lent};
 ghost use Rattle.table.specs.Accounts.{balance_of};
-ghost use Rattle.table.specs.Columns.{gate_of, used_head, columns_of, columns_lent, columns_before, columns_moved};
+ghost use Rattle.table.specs.Columns.{gate_of, used_head, columns_of};
 ghost use Rattle.validity.specs.Valid.{Ready, table_good};
 ghost use Rattle.planning.specs.Plan.{Within, Planned};
 ghost use Rattle.ledger.specs.Change.{make_record, revoked, replaced_at, executed, moved_at, Made, Executes};
@@ -82,8 +82,8 @@ fn replace_at(
     f: Found,
     r: Record,
 )
-    requires { Whole (lent nums numbers dates) used × Within f used }
-    ensures { after nums numbers dates ≡ rows_from (before nums numbers dates) (replaced_at (records_of (before nums numbers dates) used) f r) }
+    requires { Whole (lent nums.old numbers.old dates.old) used × Within f used }
+    ensures { lent nums.new numbers.new dates.new ≡ rows_from (lent nums.old numbers.old dates.old) (replaced_at (records_of (lent nums.old numbers.old dates.old) used) f r) }
 {
     if let Found::At(i) = f {
         rows::store(nums, numbers, dates, i, r);
@@ -100,11 +100,11 @@ fn append(
     q: Details,
     b: i64,
 ) -> Outcome
-    requires whole { Whole (lent nums numbers dates) used × SameLengths (lent nums numbers dates) × (length nums.old ≤ 4096) }
+    requires whole { Whole (lent nums.old numbers.old dates.old) used × SameLengths (lent nums.old numbers.old dates.old) × (length nums.old ≤ 4096) }
     requires used_in_bounds { (used < length nums.old) × (mag b ≤ 10000000000000000) × (q.amount < 1000000000) }
     ensures used_value { (result.used ≡ used + 1) × (result.balance ≡ b +ℤ pos q.amount) }
     ensures subject_value { (g : Gate) → g.used ≡ used → result.subject ≡ make_record g clock q }
-    ensures dates_value { after nums numbers dates ≡ rows_from (before nums numbers dates) (records_of (before nums numbers dates) used ++ (result.subject ∷ [])) }
+    ensures dates_value { lent nums.new numbers.new dates.new ≡ rows_from (lent nums.old numbers.old dates.old) (records_of (lent nums.old numbers.old dates.old) used ++ (result.subject ∷ [])) }
 {
     let r = make_record(used, clock, q);
     rows::store(nums, numbers, dates, used, r);
@@ -126,10 +126,10 @@ fn revoke(
     r: Record,
     b: i64,
 ) -> Outcome
-    requires whole { Whole (lent nums numbers dates) used × SameLengths (lent nums numbers dates) × (length nums.old ≤ 4096) }
+    requires whole { Whole (lent nums.old numbers.old dates.old) used × SameLengths (lent nums.old numbers.old dates.old) × (length nums.old ≤ 4096) }
     requires within { Within f used × (mag b ≤ 10000000000000000) × (r.amount < 1000000000) }
     ensures used_value { (result.used ≡ used) × (result.balance ≡ b -ℤ pos r.amount) × (result.subject ≡ revoked clock r) }
-    ensures dates_value { after nums numbers dates ≡ rows_from (before nums numbers dates) (replaced_at (records_of (before nums numbers dates) used) f (revoked clock r)) }
+    ensures dates_value { lent nums.new numbers.new dates.new ≡ rows_from (lent nums.old numbers.old dates.old) (replaced_at (records_of (lent nums.old numbers.old dates.old) used) f (revoked clock r)) }
 {
     let next = revoke_record(clock, r);
     replace_at(nums, numbers, dates, used, f, next);
@@ -151,12 +151,12 @@ fn make_change(
     p: Plan,
     b: i64,
 ) -> Outcome
-    requires whole { Whole (lent nums numbers dates) used × SameLengths (lent nums numbers dates) × (length nums.old ≤ 4096) }
-    requires planned { Planned used (lent nums numbers dates) p × (q.details.amount < 1000000000) × (mag b ≤ 10000000000000000) }
-    ensures { (g : Gate) → g.used ≡ used → balance_of g p.account ≡ b → Made (before nums numbers dates)
-        (executed g (records_of (before nums numbers dates) used) clock q p)
+    requires whole { Whole (lent nums.old numbers.old dates.old) used × SameLengths (lent nums.old numbers.old dates.old) × (length nums.old ≤ 4096) }
+    requires planned { Planned used (lent nums.old numbers.old dates.old) p × (q.details.amount < 1000000000) × (mag b ≤ 10000000000000000) }
+    ensures { (g : Gate) → g.used ≡ used → balance_of g p.account ≡ b → Made (lent nums.old numbers.old dates.old)
+        (executed g (records_of (lent nums.old numbers.old dates.old) used) clock q p)
         (moved_at g p.account result.balance result.used) result.subject
-        (after nums numbers dates) }
+        (lent nums.new numbers.new dates.new) }
 {
     let details = q.details;
     let d = p.decided;
@@ -187,11 +187,11 @@ pub fn execute(
     fault: u64,
     q: Instruction,
 ) -> Execution
-    requires ready { Ready (gate_of head (columns_lent names keys balances)) (lent nums numbers dates) }
-    requires dates_value { (table_good (gate_of head (columns_lent names keys balances)) (lent nums numbers dates) ≡ true) × (q.details.amount < 1000000000) }
-    ensures { Executes (gate_of head (columns_before names keys balances)) (before nums numbers dates) clock fault q
-        result.code (gate_of (used_head head result.used) (columns_moved names keys balances)) result.subject
-        (after nums numbers dates) }
+    requires ready { Ready (gate_of head (columns_of names.now keys.now balances.old)) (lent nums.old numbers.old dates.old) }
+    requires dates_value { (table_good (gate_of head (columns_of names.now keys.now balances.old)) (lent nums.old numbers.old dates.old) ≡ true) × (q.details.amount < 1000000000) }
+    ensures { Executes (gate_of head (columns_of names.now keys.now balances.old)) (lent nums.old numbers.old dates.old) clock fault q
+        result.code (gate_of (used_head head result.used) (columns_of names.now keys.now balances.new)) result.subject
+        (lent nums.new numbers.new dates.new) }
 {
     let used = head.used;
     let closed = head.closed;

@@ -1,7 +1,5 @@
 -- The lines of a registry once they are read, in three rows: line i has four numbers, the bytes of its account's number, and its date. Cited by inner contracts only: it needs no belief.
 use Rattle.std.specs.Prelude.{ℕ, ◌<◌, ◌≤◌, List, [], ◌∷◌, length, get_or, set}
-use Rattle.std.specs.Borrow.{Bor}
-use denote.Triple.Both.{Both}
 use Rattle.lines.specs.declared.line.Line.{Line}
 use Rattle.lists.specs.Lists.{tab}
 
@@ -39,15 +37,6 @@ pub record Read (t : LineRows) (n : ℕ) : Type 0 where
   pub few : n ≤ 512
   pub small : (i : ℕ) → i < n → (line_at t i).amount < 1000000000
 
--- ---- how contracts name the three rows: at a call, before it and after it
-abbrev Row : Type 0
-Row = Bor (List (List ℕ))
-
-abbrev pub lines_lent : Row → Row → Row → LineRows
-lines_lent nums numbers dates = record { nums = nums.now; numbers = numbers.now; dates = dates.now }
-
-abbrev pub lines_before : {X Y Z : Type 0} → Both Row X → Both Row Y → Both Row Z → LineRows
-lines_before nums numbers dates = lines_lent nums.entry numbers.entry dates.entry
-
-abbrev pub lines_after : {X Y Z : Type 0} → Both X Row → Both Y Row → Both Z Row → LineRows
-lines_after nums numbers dates = lines_lent nums.exit numbers.exit dates.exit
+-- ---- how contracts name the three rows: what they hold at a call, before it (`old`) and after it (`new`)
+abbrev pub lines_lent : List (List ℕ) → List (List ℕ) → List (List ℕ) → LineRows
+lines_lent nums numbers dates = record { nums = nums; numbers = numbers; dates = dates }

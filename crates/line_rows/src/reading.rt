@@ -3,7 +3,7 @@ ghost use Rattle.std.specs.Prelude.{◌≡◌, ◌+◌, ◌<◌, ◌≤◌, cond
 ghost use Rattle.fields.specs.Number.{padded};
 ghost use Rattle.lines.specs.LineText.{line_in, Stands};
 ghost use Rattle.registry.specs.Registry.{line_count, registry_fault, registry_lines};
-ghost use Rattle.line_rows.specs.Lines.{line_from, line_at, lines_with, lines_of, Read, lines_before, lines_after};
+ghost use Rattle.line_rows.specs.Lines.{line_from, line_at, lines_with, lines_of, Read, lines_lent};
 
 use dates::date;
 use days::calendar::Day;
@@ -61,7 +61,7 @@ fn line_of(w: [u64; 4], bytes: [u8; 30], date: [u8; 19]) -> Line
 // The line at i.
 pub fn line_at(nums: &[[u64; 4]], numbers: &[[u8; 30]], dates: &[[u8; 19]], i: usize) -> Line
     requires { (i < length nums.now) × (i < length numbers.now) × (i < length dates.now) }
-    ensures { result ≡ line_at (lines_before nums numbers dates) i }
+    ensures { result ≡ line_at (lines_lent nums.now numbers.now dates.now) i }
 {
     let w = nums[i];
     let bytes = numbers[i];
@@ -88,7 +88,7 @@ fn put_line(
     x: Found,
 )
     requires { (i < length nums.old) × (i < length numbers.old) × (i < length dates.old) × Stands s.now x }
-    ensures { lines_after nums numbers dates ≡ lines_with (lines_before nums numbers dates) i (line_in s.now x) }
+    ensures { lines_lent nums.new numbers.new dates.new ≡ lines_with (lines_lent nums.old numbers.old dates.old) i (line_in s.now x) }
 {
     let len = x.len;
     let at = x.date;
@@ -116,8 +116,8 @@ pub fn read_registry(
 ) -> LinesRead
     requires { (512 ≡ length nums.old) × (512 ≡ length numbers.old) × (512 ≡ length dates.old) }
     ensures fault_value { result.fault ≡ registry_fault day s.now }
-    ensures count_value { result.fault ≡ 0 → lines_of (lines_after nums numbers dates) result.count ≡ registry_lines s.now }
-    ensures read { result.fault ≡ 0 → Read (lines_after nums numbers dates) result.count }
+    ensures count_value { result.fault ≡ 0 → lines_of (lines_lent nums.new numbers.new dates.new) result.count ≡ registry_lines s.now }
+    ensures read { result.fault ≡ 0 → Read (lines_lent nums.new numbers.new dates.new) result.count }
 {
     let mut rose = true;
     let mut last: u64 = 0;

@@ -4,7 +4,7 @@ ghost use Rattle.std.specs.Prelude.{◌≡◌, true, ◌≤◌, length};
 ghost use Rattle.texts.specs.Lists.{written, cursor_after};
 ghost use Rattle.dates.specs.Date.{is_written};
 ghost use Rattle.book.specs.Entries.{entries_of};
-ghost use Rattle.book.specs.Lent.{lent_book, book_before};
+ghost use Rattle.book.specs.Lent.{lent_book};
 ghost use Rattle.book_validity.specs.BookValid.{book_good, ReadyBook};
 ghost use Rattle.listing.specs.Listing.{is_listed, entry_line, registry_of, listing_of, write_registry};
 
@@ -54,10 +54,10 @@ pub(crate) fn write_lines(
     day: Day,
     out: &mut [u8],
 ) -> usize
-    requires dates_value { (book_good b (lent_book nums numbers dates) ≡ true) × ReadyBook b (lent_book nums numbers dates) }
+    requires dates_value { (book_good b (lent_book nums.now numbers.now dates.now) ≡ true) × ReadyBook b (lent_book nums.now numbers.now dates.now) }
     requires in_bounds { 65536 ≤ length out.old }
-    ensures { (result ≡ cursor_after out.old 0 (registry_of day (entries_of (book_before nums numbers dates) b.used)))
-        × (out.new ≡ written out.old 0 (registry_of day (entries_of (book_before nums numbers dates) b.used))) }
+    ensures { (result ≡ cursor_after out.old 0 (registry_of day (entries_of (lent_book nums.now numbers.now dates.now) b.used)))
+        × (out.new ≡ written out.old 0 (registry_of day (entries_of (lent_book nums.now numbers.now dates.now) b.used))) }
 {
     let used = b.used;
     let mut at: usize = 0;
@@ -84,7 +84,7 @@ pub fn write_registry(
     day: Day,
     out: &mut [u8],
 ) -> Writing
-    ensures { listing_of result out.new ≡ write_registry book (book_before nums numbers dates) day out.old }
+    ensures { listing_of result out.new ≡ write_registry book (lent_book nums.now numbers.now dates.now) day out.old }
 {
     if !valid::book_good(nums, numbers, dates, book) {
         return Writing { code: 68, size: 0 };

@@ -48,7 +48,7 @@ fn read_accounts(text: &[u8], names: &mut [[u8; 30]], keys: &mut [[u64; 2]]) -> 
     }
 }
 
-// Says on standard error what Went wrong.
+// Says on standard error what went wrong.
 fn complain(text: &[u8]) {
     io::write_all(2, text);
 }

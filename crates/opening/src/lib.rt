@@ -4,9 +4,9 @@ ghost use Rattle.std.specs.Prelude.{◌≡◌, ◌&&◌, List, ℕ, ◌≤◌};
 ghost use Rattle.std.specs.Int.Signed.{mag};
 ghost use Rattle.fields.specs.Codes.{is_kind};
 ghost use Rattle.fields.specs.Number.{is_number};
-ghost use Rattle.table.specs.Lent.{before};
+ghost use Rattle.table.specs.Lent.{lent};
 ghost use Rattle.table.specs.Accounts.{balance_of};
-ghost use Rattle.table.specs.Columns.{Columns, gate_of, columns_of, columns_before, columns_after, columns_moved};
+ghost use Rattle.table.specs.Columns.{Columns, gate_of, columns_of};
 ghost use Rattle.planning.specs.Plan.{Within};
 ghost use Rattle.opening.specs.Opening.{lent_reply, replies, open_to, open_account, draw_on, draw_funds};
 
@@ -48,7 +48,7 @@ fn open_to(
     kind: u64,
 ) -> HeadReply
     requires { head.count ≤ 256 }
-    ensures { lent_reply result (columns_after names keys balances) ≡ open_to (gate_of head (columns_before names keys balances)) n kind }
+    ensures { lent_reply result (columns_of names.new keys.new balances.new) ≡ open_to (gate_of head (columns_of names.old keys.old balances.old)) n kind }
 {
     if !is_named(n, kind) {
         return keep(59, head);
@@ -78,7 +78,7 @@ pub fn open_lent(
     number: Number,
     kind: u64,
 ) -> HeadReply
-    ensures { lent_reply result (columns_after names keys balances) ≡ open_account (gate_of head (columns_before names keys balances)) (before nums numbers dates) number kind }
+    ensures { lent_reply result (columns_of names.new keys.new balances.new) ≡ open_account (gate_of head (columns_of names.old keys.old balances.old)) (lent nums.now numbers.now dates.now) number kind }
 {
     if !valid::table_good(nums, numbers, dates, names, keys, balances, head) {
         return keep(68, head);
@@ -95,7 +95,7 @@ pub fn open_account(
     number: Number,
     kind: u64,
 ) -> Reply
-    ensures { result ≡ open_account gate (before nums numbers dates) number kind }
+    ensures { result ≡ open_account gate (lent nums.now numbers.now dates.now) number kind }
 {
     let mut names = columns::empty_names();
     let mut keys = columns::empty_keys();
@@ -153,7 +153,7 @@ pub fn draw_lent(
     kind: u64,
     kopecks: u64,
 ) -> HeadReply
-    ensures { lent_reply result (columns_moved names keys balances) ≡ draw_funds (gate_of head (columns_before names keys balances)) (before nums numbers dates) number kind kopecks }
+    ensures { lent_reply result (columns_of names.now keys.now balances.new) ≡ draw_funds (gate_of head (columns_of names.now keys.now balances.old)) (lent nums.now numbers.now dates.now) number kind kopecks }
 {
     if !valid::table_good(nums, numbers, dates, names, keys, balances, head) {
         return keep(68, head);
@@ -175,7 +175,7 @@ pub fn draw_funds(
     kind: u64,
     kopecks: u64,
 ) -> Reply
-    ensures { result ≡ draw_funds gate (before nums numbers dates) number kind kopecks }
+    ensures { result ≡ draw_funds gate (lent nums.now numbers.now dates.now) number kind kopecks }
 {
     let mut names = columns::empty_names();
     let mut keys = columns::empty_keys();

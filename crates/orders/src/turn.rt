@@ -3,8 +3,8 @@ ghost use Rattle.std.specs.Prelude.{◌≡◌, true};
 ghost use Rattle.fields.specs.Codes.{kind_read};
 ghost use Rattle.fields.specs.Number.{number_read};
 ghost use Rattle.table.specs.Table.{Rows};
-ghost use Rattle.table.specs.Lent.{before, after};
-ghost use Rattle.table.specs.Columns.{Columns, columns_before, columns_after, columns_moved};
+ghost use Rattle.table.specs.Lent.{lent};
+ghost use Rattle.table.specs.Columns.{Columns, columns_of};
 ghost use Rattle.opening.specs.Opening.{lent_reply};
 ghost use Rattle.line_fields.specs.LineFields.{field_at};
 ghost use Rattle.orders.specs.Order.{console_of, turn_of, unread, replied, kind_in, start_turn, open_turn, draw_turn, ask_turn, list_turn, order_turn, line_turn};
@@ -119,8 +119,8 @@ fn open_turn(
     x: ConsoleHead,
     line: &[u8],
 ) -> Turn
-    ensures { turn_of result (columns_after names keys balances) (before nums numbers dates)
-        ≡ open_turn (console_of x (columns_before names keys balances)) (before nums numbers dates) line.now }
+    ensures { turn_of result (columns_of names.new keys.new balances.new) (lent nums.now numbers.now dates.now)
+        ≡ open_turn (console_of x (columns_of names.old keys.old balances.old)) (lent nums.now numbers.now dates.now) line.now }
 {
     let s = subject_of(line);
     answered(opening::open_lent(
@@ -139,8 +139,8 @@ fn draw_turn(
     x: ConsoleHead,
     line: &[u8],
 ) -> Turn
-    ensures { turn_of result (columns_moved names keys balances) (before nums numbers dates)
-        ≡ draw_turn (console_of x (columns_before names keys balances)) (before nums numbers dates) line.now }
+    ensures { turn_of result (columns_of names.now keys.now balances.new) (lent nums.now numbers.now dates.now)
+        ≡ draw_turn (console_of x (columns_of names.now keys.now balances.old)) (lent nums.now numbers.now dates.now) line.now }
 {
     let Digits::Value(kopecks) = digits::read_digits(line_fields::field_at(line, 3), 15) else {
         return not_read(x);
@@ -162,8 +162,8 @@ fn ask_turn(
     x: ConsoleHead,
     line: &[u8],
 ) -> Turn
-    ensures { turn_of result (columns_moved names keys balances) (after nums numbers dates)
-        ≡ ask_turn (console_of x (columns_before names keys balances)) (before nums numbers dates) line.now }
+    ensures { turn_of result (columns_of names.now keys.now balances.new) (lent nums.new numbers.new dates.new)
+        ≡ ask_turn (console_of x (columns_of names.now keys.now balances.old)) (lent nums.old numbers.old dates.old) line.now }
 {
     let mut out = [0u8; 512];
     let d = date::read_date(line_fields::field_at(line, 1));
@@ -185,8 +185,8 @@ fn list_turn(
     x: ConsoleHead,
     line: &[u8],
 ) -> Turn
-    ensures { turn_of result (columns_before names keys balances) (before nums numbers dates)
-        ≡ list_turn (console_of x (columns_before names keys balances)) (before nums numbers dates) line.now }
+    ensures { turn_of result (columns_of names.now keys.now balances.now) (lent nums.now numbers.now dates.now)
+        ≡ list_turn (console_of x (columns_of names.now keys.now balances.now)) (lent nums.now numbers.now dates.now) line.now }
 {
     let DayRead::Good(d) = calendar::read_day(line_fields::field_at(line, 1)) else {
         return not_read(x);
@@ -216,8 +216,8 @@ fn order_turn(
     x: ConsoleHead,
     line: &[u8],
 ) -> Turn
-    ensures { turn_of result (columns_after names keys balances) (after nums numbers dates)
-        ≡ order_turn (console_of x (columns_before names keys balances)) (before nums numbers dates) line.now }
+    ensures { turn_of result (columns_of names.new keys.new balances.new) (lent nums.new numbers.new dates.new)
+        ≡ order_turn (console_of x (columns_of names.old keys.old balances.old)) (lent nums.old numbers.old dates.old) line.now }
 {
     if line_fields::has_form(line, b'O', 3) {
         return open_turn(nums, numbers, dates, names, keys, balances, x, line);
@@ -245,8 +245,8 @@ pub fn line_turn(
     x: ConsoleHead,
     line: &[u8],
 ) -> Turn
-    ensures { turn_of result (columns_after names keys balances) (after nums numbers dates)
-        ≡ line_turn (console_of x (columns_before names keys balances)) (before nums numbers dates) line.now }
+    ensures { turn_of result (columns_of names.new keys.new balances.new) (lent nums.new numbers.new dates.new)
+        ≡ line_turn (console_of x (columns_of names.old keys.old balances.old)) (lent nums.old numbers.old dates.old) line.now }
 {
     if x.started {
         order_turn(nums, numbers, dates, names, keys, balances, x, line)

@@ -1,11 +1,11 @@
 // What the gate looks up for a request, and its decision.
 ghost use Rattle.std.specs.Prelude.{◌≡◌, ◌≤◌, ◌<◌, length};
 ghost use Rattle.table.specs.Table.{records_of};
-ghost use Rattle.table.specs.Lent.{lent, before};
+ghost use Rattle.table.specs.Lent.{lent};
 ghost use Rattle.planning.specs.Plan.{Within, record_found, agrees, standing_of, account_of, date_of, is_short, view_of, plan_with};
 ghost use Rattle.table.specs.Table.{no_record};
 ghost use Rattle.table.specs.Accounts.{balance_of, holding_of};
-ghost use Rattle.table.specs.Columns.{gate_of, columns_before};
+ghost use Rattle.table.specs.Columns.{gate_of, columns_of};
 
 use dates::date;
 use days::calendar::Day;
@@ -91,7 +91,7 @@ pub fn holding_of(
     r: Record,
 ) -> Holding
     requires { head.count ≤ 256 }
-    ensures { result ≡ holding_of (gate_of head (columns_before names keys balances)) (account_of (gate_of head (columns_before names keys balances)) q r) }
+    ensures { result ≡ holding_of (gate_of head (columns_of names.now keys.now balances.now)) (account_of (gate_of head (columns_of names.now keys.now balances.now)) q r) }
 {
     let a = q.action;
     if answer::is_cancel(a) {
@@ -150,7 +150,7 @@ pub fn found_record(
     f: Found,
 ) -> Record
     requires { (used ≤ length nums.now) × (used ≤ length numbers.now) × (used ≤ length dates.now) × Within f used }
-    ensures { result ≡ record_found (records_of (before nums numbers dates) used) f }
+    ensures { result ≡ record_found (records_of (lent nums.now numbers.now dates.now) used) f }
 {
     match f {
         Found::At(i) => rows::load(nums, numbers, dates, i),

@@ -1,7 +1,7 @@
 // What one line of a registry does to the table, and what is due on its account.
 ghost use Rattle.std.specs.Prelude.{◌≡◌, ◌<◌, ◌≤◌, length};
 ghost use Rattle.table.specs.Table.{record_at, rows_with, Whole, SameLengths};
-ghost use Rattle.table.specs.Lent.{lent, before, after};
+ghost use Rattle.table.specs.Lent.{lent};
 ghost use Rattle.directory.specs.Directory.{Keyed};
 ghost use Rattle.planning.specs.Plan.{Within};
 ghost use Rattle.posting.specs.Posting.{restored, posted_record};
@@ -51,7 +51,7 @@ fn posted_record(used: usize, clock: [u8; 19], x: Line) -> Record
 // The record at i done again.
 fn restore(nums: &mut [[u64; 6]], numbers: &mut [[u8; 30]], dates: &mut [[[u8; 19]; 3]], i: usize)
     requires { (i < length nums.old) × (i < length numbers.old) × (i < length dates.old) }
-    ensures { after nums numbers dates ≡ rows_with (before nums numbers dates) i (restored (record_at (before nums numbers dates) i)) }
+    ensures { lent nums.new numbers.new dates.new ≡ rows_with (lent nums.old numbers.old dates.old) i (restored (record_at (lent nums.old numbers.old dates.old) i)) }
 {
     let r = rows::load(nums, numbers, dates, i);
     rows::store(nums, numbers, dates, i, restore_record(r));
@@ -67,7 +67,7 @@ fn post(
     x: Line,
 )
     requires { (used < length nums.old) × (used < length numbers.old) × (used < length dates.old) × (used < 4096) }
-    ensures { (g : Gate) → g.used ≡ used → after nums numbers dates ≡ rows_with (before nums numbers dates) used (posted_record g clock x) }
+    ensures { (g : Gate) → g.used ≡ used → lent nums.new numbers.new dates.new ≡ rows_with (lent nums.old numbers.old dates.old) used (posted_record g clock x) }
 {
     rows::store(nums, numbers, dates, used, posted_record(used, clock, x));
 }
@@ -84,9 +84,9 @@ pub fn apply(
     x: Line,
     v: Verdict,
 ) -> Due
-    requires whole { Whole (lent nums numbers dates) used × SameLengths (lent nums numbers dates) × (length nums.old ≤ 4096) }
+    requires whole { Whole (lent nums.old numbers.old dates.old) used × SameLengths (lent nums.old numbers.old dates.old) × (length nums.old ≤ 4096) }
     requires keyed { Keyed names.now keys.now × Placed v used (length nums.old) (length names.now) }
-    ensures applied { Applied names.now keys.now used (before nums numbers dates) clock x v result (after nums numbers dates) }
+    ensures applied { Applied names.now keys.now used (lent nums.old numbers.old dates.old) clock x v result (lent nums.new numbers.new dates.new) }
     ensures within { Within result.account (length names.now) }
 {
     match v {

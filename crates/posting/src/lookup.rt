@@ -3,7 +3,7 @@ ghost use Rattle.std.specs.Prelude.{◌≡◌, ℕ, ◌+◌, ◌<◌, ◌≤◌,
 ghost use Rattle.lists.specs.Lists.{first_from};
 ghost use Rattle.index.specs.Index.{slot_of, Chained};
 ghost use Rattle.table.specs.Table.{records_of};
-ghost use Rattle.table.specs.Lent.{before};
+ghost use Rattle.table.specs.Lent.{lent};
 ghost use Rattle.posting.specs.Lookup.{receipt_at, fits};
 
 use crate::matching;
@@ -63,7 +63,7 @@ pub fn find(
 ) -> Found
     requires used_in_bounds { (used ≤ length nums.now) × (used ≤ length numbers.now) × (used ≤ length dates.now) }
     requires chained { Chained (receipt_at nums.now) 0 used heads.now next.now }
-    ensures { result ≡ first_from (fits w x) 0 (records_of (before nums numbers dates) used) }
+    ensures { result ≡ first_from (fits w x) 0 (records_of (lent nums.now numbers.now dates.now) used) }
 {
     let mut at = index::first(heads, x.receipt);
     while 0 < at {

@@ -2,7 +2,7 @@
 ghost use Rattle.std.specs.Prelude.{◌≡◌, cond, length};
 ghost use Rattle.index.specs.Index.{Chained};
 ghost use Rattle.table.specs.Table.{records_of, Whole};
-ghost use Rattle.table.specs.Lent.{lent, before};
+ghost use Rattle.table.specs.Lent.{lent};
 ghost use Rattle.table.specs.Daily.{is_done};
 ghost use Rattle.posting.specs.Posting.{post_verdict, verdict_of, Keeps, Restores};
 ghost use Rattle.posting.specs.Lookup.{receipt_at};
@@ -63,10 +63,10 @@ pub fn judge(
     heads: &[u16],
     next: &[u16],
 ) -> Verdict
-    requires whole { Whole (lent nums numbers dates) used × Keyed names.now keys.now }
+    requires whole { Whole (lent nums.now numbers.now dates.now) used × Keyed names.now keys.now }
     requires chained { Chained (receipt_at nums.now) 0 used heads.now next.now }
     ensures { (g : Gate) → Listed names.now keys.now g → g.used ≡ used
-        → result ≡ verdict_of g (records_of (before nums numbers dates) g.used) (length nums.now) x }
+        → result ≡ verdict_of g (records_of (lent nums.now numbers.now dates.now) g.used) (length nums.now) x }
 {
     let sought = Sought::Matched;
     let found = lookup::find(nums, numbers, dates, used, heads, next, sought, x);

@@ -2,7 +2,7 @@
 // The payment table as a lent slice of records: they are copied into rows, the call is made on these, and they are copied back.
 ghost use Rattle.std.specs.Prelude.{◌≡◌, ◌<◌, ◌≤◌, length};
 ghost use Rattle.table.specs.Table.{record_at, rows_with};
-ghost use Rattle.table.specs.Lent.{before, after};
+ghost use Rattle.table.specs.Lent.{lent};
 ghost use Rattle.admission.specs.Delivery.{delivery_of};
 ghost use Rattle.calls.specs.Calls.{call_on};
 ghost use Rattle.records.specs.Records.{called_of, call_records};
@@ -22,7 +22,7 @@ fn put(
     r: Record,
 )
     requires { i < 4096 }
-    ensures { after nums numbers dates ≡ rows_with (before nums numbers dates) i r }
+    ensures { lent nums.new numbers.new dates.new ≡ rows_with (lent nums.old numbers.old dates.old) i r }
 {
     rows::store(&mut nums[..], &mut numbers[..], &mut dates[..], i, r);
 }
@@ -35,7 +35,7 @@ fn get(
     i: usize,
 ) -> Record
     requires { i < 4096 }
-    ensures { result ≡ record_at (before nums numbers dates) i }
+    ensures { result ≡ record_at (lent nums.now numbers.now dates.now) i }
 {
     rows::load(&nums[..], &numbers[..], &dates[..], i)
 }
@@ -54,7 +54,7 @@ fn to_rows(
     numbers: &mut [[u8; 30]; 4096],
     dates: &mut [[[u8; 19]; 3]; 4096],
 )
-    ensures { after nums numbers dates ≡ filled records.now (rows_in (length records.now)) (before nums numbers dates) }
+    ensures { lent nums.new numbers.new dates.new ≡ filled records.now (rows_in (length records.now)) (lent nums.old numbers.old dates.old) }
 {
     let n = rows_in(records.len());
     let mut i = 0;
@@ -72,7 +72,7 @@ fn from_rows(
     numbers: &[[u8; 30]; 4096],
     dates: &[[[u8; 19]; 3]; 4096],
 )
-    ensures { records.new ≡ restored records.old (rows_in (length records.old)) (before nums numbers dates) }
+    ensures { records.new ≡ restored records.old (rows_in (length records.old)) (lent nums.now numbers.now dates.now) }
 {
     let n = rows_in(records.len());
     let mut i = 0;
@@ -94,8 +94,8 @@ fn call_part(
     out: &mut [u8],
 ) -> Reply
     requires { (4096 ≤ length nums.old) × (4096 ≤ length numbers.old) × (4096 ≤ length dates.old) }
-    ensures { delivery_of result (after nums numbers dates) out.new
-        ≡ on_part len gate out.old (call_on gate call text.now out.old) (before nums numbers dates) }
+    ensures { delivery_of result (lent nums.new numbers.new dates.new) out.new
+        ≡ on_part len gate out.old (call_on gate call text.now out.old) (lent nums.old numbers.old dates.old) }
 {
     if PLACES_MOST < len {
         return Reply {
@@ -126,9 +126,9 @@ fn call_rows(
     text: &[u8],
     out: &mut [u8],
 ) -> Reply
-    ensures { (delivery_of result (after nums numbers dates) out.new
-        ≡ on_part len gate out.old (call_on gate call text.now out.old) (before nums numbers dates))
-        × Sized (after nums numbers dates) }
+    ensures { (delivery_of result (lent nums.new numbers.new dates.new) out.new
+        ≡ on_part len gate out.old (call_on gate call text.now out.old) (lent nums.old numbers.old dates.old))
+        × Sized (lent nums.new numbers.new dates.new) }
 {
     call_part(
         &mut nums[..],

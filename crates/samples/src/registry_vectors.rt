@@ -31,7 +31,7 @@ fn read(day: Day, s: &[u8], asked: bool) {
 }
 
 fn show_lines(nums: &[[u64; 4]], numbers: &[[u8; 30]], dates: &[[u8; 19]], n: usize)
-    requires { Read (lines_lent nums numbers dates) n }
+    requires { Read (lines_lent nums.now numbers.now dates.now) n }
 {
     let mut i: usize = 0;
     while i < n {

@@ -1,13 +1,14 @@
 #![tactic(auto)]
 // The session program: it moves bytes from standard input to the console, and what the console prints to standard output.
 ghost use Rattle.std.specs.Prelude.{◌≡◌, ◌≤◌, length};
-ghost use Rattle.table.specs.Columns.{gate_of, columns_lent, columns_after};
+ghost use Rattle.table.specs.Columns.{gate_of, columns_of};
 ghost use Rattle.figures.specs.Sums.{Summable};
 ghost use Rattle.console.specs.Feed.{line_room};
 ghost use Rattle.console.specs.Session.{new_head};
 
 use console::feed::Part;
 use console::{feed, start};
+use std::io::{Read, Stdin};
 use table::columns;
 use texts::scan;
 
@@ -57,9 +58,22 @@ fn begin() -> Part
     }
 }
 
-// Says on standard error what Went wrong.
+// Says on standard error what went wrong.
 fn complain(text: &[u8]) {
     io::write_all(2, text);
+}
+
+// Reads once into the buffer, and hands back how many bytes came: none at the end of the input, and none where it cannot be read, which is told.
+fn read_some(stdin: &mut Stdin, input: &mut [u8]) -> usize
+    ensures { result ≤ length input.new }
+{
+    match stdin.read(input) {
+        Ok(n) => n,
+        Err(_) => {
+            complain(b"session: cannot read standard input\n");
+            0
+        }
+    }
 }
 
 // Feeds what was read, again where the buffer had no room for all of it, and prints.
@@ -75,8 +89,8 @@ fn feed_read(
     out: &mut [u8],
     s: Part,
 ) -> Stage
-    requires { Summable (gate_of s.console.head (columns_lent names keys balances)) × (line_room (length nums.old) ≤ length out.old) }
-    ensures { Summable (gate_of result.session.console.head (columns_after names keys balances)) }
+    requires { Summable (gate_of s.console.head (columns_of names.old keys.old balances.old)) × (line_room (length nums.old) ≤ length out.old) }
+    ensures { Summable (gate_of result.session.console.head (columns_of names.new keys.new balances.new)) }
 {
     let mut session = s;
     let mut at: usize = 0;
@@ -114,6 +128,7 @@ fn feed_read(
 
 // Reads once, feeds what came and prints.
 fn feed_some(
+    stdin: &mut Stdin,
     nums: &mut [[u64; 6]],
     numbers: &mut [[u8; 30]],
     dates: &mut [[[u8; 19]; 3]],
@@ -125,14 +140,10 @@ fn feed_some(
     out: &mut [u8],
     s: Part,
 ) -> Stage
-    requires { Summable (gate_of s.console.head (columns_lent names keys balances)) × (line_room (length nums.old) ≤ length out.old) }
-    ensures { Summable (gate_of result.session.console.head (columns_after names keys balances)) }
+    requires { Summable (gate_of s.console.head (columns_of names.old keys.old balances.old)) × (line_room (length nums.old) ≤ length out.old) }
+    ensures { Summable (gate_of result.session.console.head (columns_of names.new keys.new balances.new)) }
 {
-    let got = libc::read(0, input);
-    if got < 0 {
-        complain(b"session: cannot read standard input\n");
-    }
-    let n = io::count(got, input);
+    let n = read_some(stdin, input);
     if n == 0 {
         return Stage {
             session: s,
@@ -156,6 +167,7 @@ fn feed_some(
 
 // Feeds all of the input. A proved loop has to end, so it counts its turns down from a number that no run uses up.
 fn feed_all(
+    stdin: &mut Stdin,
     nums: &mut [[u64; 6]],
     numbers: &mut [[u8; 30]],
     dates: &mut [[[u8; 19]; 3]],
@@ -167,13 +179,14 @@ fn feed_all(
     out: &mut [u8],
     s: Part,
 ) -> Stage
-    requires { Summable (gate_of s.console.head (columns_lent names keys balances)) × (line_room (length nums.old) ≤ length out.old) }
-    ensures { Summable (gate_of result.session.console.head (columns_after names keys balances)) }
+    requires { Summable (gate_of s.console.head (columns_of names.old keys.old balances.old)) × (line_room (length nums.old) ≤ length out.old) }
+    ensures { Summable (gate_of result.session.console.head (columns_of names.new keys.new balances.new)) }
 {
     let mut session = s;
     let mut turns = u64::MAX;
     while 0 < turns {
         let stage = feed_some(
+            stdin,
             nums, numbers, dates, names, keys, balances, bytes, input, out, session,
         );
         if !stage.going {
@@ -201,7 +214,7 @@ fn print_last(
     out: &mut [u8],
     s: Part,
 ) -> bool
-    requires { Summable (gate_of s.console.head (columns_lent names keys balances)) × (line_room (length nums.old) ≤ length out.old) }
+    requires { Summable (gate_of s.console.head (columns_of names.old keys.old balances.old)) × (line_room (length nums.old) ≤ length out.old) }
 {
     let console = s.console;
     let mark = s.mark;
@@ -211,7 +224,8 @@ fn print_last(
     io::write_all(1, scan::first_bytes(out, last.size))
 }
 
-fn main() {
+fn main(rt: HostRuntime) {
+    let mut stdin = rt.stdin();
     let mut nums = empty_nums();
     let mut numbers = empty_numbers();
     let mut dates = empty_dates();
@@ -222,6 +236,7 @@ fn main() {
     let mut input = [0u8; 4096];
     let mut out = output_part();
     let stage = feed_all(
+        &mut stdin,
         &mut nums,
         &mut numbers,
         &mut dates,

@@ -1,12 +1,12 @@
 // A registry delivered to the gate.
 ghost use Rattle.std.specs.Prelude.{not, ◌&&◌, ◌≡◌, ◌≤◌, length};
 ghost use Rattle.days.specs.Calendar.{is_day, day_before};
-ghost use Rattle.table.specs.Lent.{lent, before, after};
+ghost use Rattle.table.specs.Lent.{lent};
 ghost use Rattle.settlement.specs.Settle.{settle_read, settle};
 ghost use Rattle.settlement.specs.SettleText.{settle_text};
 ghost use Rattle.admission.specs.Delivery.{delivery_of};
 ghost use Rattle.posting.specs.Steps.{Held};
-ghost use Rattle.line_rows.specs.Lines.{lines_of, Read, lines_lent, lines_before};
+ghost use Rattle.line_rows.specs.Lines.{lines_of, Read, lines_lent};
 
 use days::calendar::Day;
 use ledger::Reply;
@@ -37,10 +37,10 @@ pub(crate) fn settle_read(
     count: usize,
     out: &mut [u8],
 ) -> Reply
-    requires held { Held g (lent nums numbers dates) 10000000000000 }
-    requires read { Read (lines_lent values holders days) count × (512 ≤ length out.old) }
-    ensures { delivery_of result (after nums numbers dates) out.new
-        ≡ settle_read g (before nums numbers dates) clock day (lines_of (lines_before values holders days) count) out.old }
+    requires held { Held g (lent nums.old numbers.old dates.old) 10000000000000 }
+    requires read { Read (lines_lent values.now holders.now days.now) count × (512 ≤ length out.old) }
+    ensures { delivery_of result (lent nums.new numbers.new dates.new) out.new
+        ≡ settle_read g (lent nums.old numbers.old dates.old) clock day (lines_of (lines_lent values.now holders.now days.now) count) out.old }
 {
     let closed = g.closed;
     if day.follows(closed) {
@@ -69,9 +69,9 @@ pub(crate) fn settle_text(
     s: &[u8],
     out: &mut [u8],
 ) -> Reply
-    requires { Held g (lent nums numbers dates) 10000000000000 × (512 ≤ length out.old) }
-    ensures { delivery_of result (after nums numbers dates) out.new
-        ≡ settle_text g (before nums numbers dates) clock day s.now out.old }
+    requires { Held g (lent nums.old numbers.old dates.old) 10000000000000 × (512 ≤ length out.old) }
+    ensures { delivery_of result (lent nums.new numbers.new dates.new) out.new
+        ≡ settle_text g (lent nums.old numbers.old dates.old) clock day s.now out.old }
 {
     let mut values = reading::empty_nums();
     let mut holders = reading::empty_numbers();
@@ -100,7 +100,7 @@ pub fn settle(
     bytes: &[u8],
     out: &mut [u8],
 ) -> Reply
-    ensures { delivery_of result (after nums numbers dates) out.new ≡ settle gate (before nums numbers dates) clock day bytes.now out.old }
+    ensures { delivery_of result (lent nums.new numbers.new dates.new) out.new ≡ settle gate (lent nums.old numbers.old dates.old) clock day bytes.now out.old }
 {
     let refusal = admission::admit_gate(nums, numbers, dates, gate, clock, out.len());
     if refusal != 0 {

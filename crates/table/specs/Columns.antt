@@ -1,7 +1,5 @@
 -- Document 01, "Gate": the gate's accounts lent in three columns of 256 places: the bytes of the numbers, the lengths of these with the types, the balances. A gate is a head and these.
 use Rattle.std.specs.Prelude.{ℕ, List, [], ℤ, pos, get_or}
-use Rattle.std.specs.Borrow.{Bor}
-use denote.Triple.Both.{Both}
 use Rattle.lists.specs.Lists.{tab}
 use Rattle.table.specs.declared.Account.{Account}
 use Rattle.table.specs.declared.Gate.{Gate}
@@ -37,25 +35,6 @@ counted_head h n = record { count = n; closed = h.closed; used = h.used }
 abbrev pub used_head : Head → ℕ → Head
 used_head h n = record { count = h.count; closed = h.closed; used = n }
 
--- how contracts name the three columns as one value: at a call, before it and after it
-abbrev Bytes : Type 0
-Bytes = Bor (List (List ℕ))
-
-abbrev Sums : Type 0
-Sums = Bor (List ℤ)
-
+-- how contracts name the three columns as one value: what they hold at a call, before it (`old`) and after it (`new`)
 abbrev pub columns_of : List (List ℕ) → List (List ℕ) → List ℤ → Columns
 columns_of names keys balances = record { names = names; keys = keys; balances = balances }
-
-abbrev pub columns_lent : Bytes → Bytes → Sums → Columns
-columns_lent names keys balances = columns_of names.now keys.now balances.now
-
-abbrev pub columns_before : {X Y Z : Type 0} → Both Bytes X → Both Bytes Y → Both Sums Z → Columns
-columns_before names keys balances = columns_lent names.entry keys.entry balances.entry
-
-abbrev pub columns_after : {X Y Z : Type 0} → Both X Bytes → Both Y Bytes → Both Z Sums → Columns
-columns_after names keys balances = columns_lent names.exit keys.exit balances.exit
-
--- after a call that moves balances alone
-abbrev pub columns_moved : {X Y Z : Type 0} → Both Bytes X → Both Bytes Y → Both Z Sums → Columns
-columns_moved names keys balances = columns_lent names.entry keys.entry balances.exit

@@ -1,7 +1,7 @@
 // The accounts in three lent columns: the bytes of their numbers, the lengths of these with the types, the balances. No account is copied to be looked up.
 ghost use Rattle.std.specs.Prelude.{◌≡◌, List, ℕ, ◌+◌, ◌<◌, ◌≤◌, pos, length, get_or, replicate};
 ghost use Rattle.table.specs.Accounts.{no_account, accounts_of, find_account, holding_of, gate_balance, opened};
-ghost use Rattle.table.specs.Columns.{accounts_in, gate_of, head_of, counted_head, columns_of, columns_before, columns_after};
+ghost use Rattle.table.specs.Columns.{accounts_in, gate_of, head_of, counted_head, columns_of};
 
 use crate::accounts::Holding;
 use crate::{Account, Gate, Head, accounts};
@@ -16,7 +16,7 @@ pub fn account_at(
     i: usize,
 ) -> Account
     requires { i < 256 }
-    ensures { result ≡ get_or (accounts_in (columns_before names keys balances)) i no_account }
+    ensures { result ≡ get_or (accounts_in (columns_of names.now keys.now balances.now)) i no_account }
 {
     let bytes = names[i];
     let w = keys[i];
@@ -41,7 +41,7 @@ pub fn look_up(
     kind: u64,
 ) -> Holding
     requires { h.count ≤ 256 }
-    ensures { result ≡ holding_of (gate_of h (columns_before names keys balances)) (find_account n kind (accounts_of (gate_of h (columns_before names keys balances)))) }
+    ensures { result ≡ holding_of (gate_of h (columns_of names.now keys.now balances.now)) (find_account n kind (accounts_of (gate_of h (columns_of names.now keys.now balances.now)))) }
 {
     let count = h.count;
     let mut i: usize = 0;
@@ -71,7 +71,7 @@ pub fn find_account(
     kind: u64,
 ) -> Found
     requires { h.count ≤ 256 }
-    ensures { result ≡ find_account n kind (accounts_of (gate_of h (columns_before names keys balances))) }
+    ensures { result ≡ find_account n kind (accounts_of (gate_of h (columns_of names.now keys.now balances.now))) }
 {
     let x = look_up(names, keys, balances, h, n, kind);
     x.at
@@ -111,7 +111,7 @@ pub fn head_of(g: Gate) -> Head
 // Puts the accounts of a gate into columns.
 pub fn unpack(g: Gate, names: &mut [[u8; 30]], keys: &mut [[u64; 2]], balances: &mut [i64])
     requires { (256 ≡ length names.old) × (256 ≡ length keys.old) × (256 ≡ length balances.old) }
-    ensures { gate_of (head_of g) (columns_after names keys balances) ≡ g }
+    ensures { gate_of (head_of g) (columns_of names.new keys.new balances.new) ≡ g }
 {
     let mut i: usize = 0;
     while i < 256 {
@@ -128,7 +128,7 @@ pub fn unpack(g: Gate, names: &mut [[u8; 30]], keys: &mut [[u64; 2]], balances: 
 
 // The gate of a head and columns.
 pub fn pack(h: Head, names: &[[u8; 30]; 256], keys: &[[u64; 2]; 256], balances: &[i64; 256]) -> Gate
-    ensures { result ≡ gate_of h (columns_before names keys balances) }
+    ensures { result ≡ gate_of h (columns_of names.now keys.now balances.now) }
 {
     let first = account_at(names, keys, balances, 0);
     let mut accounts = [first; 256];
@@ -164,7 +164,7 @@ pub fn put_account(
     kind: u64,
 )
     requires { (256 ≡ length names.old) × (256 ≡ length keys.old) × (256 ≡ length balances.old) × (i < 256) }
-    ensures { (h : Head) → h.count ≡ i → gate_of (counted_head h (i + 1)) (columns_after names keys balances) ≡ opened (gate_of h (columns_before names keys balances)) n kind }
+    ensures { (h : Head) → h.count ≡ i → gate_of (counted_head h (i + 1)) (columns_of names.new keys.new balances.new) ≡ opened (gate_of h (columns_of names.old keys.old balances.old)) n kind }
 {
     let bytes = n.bytes;
     names[i] = bytes;

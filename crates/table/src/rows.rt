@@ -1,7 +1,7 @@
 // The payment table: three lent rows, read and written a record at a time.
 ghost use Rattle.std.specs.Prelude.{◌≡◌, [], ◌<◌, ◌≤◌, length, get_or};
 ghost use Rattle.table.specs.Table.{record_from, record_at, rows_with, records_of, find_record};
-ghost use Rattle.table.specs.Lent.{before, after};
+ghost use Rattle.table.specs.Lent.{lent};
 
 use crate::Record;
 use fields::number::Number;
@@ -35,7 +35,7 @@ fn record_of(w: [u64; 6], bytes: [u8; 30], d: [[u8; 19]; 3]) -> Record
 // The record at i.
 pub fn load(nums: &[[u64; 6]], numbers: &[[u8; 30]], dates: &[[[u8; 19]; 3]], i: usize) -> Record
     requires { (i < length nums.now) × (i < length numbers.now) × (i < length dates.now) }
-    ensures value { result ≡ record_at (before nums numbers dates) i }
+    ensures value { result ≡ record_at (lent nums.now numbers.now dates.now) i }
     ensures i_len { (length (get_or nums.now i []) ≡ 6) × (length (get_or dates.now i []) ≡ 3) }
     ensures bytes_len { (length result.number.bytes ≡ 30) × (length result.date ≡ 19) × (length result.credit ≡ 19) × (length result.cancel ≡ 19) }
 {
@@ -54,7 +54,7 @@ pub fn store(
     r: Record,
 )
     requires { (i < length nums.old) × (i < length numbers.old) × (i < length dates.old) }
-    ensures { after nums numbers dates ≡ rows_with (before nums numbers dates) i r }
+    ensures { lent nums.new numbers.new dates.new ≡ rows_with (lent nums.old numbers.old dates.old) i r }
 {
     let number = r.number;
     let len = number.len as u64;
@@ -78,7 +78,7 @@ pub fn find_record(
     receipt: u64,
 ) -> Found
     requires { used ≤ length nums.now }
-    ensures { result ≡ find_record receipt (records_of (before nums numbers dates) used) }
+    ensures { result ≡ find_record receipt (records_of (lent nums.now numbers.now dates.now) used) }
 {
     let mut i: usize = 0;
     while i < used {

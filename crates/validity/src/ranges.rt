@@ -2,7 +2,7 @@
 ghost use Rattle.std.specs.Prelude.{true, ◌&&◌, ◌≡◌, [], ◌<◌, ◌≤◌, length};
 ghost use Rattle.lists.specs.Lists.{all_from};
 ghost use Rattle.table.specs.Accounts.{accounts_of};
-ghost use Rattle.table.specs.Columns.{gate_of, columns_before};
+ghost use Rattle.table.specs.Columns.{gate_of, columns_of};
 ghost use Rattle.table.specs.Table.{record_from};
 ghost use Rattle.validity.specs.Valid.{near, account_good, gate_good, state_good, ranges_good, authcode_good, Sound};
 
@@ -53,7 +53,7 @@ fn accounts_good(
     hints: &mut [u8; 4096],
 ) -> bool
     requires { h.count ≤ 256 }
-    ensures { result ≡ all_from (λ i a. account_good a) 0 (accounts_of (gate_of h (columns_before names keys balances))) }
+    ensures { result ≡ all_from (λ i a. account_good a) 0 (accounts_of (gate_of h (columns_of names.now keys.now balances.now))) }
 {
     let count = h.count;
     let mut i: usize = 0;
@@ -77,7 +77,7 @@ pub(crate) fn gate_good(
     h: Head,
     hints: &mut [u8; 4096],
 ) -> bool
-    ensures { (result ≡ gate_good (gate_of h (columns_before names keys balances))) × (result ≡ true → Sound (gate_of h (columns_before names keys balances))) }
+    ensures { (result ≡ gate_good (gate_of h (columns_of names.now keys.now balances.now))) × (result ≡ true → Sound (gate_of h (columns_of names.now keys.now balances.now))) }
 {
     if 256 < h.count {
         return false;

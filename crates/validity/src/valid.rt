@@ -2,9 +2,9 @@
 ghost use Rattle.std.specs.Prelude.{true, ◌&&◌, ◌≡◌, ◌<◌, ◌≤◌, ltb, length};
 ghost use Rattle.lists.specs.Lists.{is_found, all_from};
 ghost use Rattle.table.specs.Table.{records_of, Whole};
-ghost use Rattle.table.specs.Lent.{before};
+ghost use Rattle.table.specs.Lent.{lent};
 ghost use Rattle.table.specs.Accounts.{is_account, accounts_of, find_account};
-ghost use Rattle.table.specs.Columns.{gate_of, columns_lent, columns_before};
+ghost use Rattle.table.specs.Columns.{gate_of, columns_of};
 ghost use Rattle.validity.specs.Valid.{record_good, table_good, Sound, Ready};
 
 use crate::{ranges, slots};
@@ -31,7 +31,7 @@ fn is_known(
     kind: u64,
 ) -> bool
     requires { h.count ≤ 256 }
-    ensures { result ≡ is_found (find_account n kind (accounts_of (gate_of h (columns_before names keys balances)))) }
+    ensures { result ≡ is_found (find_account n kind (accounts_of (gate_of h (columns_of names.now keys.now balances.now)))) }
 {
     lists::is_found(columns::find_account(names, keys, balances, h, n, kind))
 }
@@ -48,9 +48,9 @@ fn records_good(
     hints: &[u8; 4096],
 ) -> bool
     requires used_in_bounds { (h.used ≤ length nums.now) × (h.used ≤ length numbers.now) × (h.used ≤ length dates.now) }
-    requires sound { Sound (gate_of h (columns_lent names keys balances)) × (h.used ≤ 4096) }
-    ensures value { result ≡ all_from (record_good (gate_of h (columns_before names keys balances))) 0 (records_of (before nums numbers dates) h.used) }
-    ensures whole { result ≡ true → Whole (before nums numbers dates) h.used }
+    requires sound { Sound (gate_of h (columns_of names.now keys.now balances.now)) × (h.used ≤ 4096) }
+    ensures value { result ≡ all_from (record_good (gate_of h (columns_of names.now keys.now balances.now))) 0 (records_of (lent nums.now numbers.now dates.now) h.used) }
+    ensures whole { result ≡ true → Whole (lent nums.now numbers.now dates.now) h.used }
 {
     let used = h.used;
     let count = h.count;
@@ -89,8 +89,8 @@ pub fn table_good(
     balances: &[i64; 256],
     h: Head,
 ) -> bool
-    ensures value { result ≡ table_good (gate_of h (columns_before names keys balances)) (before nums numbers dates) }
-    ensures ready { result ≡ true → Ready (gate_of h (columns_before names keys balances)) (before nums numbers dates) }
+    ensures value { result ≡ table_good (gate_of h (columns_of names.now keys.now balances.now)) (lent nums.now numbers.now dates.now) }
+    ensures ready { result ≡ true → Ready (gate_of h (columns_of names.now keys.now balances.now)) (lent nums.now numbers.now dates.now) }
 {
     if !lists::is_lent(h.used, nums.len(), numbers.len(), dates.len()) {
         return false;

@@ -5,7 +5,7 @@ ghost use Rattle.payments.specs.declared.Action.TheVariants.{Payment, Status, Ca
 ghost use Rattle.lists.specs.declared.Found.TheVariants.{At};
 ghost use Rattle.book_validity.specs.BookValid.{ReadyBook};
 ghost use Rattle.writing.specs.Writing.{writing_of, write_at, write_request, write_check};
-ghost use Rattle.book.specs.Lent.{lent_book, book_before, book_after};
+ghost use Rattle.book.specs.Lent.{lent_book};
 
 use book::{Book, rows};
 use book_validity::{find, valid};
@@ -29,8 +29,8 @@ pub(crate) fn write_entry(
     reason: u64,
     out: &mut [u8],
 ) -> Writing
-    requires { ReadyBook b (lent_book nums numbers dates) × (i < b.used) }
-    ensures { writing_of result (book_after nums numbers dates) out.new ≡ write_at b (book_before nums numbers dates) a reason out.old (At i) }
+    requires { ReadyBook b (lent_book nums.old numbers.old dates.old) × (i < b.used) }
+    ensures { writing_of result (lent_book nums.new numbers.new dates.new) out.new ≡ write_at b (lent_book nums.old numbers.old dates.old) a reason out.old (At i) }
 {
     let e = rows::load_entry(nums, numbers, dates, i);
     if !asking::is_open(b, a, e) {
@@ -52,7 +52,7 @@ pub(crate) fn write_for(
     reason: u64,
     out: &mut [u8],
 ) -> Writing
-    ensures { writing_of result (book_after nums numbers dates) out.new ≡ write_request b (book_before nums numbers dates) a receipt reason out.old }
+    ensures { writing_of result (lent_book nums.new numbers.new dates.new) out.new ≡ write_request b (lent_book nums.old numbers.old dates.old) a receipt reason out.old }
 {
     if !valid::book_good(nums, numbers, dates, b) {
         return Writing { code: 68, size: 0 };
@@ -79,7 +79,7 @@ pub fn write_payment(
     receipt: u64,
     out: &mut [u8],
 ) -> Writing
-    ensures { writing_of result (book_after nums numbers dates) out.new ≡ write_request book (book_before nums numbers dates) Payment receipt 0 out.old }
+    ensures { writing_of result (lent_book nums.new numbers.new dates.new) out.new ≡ write_request book (lent_book nums.old numbers.old dates.old) Payment receipt 0 out.old }
 {
     write_for(nums, numbers, dates, book, Action::Payment, receipt, 0, out)
 }
@@ -93,7 +93,7 @@ pub fn write_status(
     receipt: u64,
     out: &mut [u8],
 ) -> Writing
-    ensures { writing_of result (book_after nums numbers dates) out.new ≡ write_request book (book_before nums numbers dates) Status receipt 0 out.old }
+    ensures { writing_of result (lent_book nums.new numbers.new dates.new) out.new ≡ write_request book (lent_book nums.old numbers.old dates.old) Status receipt 0 out.old }
 {
     write_for(nums, numbers, dates, book, Action::Status, receipt, 0, out)
 }
@@ -108,7 +108,7 @@ pub fn write_cancel(
     reason: u64,
     out: &mut [u8],
 ) -> Writing
-    ensures { writing_of result (book_after nums numbers dates) out.new ≡ write_request book (book_before nums numbers dates) Cancel receipt reason out.old }
+    ensures { writing_of result (lent_book nums.new numbers.new dates.new) out.new ≡ write_request book (lent_book nums.old numbers.old dates.old) Cancel receipt reason out.old }
 {
     write_for(
         nums,
@@ -133,7 +133,7 @@ pub fn write_check(
     kopecks: u64,
     out: &mut [u8],
 ) -> Writing
-    ensures { writing_of result (book_before nums numbers dates) out.new ≡ write_check book (book_before nums numbers dates) number kind kopecks out.old }
+    ensures { writing_of result (lent_book nums.now numbers.now dates.now) out.new ≡ write_check book (lent_book nums.now numbers.now dates.now) number kind kopecks out.old }
 {
     if !valid::book_good(nums, numbers, dates, book) {
         return Writing { code: 68, size: 0 };

@@ -17,7 +17,7 @@ pub fn program() -> PathBuf {
 /// What the proved program prints on this input.
 ///
 /// # Errors
-/// Where the program cannot be run, for instance since `rt check load` did not build it yet.
+/// Where the program cannot be run, for instance since `tools/build load` did not build it yet.
 pub fn proved(input: &[u8]) -> Result<Vec<u8>, Error> {
     Ok(output(input)?.stdout)
 }

@@ -69,7 +69,7 @@ impl Program {
         let fine = status.is_ok_and(|status| status.success());
         assert!(
             fine,
-            "{} does not run; `rt check session` and `rt check load` build the programs",
+            "{} does not run; `tools/build session load` builds the programs",
             self.path.display()
         );
     }

@@ -22,7 +22,7 @@ impl Program {
     pub(crate) fn run(&self, input: &[u8], errors: Stdio) -> Result<Output, Error> {
         let path = self.path();
         let told = |error: Error| {
-            Error::new(error.kind(), format!("{}: {error}; run `rt check {}`", path.display(), self.name))
+            Error::new(error.kind(), format!("{}: {error}; run `tools/build {}`", path.display(), self.name))
         };
         let mut command = Command::new(&path);
         let mut child = command.stdin(Stdio::piped()).stdout(Stdio::piped()).stderr(errors).spawn().map_err(told)?;

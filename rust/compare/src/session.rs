@@ -16,7 +16,7 @@ pub fn program() -> PathBuf {
 /// What the proved program prints on this input.
 ///
 /// # Errors
-/// Where the program cannot be run, for instance since `rt check session` did not build it yet.
+/// Where the program cannot be run, for instance since `tools/build session` did not build it yet.
 pub fn proved(input: &[u8]) -> Result<Vec<u8>, Error> {
     Ok(PROGRAM.run(input, Stdio::inherit())?.stdout)
 }

@@ -1,6 +1,6 @@
 /* The proved payment gate and the book of its agent, for C on x86-64 Linux.
  *
- * Link libffi.a, which `rt staticlib ffi` writes to target/staticlib. No call asks anything of its caller but this: each
+ * Link libffi.a, which `tools/build ffi` writes to target/staticlib. No call asks anything of its caller but this: each
  * pointer is not null and valid for its count (those of the accounts for 256 places), what is lent does not overlap, and
  * `settled` is true or false. Whatever the values are, a call answers with a code of document 01; with a fault it keeps
  * every state and every lent byte. Heads, gate and book go in and come back by value: keep what came back.

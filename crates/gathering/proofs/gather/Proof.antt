@@ -8,13 +8,13 @@ use borrow.Author.Rules.{rules}
 use Rattle.gathering.proofs.gather.Statement.{statement}
 use Rattle.gathering.proofs.gather.Tie as tie
 
-abbrev invariant-loop : tie.invariant-loop
-invariant-loop bytes₀ input at len₀ spaces₀ run₀ i₀ bytes len spaces run i =
+abbrev invariant-loop-i : tie.invariant-loop-i
+invariant-loop-i bytes₀ input at len₀ spaces₀ run₀ i₀ bytes len spaces run i =
     ◌≡◌ {A = Gathered} (gathered (record { bytes = bytes₀; len = len₀; spaces = spaces₀; run = run₀ }) (drop at input) at)
     (gathered (record { bytes = bytes; len = len; spaces = spaces; run = run }) (drop i input) i)
 
-abbrev decreases-loop : tie.decreases-loop
-decreases-loop bytes₀ input at len₀ spaces₀ run₀ i₀ bytes len spaces run i = length input - i
+abbrev decreases-loop-i : tie.decreases-loop-i
+decreases-loop-i bytes₀ input at len₀ spaces₀ run₀ i₀ bytes len spaces run i = length input - i
 
 ruleset laws = (gather-out, gather-end, gather-keep, gather-pass, rules)
 
@@ -22,8 +22,8 @@ pub gather_spec : {M : Type 1} → statement M
 gather_spec =
     tie.close
     (tie.spec
-    invariant-loop
-    decreases-loop
+    invariant-loop-i
+    decreases-loop-i
     (λ c. search laws)
     (λ c. search laws)
     (λ c. search laws)
@@ -31,8 +31,8 @@ gather_spec =
     (λ c. search laws)
     (λ c κs. search laws)
     (λ c. search laws)
-    (λ c. keep-room _ _ _ _ _ c.before.step_of_lem.result c.before.step_of_lem.ensures c.if2.true)
-    (λ c. keep-fits _ _ _ _ _ c.before.step_of_lem.result c.before.step_of_lem.ensures c.if2.true)
+    (λ c. keep-room _ _ _ _ _ c.before.step_of-s.result c.before.step_of-s.ensures c.if-s.true)
+    (λ c. keep-fits _ _ _ _ _ c.before.step_of-s.result c.before.step_of-s.ensures c.if-s.true)
     (λ c. search laws)
     (λ c. search laws)
     (λ c. search laws)

@@ -1,10 +1,6 @@
 use Rattle.std.proofs.Common.{rules}
 use Rattle.generator.proofs.next_value.Statement.{statement}
 use Rattle.generator.proofs.next_value.Tie as tie
-use Rattle.generator.proofs.next_value.Reads as reads
-use Rattle.generator.proofs.next_value.Lts as lts
-use Rattle.generator.proofs.product.Reads as product-reads
-use Rattle.std.proofs.num.wrapping_add_u64.Reads as wrapping-add-u64-reads
 use Rattle.generator.proofs.GeneratorLaws.{value-is}
 
 ruleset laws = (value-is, rules)

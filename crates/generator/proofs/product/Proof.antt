@@ -1,8 +1,6 @@
 use Rattle.std.proofs.Common.{rules}
 use Rattle.generator.proofs.product.Statement.{statement}
 use Rattle.generator.proofs.product.Tie as tie
-use Rattle.generator.proofs.product.Reads as reads
-use Rattle.generator.proofs.product.Lts as lts
 use Rattle.generator.proofs.GeneratorLaws.{low_fits, first_fits, second_fits, sum_fits, product_is}
 
 ruleset laws = (low_fits, first_fits, second_fits, sum_fits, product_is, rules)

@@ -1,8 +1,6 @@
 use Rattle.std.proofs.Common.{rules}
 use Rattle.generator.proofs.roll_of.Statement.{statement}
 use Rattle.generator.proofs.roll_of.Tie as tie
-use Rattle.generator.proofs.roll_of.Reads as reads
-use Rattle.generator.proofs.roll_of.Lts as lts
 use Rattle.generator.proofs.GeneratorLaws.{roll-is}
 
 ruleset laws = (roll-is, rules)

@@ -1,10 +1,6 @@
 use Rattle.std.proofs.Common.{rules}
 use Rattle.generator.proofs.rolls_from.Statement.{statement}
 use Rattle.generator.proofs.rolls_from.Tie as tie
-use Rattle.generator.proofs.rolls_from.Reads as reads
-use Rattle.generator.proofs.rolls_from.Lts as lts
-use Rattle.generator.proofs.next_value.Reads as next-value-reads
-use Rattle.generator.proofs.roll_of.Reads as roll-of-reads
 use Rattle.generator.proofs.GeneratorLaws.{rolls-are}
 
 ruleset laws = (rolls-are, rules)

@@ -13,4 +13,4 @@ first_spec =
     (λ c. search rules)
     (λ c. search rules)
     (λ c κs. search rules)
-    (λ c. c.wide.ensures ∙ ap (λ (s : ℕ). get_or c.before.before.before.before.args.heads.now s 0) c.before.before.slot.ensures.0))
+    (λ c. c.wide.ensures ∙ ap (λ (s : ℕ). get_or c.before.before.before.before.args.heads.now s 0) c.before.before.slot-s.ensures.0))

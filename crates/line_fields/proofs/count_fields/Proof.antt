@@ -8,12 +8,12 @@ use borrow.Author.Rules.{rules}
 use Rattle.line_fields.proofs.count_fields.Statement.{statement}
 use Rattle.line_fields.proofs.count_fields.Tie as tie
 
-abbrev invariant-loop : tie.invariant-loop
-invariant-loop line ended₀ i₀ ended i =
+abbrev invariant-loop-i : tie.invariant-loop-i
+invariant-loop-i line ended₀ i₀ ended i =
     (i ≤ length line) × (ended ≤ i) × (field_count line ≡ ended + field_count (drop i line))
 
-abbrev decreases-loop : tie.decreases-loop
-decreases-loop line ended₀ i₀ ended i = length line - i
+abbrev decreases-loop-i : tie.decreases-loop-i
+decreases-loop-i line ended₀ i₀ ended i = length line - i
 
 ruleset laws = (count-step, count-done, count_low, count_fits, zero-add, rules)
 
@@ -21,8 +21,8 @@ pub count_fields_spec : {M : Type 1} → statement M
 count_fields_spec =
     tie.close
     (tie.spec
-    invariant-loop
-    decreases-loop
+    invariant-loop-i
+    decreases-loop-i
     (λ c. search laws)
     (λ c. search laws)
     (λ c κs. search laws)

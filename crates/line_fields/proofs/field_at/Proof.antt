@@ -7,12 +7,12 @@ use borrow.Author.Rules.{rules}
 use Rattle.line_fields.proofs.field_at.Statement.{statement}
 use Rattle.line_fields.proofs.field_at.Tie as tie
 
-abbrev invariant-loop : tie.invariant-loop
-invariant-loop line i at₀ left₀ at left =
+abbrev invariant-loop-left : tie.invariant-loop-left
+invariant-loop-left line i at₀ left₀ at left =
     (at ≤ length line + 1) × (field_at i line ≡ field_at left (drop at line))
 
-abbrev decreases-loop : tie.decreases-loop
-decreases-loop line i at₀ left₀ at left = left
+abbrev decreases-loop-left : tie.decreases-loop-left
+decreases-loop-left line i at₀ left₀ at left = left
 
 ruleset laws = (field_past, field_step, field-done, step-size, step_fits, step-fits-at, rules)
 
@@ -20,8 +20,8 @@ pub field_at_spec : {M : Type 1} → statement M
 field_at_spec =
     tie.close
     (tie.spec
-    invariant-loop
-    decreases-loop
+    invariant-loop-left
+    decreases-loop-left
     (λ c. search laws)
     (λ c. search laws)
     (λ c. search laws)

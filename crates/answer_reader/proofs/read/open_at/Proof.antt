@@ -9,9 +9,7 @@ pub open_at_spec : {M : Type 1} → statement M
 open_at_spec =
     tie.close
     (tie.spec
-    (λ c. search laws)
     (λ c κs. search laws)
-    (λ c. search laws)
     (λ c. search laws)
     (λ c κs. search laws)
     (λ c. search laws))

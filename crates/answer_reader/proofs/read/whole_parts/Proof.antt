@@ -15,7 +15,6 @@ whole_parts_spec =
     (λ c κs. search laws)
     (λ c κs. search laws)
     (λ c. search laws)
-    (λ c. search laws)
     (λ c κs. search laws)
     (λ c κs. search laws)
     (λ c. search laws)

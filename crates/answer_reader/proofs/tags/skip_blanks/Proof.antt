@@ -7,11 +7,11 @@ use Rattle.answer_reader.specs.AnswerRead.{skip_blanks}
 use Rattle.answer_reader.proofs.tags.skip_blanks.Statement.{statement}
 use Rattle.answer_reader.proofs.tags.skip_blanks.Tie as tie
 
-abbrev invariant-loop : tie.invariant-loop
-invariant-loop s at i₀ i = skip_blanks (drop at s) ≡ skip_blanks (drop i s)
+abbrev invariant-loop-i : tie.invariant-loop-i
+invariant-loop-i s at i₀ i = skip_blanks (drop at s) ≡ skip_blanks (drop i s)
 
-abbrev decreases-loop : tie.decreases-loop
-decreases-loop s at i₀ i = length s - i
+abbrev decreases-loop-i : tie.decreases-loop-i
+decreases-loop-i s at i₀ i = length s - i
 
 ruleset laws = (skip-pass, skip_stop, skip-end, rules)
 
@@ -19,8 +19,8 @@ pub skip_blanks_spec : {M : Type 1} → statement M
 skip_blanks_spec =
     tie.close
     (tie.spec
-    invariant-loop
-    decreases-loop
+    invariant-loop-i
+    decreases-loop-i
     (λ c. search laws)
     (λ c. search laws)
     (λ c κs. search laws)

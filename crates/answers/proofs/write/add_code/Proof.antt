@@ -9,10 +9,7 @@ pub add_code_spec : {M : Type 1} → statement M
 add_code_spec =
     tie.close
     (tie.spec
-    (λ c. search laws)
     (λ c κs. search laws)
-    (λ c. search laws)
-    (λ c. search laws)
     (λ c κs. search laws)
     (λ c. search laws)
     (λ c. search laws))

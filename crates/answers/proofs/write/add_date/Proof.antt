@@ -12,8 +12,6 @@ add_date_spec =
     tie.close
     (tie.spec
     (λ c. search laws)
-    (λ c. search laws)
-    (λ c. search laws)
     (λ c κs. search laws)
     (λ c. search laws)
     (λ c. search laws))

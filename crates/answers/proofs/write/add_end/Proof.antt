@@ -12,7 +12,6 @@ add_end_spec =
     tie.close
     (tie.spec
     (λ c κs. search laws)
-    (λ c. search laws)
     (λ c κs. search laws)
     (λ c. search laws)
     (λ c. search laws))

@@ -13,8 +13,6 @@ add_start_spec =
     tie.close
     (tie.spec
     (λ c κs. search laws)
-    (λ c. search laws)
-    (λ c. search laws)
     (λ c κs. search laws)
     (λ c. search laws)
     (λ c. search laws))

@@ -11,11 +11,8 @@ unfolding message_of
 add_text_spec =
     tie.close
     (tie.spec
-    (λ c. search laws)
     (λ c κs. search laws)
-    (λ c. search laws)
     (λ c κs. search laws)
-    (λ c. search laws)
     (λ c κs. search laws)
     (λ c. search laws)
     (λ c. search laws)

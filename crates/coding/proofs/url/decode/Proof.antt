@@ -10,12 +10,12 @@ use Rattle.coding.specs.Url.{decoded}
 use Rattle.coding.proofs.url.decode.Statement.{statement}
 use Rattle.coding.proofs.url.decode.Tie as tie
 
-abbrev invariant-loop : tie.invariant-loop
-invariant-loop s dst₀ i₀ j₀ dst i j = (i ≤ length s) × (j ≤ i) × (length dst ≡ length dst₀)
+abbrev invariant-loop-i : tie.invariant-loop-i
+invariant-loop-i s dst₀ i₀ j₀ dst i j = (i ≤ length s) × (j ≤ i) × (length dst ≡ length dst₀)
     × (length (decoded s) ≡ j + length (decoded (drop i s))) × (over dst₀ 0 (decoded s) ≡ over dst j (decoded (drop i s)))
 
-abbrev decreases-loop : tie.decreases-loop
-decreases-loop s dst₀ i₀ j₀ dst i j = length s - i
+abbrev decreases-loop-i : tie.decreases-loop-i
+decreases-loop-i s dst₀ i₀ j₀ dst i j = length s - i
 
 ruleset laws = (short-count, short-kept, unit-inside, unit-fits, unit-falls, unit-behind, count-step, bytes-step, all-count, all-into, zero-add, rules)
 
@@ -23,8 +23,8 @@ pub decode_spec : {M : Type 1} → statement M
 decode_spec =
     tie.close
     (tie.spec
-    invariant-loop
-    decreases-loop
+    invariant-loop-i
+    decreases-loop-i
     (λ c. search laws)
     (λ c. search laws)
     (λ c κs. search laws)

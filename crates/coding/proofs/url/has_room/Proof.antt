@@ -9,11 +9,11 @@ use Rattle.coding.specs.Url.{coded}
 use Rattle.coding.proofs.url.has_room.Statement.{statement}
 use Rattle.coding.proofs.url.has_room.Tie as tie
 
-abbrev invariant-loop : tie.invariant-loop
-invariant-loop src room left₀ i₀ left i = (i ≤ length src) × (leb (length (coded src)) room ≡ leb (length (coded (drop i src))) left)
+abbrev invariant-loop-i : tie.invariant-loop-i
+invariant-loop-i src room left₀ i₀ left i = (i ≤ length src) × (leb (length (coded src)) room ≡ leb (length (coded (drop i src))) left)
 
-abbrev decreases-loop : tie.decreases-loop
-decreases-loop src room left₀ i₀ left i = length src - i
+abbrev decreases-loop-i : tie.decreases-loop-i
+decreases-loop-i src room left₀ i₀ left i = length src - i
 
 ruleset laws = (room-step, room-fails, room-done, rules)
 
@@ -21,8 +21,8 @@ pub has_room_spec : {M : Type 1} → statement M
 has_room_spec =
     tie.close
     (tie.spec
-    invariant-loop
-    decreases-loop
+    invariant-loop-i
+    decreases-loop-i
     (λ c. search laws)
     (λ c. search laws)
     (λ c κs. search laws)

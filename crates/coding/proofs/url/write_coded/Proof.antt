@@ -10,13 +10,13 @@ use Rattle.coding.specs.Url.{coded}
 use Rattle.coding.proofs.url.write_coded.Statement.{statement}
 use Rattle.coding.proofs.url.write_coded.Tie as tie
 
-abbrev invariant-loop : tie.invariant-loop
-invariant-loop src dst₀ at p₀ i₀ dst p i = (i ≤ length src) × (length dst ≡ length dst₀) × (p + length (coded (drop i src)) ≤ length dst)
+abbrev invariant-loop-i : tie.invariant-loop-i
+invariant-loop-i src dst₀ at p₀ i₀ dst p i = (i ≤ length src) × (length dst ≡ length dst₀) × (p + length (coded (drop i src)) ≤ length dst)
     × (cursor_after dst₀ at (coded src) ≡ cursor_after dst p (coded (drop i src)))
     × (written dst₀ at (coded src) ≡ written dst p (coded (drop i src)))
 
-abbrev decreases-loop : tie.decreases-loop
-decreases-loop src dst₀ at p₀ i₀ dst p i = length src - i
+abbrev decreases-loop-i : tie.decreases-loop-i
+decreases-loop-i src dst₀ at p₀ i₀ dst p i = length src - i
 
 ruleset laws = (past_end, past-end-kept, coded-stays, coded_kept, coded-fits, cursor-step, written_step, fit-step, cursor-done, written-done, rules)
 
@@ -24,8 +24,8 @@ pub write_coded_spec : {M : Type 1} → statement M
 write_coded_spec =
     tie.close
     (tie.spec
-    invariant-loop
-    decreases-loop
+    invariant-loop-i
+    decreases-loop-i
     (λ c. search laws)
     (λ c. search laws)
     (λ c κs. search laws)

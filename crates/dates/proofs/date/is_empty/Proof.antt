@@ -7,11 +7,11 @@ use Rattle.dates.proofs.EmptyLaws.{total, sum_more, sum-empty, sum_bound, sum_fi
 use Rattle.dates.proofs.date.is_empty.Statement.{statement}
 use Rattle.dates.proofs.date.is_empty.Tie as tie
 
-abbrev invariant-loop : tie.invariant-loop
-invariant-loop d sum₀ i₀ sum i = (i ≤ 19) × (length d ≡ 19) × (total d ≡ sum + total (drop i d)) × (sum ≤ i * 255)
+abbrev invariant-loop-i : tie.invariant-loop-i
+invariant-loop-i d sum₀ i₀ sum i = (i ≤ 19) × (length d ≡ 19) × (total d ≡ sum + total (drop i d)) × (sum ≤ i * 255)
 
-abbrev decreases-loop : tie.decreases-loop
-decreases-loop d sum₀ i₀ sum i = 19 - i
+abbrev decreases-loop-i : tie.decreases-loop-i
+decreases-loop-i d sum₀ i₀ sum i = 19 - i
 
 ruleset laws = (sum_more, sum-empty, sum_bound, sum_fits, rules)
 
@@ -19,8 +19,8 @@ pub is_empty_spec : {M : Type 1} → statement M
 is_empty_spec =
     tie.close
     (tie.spec
-    invariant-loop
-    decreases-loop
+    invariant-loop-i
+    decreases-loop-i
     (λ c. search laws)
     (λ c. search laws)
     (λ c κs. search laws)

@@ -8,11 +8,11 @@ use Rattle.fields.specs.Number.{number_byte}
 use Rattle.fields.proofs.number.all_number_bytes.Statement.{statement}
 use Rattle.fields.proofs.number.all_number_bytes.Tie as tie
 
-abbrev invariant-loop : tie.invariant-loop
-invariant-loop s i₀ i = (i ≤ length s) × (every number_byte s ≡ every number_byte (drop i s))
+abbrev invariant-loop-i : tie.invariant-loop-i
+invariant-loop-i s i₀ i = (i ≤ length s) × (every number_byte s ≡ every number_byte (drop i s))
 
-abbrev decreases-loop : tie.decreases-loop
-decreases-loop s i₀ i = length s - i
+abbrev decreases-loop-i : tie.decreases-loop-i
+decreases-loop-i s i₀ i = length s - i
 
 ruleset laws = (bytes-step, bytes-fail, bytes-all, rules)
 
@@ -20,8 +20,8 @@ pub all_number_bytes_spec : {M : Type 1} → statement M
 all_number_bytes_spec =
     tie.close
     (tie.spec
-    invariant-loop
-    decreases-loop
+    invariant-loop-i
+    decreases-loop-i
     (λ c κs. search laws)
     (λ c. search laws)
     (λ c. search laws)

@@ -11,12 +11,9 @@ unfolding later_index
 later_index_spec =
     tie.close
     (tie.spec
-    (λ c. search laws)
     (λ c κs. search laws)
     (λ c. search laws)
-    (λ c. search laws)
     (λ c κs. search laws)
-    (λ c. search laws)
     (λ c. search laws)
     (λ c κs. search laws)
     (λ c. search laws)

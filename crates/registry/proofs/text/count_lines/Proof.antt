@@ -8,11 +8,11 @@ use Rattle.registry.specs.Registry.{line_count}
 use Rattle.registry.proofs.text.count_lines.Statement.{statement}
 use Rattle.registry.proofs.text.count_lines.Tie as tie
 
-abbrev invariant-loop : tie.invariant-loop
-invariant-loop s n₀ at₀ n at = (n ≤ at) × (at ≤ length s) × (line_count s ≡ n + line_count (drop at s))
+abbrev invariant-loop-at : tie.invariant-loop-at
+invariant-loop-at s n₀ at₀ n at = (n ≤ at) × (at ≤ length s) × (line_count s ≡ n + line_count (drop at s))
 
-abbrev decreases-loop : tie.decreases-loop
-decreases-loop s n₀ at₀ n at = length s - at
+abbrev decreases-loop-at : tie.decreases-loop-at
+decreases-loop-at s n₀ at₀ n at = length s - at
 
 ruleset laws = (count-pass, next-in, count-at-rest, count-end, zero-add, rules)
 
@@ -20,8 +20,8 @@ pub count_lines_spec : {M : Type 1} → statement M
 count_lines_spec =
     tie.close
     (tie.spec
-    invariant-loop
-    decreases-loop
+    invariant-loop-at
+    decreases-loop-at
     (λ c. search laws)
     (λ c κs. search laws)
     (λ c. search laws)

@@ -7,11 +7,11 @@ use Rattle.registry.specs.Registry.{line_end}
 use Rattle.registry.proofs.text.end_of_line.Statement.{statement}
 use Rattle.registry.proofs.text.end_of_line.Tie as tie
 
-abbrev invariant-loop : tie.invariant-loop
-invariant-loop s at last i₀ i = (i ≤ length s) × (at + line_end (drop at s) ≡ i + line_end (drop i s))
+abbrev invariant-loop-i : tie.invariant-loop-i
+invariant-loop-i s at last i₀ i = (i ≤ length s) × (at + line_end (drop at s) ≡ i + line_end (drop i s))
 
-abbrev decreases-loop : tie.decreases-loop
-decreases-loop s at last i₀ i = length s - i
+abbrev decreases-loop-i : tie.decreases-loop-i
+decreases-loop-i s at last i₀ i = length s - i
 
 ruleset laws = (end-pass, end-past, end-here, end-last, far-inside, far-end, rules)
 
@@ -19,8 +19,8 @@ pub end_of_line_spec : {M : Type 1} → statement M
 end_of_line_spec =
     tie.close
     (tie.spec
-    invariant-loop
-    decreases-loop
+    invariant-loop-i
+    decreases-loop-i
     (λ c. search laws)
     (λ c. search laws)
     (λ c κs. search laws)
@@ -33,4 +33,4 @@ end_of_line_spec =
     (λ c. search laws)
     (λ c. search laws)
     (λ c. search laws)
-    (λ c. search laws))
+    (λ c. search (end-last, rules)))

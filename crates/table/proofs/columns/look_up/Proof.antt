@@ -10,11 +10,11 @@ use Rattle.table.specs.Columns.{Columns, accounts_in}
 use Rattle.table.proofs.columns.look_up.Statement.{statement}
 use Rattle.table.proofs.columns.look_up.Tie as tie
 
-abbrev invariant-loop : tie.invariant-loop
-invariant-loop names keys balances n kind count i₀ i = let a : Columns = record { names = names; keys = keys; balances = balances } in (i ≤ count) × (find_account n kind (take count (accounts_in a)) ≡ first_from (is_account n kind) i (drop i (take count (accounts_in a))))
+abbrev invariant-loop-i : tie.invariant-loop-i
+invariant-loop-i names keys balances n kind count i₀ i = let a : Columns = record { names = names; keys = keys; balances = balances } in (i ≤ count) × (find_account n kind (take count (accounts_in a)) ≡ first_from (is_account n kind) i (drop i (take count (accounts_in a))))
 
-abbrev decreases-loop : tie.decreases-loop
-decreases-loop names keys balances n kind count i₀ i = count - i
+abbrev decreases-loop-i : tie.decreases-loop-i
+decreases-loop-i names keys balances n kind count i₀ i = count - i
 
 ruleset laws = (account-start, column-other, column-here, column-none, rules)
 
@@ -22,8 +22,8 @@ pub look_up_spec : {M : Type 1} → statement M
 look_up_spec =
     tie.close
     (tie.spec
-    invariant-loop
-    decreases-loop
+    invariant-loop-i
+    decreases-loop-i
     (λ c. search laws)
     (λ c κs. search laws)
     (λ c κs. search laws)

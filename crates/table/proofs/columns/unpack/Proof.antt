@@ -7,26 +7,26 @@ use lib.ListN.{length}
 use Rattle.table.proofs.columns.unpack.Statement.{statement}
 use Rattle.table.proofs.columns.unpack.Tie as tie
 
-abbrev invariant-loop : tie.invariant-loop
-invariant-loop names₀ keys₀ balances₀ g i₀ names keys balances i =
+abbrev invariant-loop-i : tie.invariant-loop-i
+invariant-loop-i names₀ keys₀ balances₀ g i₀ names keys balances i =
     (i ≤ 256) × (length names ≡ 256) × (length keys ≡ 256) × (length balances ≡ 256) × Unpacked (record { names = names; keys = keys; balances = balances }) g i
 
-abbrev decreases-loop : tie.decreases-loop
-decreases-loop names₀ keys₀ balances₀ g i₀ names keys balances i = 256 - i
+abbrev decreases-loop-i : tie.decreases-loop-i
+decreases-loop-i names₀ keys₀ balances₀ g i₀ names keys balances i = 256 - i
 
 ruleset laws = (accounts-size, unpacked-none, unpacked-all, rules)
 
-loop-again : tie.Need-loop-preserved invariant-loop decreases-loop
+loop-again : tie.Need-loop-i-preserved invariant-loop-i decreases-loop-i
 loop-again c =
-    let v = c.before.before.before.before.before.loop.invariant in
-    (search rules, search rules, search rules, search rules, unpacked-more _ _ _ _ _ v.4 (search rules) (search rules) (search rules) _ _ _ refl refl (search (c.struct_told, rules)))
+    let v = c.before.before.before.before.before.loop-i.invariant in
+    (search rules, search rules, search rules, search rules, unpacked-more _ _ _ _ _ v.4 (search rules) (search rules) (search rules) _ _ _ refl refl (search (c.struct_told-1, rules)))
 
 pub unpack_spec : {M : Type 1} → statement M
 unpack_spec =
     tie.close
     (tie.spec
-    invariant-loop
-    decreases-loop
+    invariant-loop-i
+    decreases-loop-i
     (λ c. search laws)
     (λ c. search laws)
     (λ c. search laws)
