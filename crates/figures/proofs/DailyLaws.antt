@@ -1,5 +1,5 @@
 -- Laws of what P prints of a day.
-use Prim.Native.Nat.{ℕ, zero, suc, ◌+◌, ◌*◌, ◌^◌, ◌≤◌, ◌<◌}
+use Prim.Native.Nat.{ℕ, zero, suc, ◌+◌, ◌*◌, ◌≤◌, ◌<◌}
 use native.Mathlib.Numerals.{add-one}
 use native.Mathlib.Omega.{arith}
 use mathlib.Core.Path.{◌≡◌, refl, sym, ap, subst, ◌∙◌}
@@ -10,7 +10,7 @@ use borrow.Author.Tests.{not-true, not-false}
 use mir.Syntax.{w64}
 use mir.Val.{Fits}
 use Rattle.texts.specs.Digits.{decimal}
-use Rattle.texts.specs.Lists.{over, written, cursor_after}
+use Rattle.texts.specs.Lists.{written, cursor_after}
 use Rattle.texts.proofs.OutLaws.{over_none}
 use Rattle.lists.specs.Lists.{tab}
 use Rattle.days.specs.declared.calendar.Day.{Day}

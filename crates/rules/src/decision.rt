@@ -98,6 +98,7 @@ fn cancel_done(v: View) -> Decided
 }
 
 // The answer's code and the change: a fault first, else by action and by how the receipt stands.
+#[tactic(auto, unfolding(crate::specs::Decision::decision, crate::specs::Decision::decision_on, crate::specs::Decision::is_fault, crate::specs::Decision::fault_code))]
 pub fn decide(fault: u64, a: Action, s: Standing, v: View) -> Decided
     ensures { result ≡ decision fault a s v }
 {

@@ -6,11 +6,11 @@ use Rattle.workload.proofs.LoadLaws.{steps-few}
 use Rattle.load.proofs.print_steps.Statement.{statement}
 use Rattle.load.proofs.print_steps.Tie as tie
 
-abbrev invariant-loop : tie.invariant-loop
-invariant-loop names keys o out₀ date value₀ left₀ t9 t10 out value left = length out ≡ 65536
+abbrev invariant-loop-left : tie.invariant-loop-left
+invariant-loop-left names keys o out₀ date value₀ left₀ out value left = length out ≡ 65536
 
-abbrev decreases-loop : tie.decreases-loop
-decreases-loop names keys o out₀ date value₀ left₀ t9 t10 out value left = left
+abbrev decreases-loop-left : tie.decreases-loop-left
+decreases-loop-left names keys o out₀ date value₀ left₀ out value left = left
 
 ruleset laws = (left_less, steps-few, rules)
 
@@ -18,19 +18,17 @@ pub print_steps_spec : {M : Type 1} → statement M
 print_steps_spec =
     tie.close
     (tie.spec
-    invariant-loop
-    decreases-loop
-    (λ c κs. search laws)
-    (λ c. search laws)
-    (λ c. search laws)
-    (λ c κs. search laws)
-    (λ c. search laws)
+    invariant-loop-left
+    decreases-loop-left
     (λ c κs. search laws)
     (λ c. search laws)
     (λ c. search laws)
     (λ c κs. search laws)
     (λ c κs. search laws)
     (λ c. search laws)
+    (λ c. search laws)
+    (λ c κs. search laws)
+    (λ c κs. search laws)
     (λ c κs. search laws)
     (λ c. search laws)
     (λ c. search laws)

@@ -3,11 +3,11 @@ use Prim.Native.Nat.{◌≤◌, ◌-◌}
 use Rattle.load_samples.proofs.values.Statement.{statement}
 use Rattle.load_samples.proofs.values.Tie as tie
 
-abbrev invariant-loop : tie.invariant-loop
-invariant-loop start v₀ i₀ t4 v i = i ≤ 10
+abbrev invariant-loop-i : tie.invariant-loop-i
+invariant-loop-i start v₀ i₀ v i = i ≤ 10
 
-abbrev decreases-loop : tie.decreases-loop
-decreases-loop start v₀ i₀ t4 v i = 10 - i
+abbrev decreases-loop-i : tie.decreases-loop-i
+decreases-loop-i start v₀ i₀ v i = 10 - i
 
 ruleset laws = (rules)
 
@@ -15,12 +15,11 @@ pub values_spec : {M : Type 1} → statement M
 values_spec =
     tie.close
     (tie.spec
-    invariant-loop
-    decreases-loop
+    invariant-loop-i
+    decreases-loop-i
     (λ c. search laws)
     (λ c κs. search laws)
     (λ c κs. search laws)
-    (λ c. search laws)
     (λ c κs. search laws)
     (λ c. search laws)
     (λ c. search laws)

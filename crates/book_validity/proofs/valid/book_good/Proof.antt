@@ -7,17 +7,17 @@ use borrow.Author.Rules.{rules}
 use Rattle.book_validity.proofs.valid.book_good.Statement.{statement}
 use Rattle.book_validity.proofs.valid.book_good.Tie as tie
 
-entries-good-requires : tie.Need-entries-good-requires
+entries-good-requires : tie.Need-entries_good-requires
 entries-good-requires c κs =
     let e = c.before.before in
-    let f = lent_is _ _ _ _ _ e.before.is-lent.ensures.1 e.if1.false in
+    let f = lent_is _ _ _ _ _ e.before.is_lent.ensures.1 e.if-not-is_lent.false-raw in
     ((f.room, omega (arith, f.room, f.second), omega (arith, f.room, f.third)), (search head-receipt, omega (arith, f.room, f.most)))
 
-days-good-requires : tie.Need-days-good-requires
+days-good-requires : tie.Need-days_good-requires
 days-good-requires c κs =
     let e = c.before.before.before.before in
-    let f = lent_is _ _ _ _ _ e.before.is-lent.ensures.1 e.if1.false in
-    ((f.room, omega (arith, f.room, f.second), omega (arith, f.room, f.third)), entries-dated _ _ _ c.before.entries-good.ensures.0 c.if3.false)
+    let f = lent_is _ _ _ _ _ e.before.is_lent.ensures.1 e.if-not-is_lent.false-raw in
+    ((f.room, omega (arith, f.room, f.second), omega (arith, f.room, f.third)), entries-dated _ _ _ c.before.entries_good.ensures.0 c.if-not-entries_good.false-raw)
 
 pub book_good_spec : {M : Type 1} → statement M
 book_good_spec =

@@ -12,20 +12,20 @@ use borrow.Author.Rules.{rules}
 use Rattle.book_validity.proofs.valid.entries_good.Statement.{statement}
 use Rattle.book_validity.proofs.valid.entries_good.Tie as tie
 
-abbrev invariant-loop : tie.invariant-loop
-invariant-loop nums numbers dates b used i₀ i =
+abbrev invariant-loop-i : tie.invariant-loop-i
+invariant-loop-i nums numbers dates b used i₀ i =
     let t : BookRows = record { nums = nums; numbers = numbers; dates = dates } in
     (i ≤ used) × (all_from (entry_good b) 0 (entries_of t used) ≡ all_from (entry_good b) i (drop i (entries_of t used))) × WholeBook t i
 
-abbrev decreases-loop : tie.decreases-loop
-decreases-loop nums numbers dates b used i₀ i = used - i
+abbrev decreases-loop-i : tie.decreases-loop-i
+decreases-loop-i nums numbers dates b used i₀ i = used - i
 
 pub entries_good_spec : {M : Type 1} → statement M
 entries_good_spec =
     tie.close
     (tie.spec
-    invariant-loop
-    decreases-loop
+    invariant-loop-i
+    decreases-loop-i
     (λ c. (search rules, search rules, search book-none))
     (λ c κs. search rules)
     (λ c κs. search rules)

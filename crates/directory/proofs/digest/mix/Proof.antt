@@ -7,11 +7,11 @@ use Rattle.directory.specs.Directory.{mixed}
 use Rattle.directory.proofs.digest.mix.Statement.{statement}
 use Rattle.directory.proofs.digest.mix.Tie as tie
 
-abbrev invariant-loop : tie.invariant-loop
-invariant-loop h s x₀ i₀ x i = (i ≤ length s) × (x < 4294967296) × (mixed h s ≡ mixed x (drop i s))
+abbrev invariant-loop-i : tie.invariant-loop-i
+invariant-loop-i h s x₀ i₀ x i = (i ≤ length s) × (x < 4294967296) × (mixed h s ≡ mixed x (drop i s))
 
-abbrev decreases-loop : tie.decreases-loop
-decreases-loop h s x₀ i₀ x i = length s - i
+abbrev decreases-loop-i : tie.decreases-loop-i
+decreases-loop-i h s x₀ i₀ x i = length s - i
 
 ruleset laws = (mix-turn, mix-end, rules)
 
@@ -19,8 +19,8 @@ pub mix_spec : {M : Type 1} → statement M
 mix_spec =
     tie.close
     (tie.spec
-    invariant-loop
-    decreases-loop
+    invariant-loop-i
+    decreases-loop-i
     (λ c. search laws)
     (λ c. search laws)
     (λ c. search laws)

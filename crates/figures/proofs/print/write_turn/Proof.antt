@@ -9,7 +9,6 @@ pub write_turn_spec : {M : Type 1} → statement M
 write_turn_spec =
     tie.close
     (tie.spec
-    (λ c. search laws)
     (λ c κs. search laws)
     (λ c. search laws)
     (λ c. search laws)

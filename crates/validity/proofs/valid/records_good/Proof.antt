@@ -14,50 +14,50 @@ use Rattle.validity.specs.Valid.{record_good}
 use Rattle.validity.proofs.valid.records_good.Statement.{statement}
 use Rattle.validity.proofs.valid.records_good.Tie as tie
 
-abbrev invariant-loop : tie.invariant-loop
-invariant-loop nums numbers dates names keys balances h hints used count i₀ i =
+abbrev invariant-loop-i : tie.invariant-loop-i
+invariant-loop-i nums numbers dates names keys balances h hints used count i₀ i =
     let t : Rows = record { nums = nums; numbers = numbers; dates = dates } in
     let g : Gate = gate_of h (record { names = names; keys = keys; balances = balances }) in
     (i ≤ used) × (all_from (record_good g) 0 (records_of t used) ≡ all_from (record_good g) i (drop i (records_of t used))) × Whole t i
 
-abbrev decreases-loop : tie.decreases-loop
-decreases-loop nums numbers dates names keys balances h hints used count i₀ i = used - i
+abbrev decreases-loop-i : tie.decreases-loop-i
+decreases-loop-i nums numbers dates names keys balances h hints used count i₀ i = used - i
 
-loop-again : tie.Need-loop-preserved invariant-loop decreases-loop
+loop-again : tie.Need-loop-i-preserved-then-guess_fits invariant-loop-i decreases-loop-i
 loop-again c =
     let k = c.before in
     let a = k.before in
     let o = a.before.before.before.before.before in
     let r = o.before in
     let n = r.before.before.before in
-    let v = n.before.loop.invariant in
-    let h = n.loop-test.true in
+    let v = n.before.loop-i.invariant in
+    let h = n.loop-i-test.true in
     let s = n.before.before in (
       omega (arith, h),
-      record-guessed _ _ _ v.1 h _ r.record-good.ensures.0 o.if1.false s.requires.1.0 _ _ a.account-at.ensures _ k.guess-fits.ensures c.if2.true,
-      whole-more _ _ _ v.2 h s.requires.0.0 s.requires.0.1 s.requires.0.2 r.record-good.ensures.1.0 r.record-good.ensures.1.1,
+      record-guessed _ _ _ v.1 h _ r.record_good.ensures.0 o.if-not-record_good.false s.requires.1.0 _ _ a.account_at-a.ensures _ k.guess_fits.ensures c.if-guess_fits.true,
+      whole-more _ _ _ v.2 h s.requires.0.0 s.requires.0.1 s.requires.0.2 r.record_good.ensures.1.0 r.record_good.ensures.1.1,
     )
 
-loop-again-2 : tie.Need-loop-preserved-2 invariant-loop decreases-loop
+loop-again-2 : tie.Need-loop-i-preserved invariant-loop-i decreases-loop-i
 loop-again-2 c =
     let k = c.before in
     let o = k.before.before.before.before.before.before.before.before in
     let r = o.before in
     let n = r.before.before.before in
-    let v = n.before.loop.invariant in
-    let h = n.loop-test.true in
+    let v = n.before.loop-i.invariant in
+    let h = n.loop-i-test.true in
     let s = n.before.before in (
       omega (arith, h),
-      record-known _ _ _ v.1 h _ r.record-good.ensures.0 _ k.is_Known.ensures o.if1.false c.if3.false,
-      whole-more _ _ _ v.2 h s.requires.0.0 s.requires.0.1 s.requires.0.2 r.record-good.ensures.1.0 r.record-good.ensures.1.1,
+      record-known _ _ _ v.1 h _ r.record_good.ensures.0 _ k.is_Known.ensures o.if-not-record_good.false c.if-not-is_known.false,
+      whole-more _ _ _ v.2 h s.requires.0.0 s.requires.0.1 s.requires.0.2 r.record_good.ensures.1.0 r.record_good.ensures.1.1,
     )
 
 pub records_good_spec : {M : Type 1} → statement M
 records_good_spec =
     tie.close
     (tie.spec
-    invariant-loop
-    decreases-loop
+    invariant-loop-i
+    decreases-loop-i
     (λ c. (search rules, search rules, search whole-none))
     (λ c. search rules)
     (λ c. search rules)

@@ -10,12 +10,12 @@ use Rattle.vectors.specs.Escapes.{unescaped}
 use Rattle.vectors.proofs.escape.unescape.Statement.{statement}
 use Rattle.vectors.proofs.escape.unescape.Tie as tie
 
-abbrev invariant-loop : tie.invariant-loop
-invariant-loop s dst₀ i₀ j₀ dst i j = (j ≤ i) × (length dst ≡ length dst₀)
+abbrev invariant-loop-i : tie.invariant-loop-i
+invariant-loop-i s dst₀ i₀ j₀ dst i j = (j ≤ i) × (length dst ≡ length dst₀)
     × (length (unescaped s) ≡ j + length (unescaped (drop i s))) × (over dst₀ 0 (unescaped s) ≡ over dst j (unescaped (drop i s)))
 
-abbrev decreases-loop : tie.decreases-loop
-decreases-loop s dst₀ i₀ j₀ dst i j = length s - i
+abbrev decreases-loop-i : tie.decreases-loop-i
+decreases-loop-i s dst₀ i₀ j₀ dst i j = length s - i
 
 ruleset laws = (unit-fits, unit-falls, unit-behind, count-step, bytes-step, short-count, short-kept, all-count, all-into, zero-add, rules)
 
@@ -23,8 +23,8 @@ pub unescape_spec : {M : Type 1} → statement M
 unescape_spec =
     tie.close
     (tie.spec
-    invariant-loop
-    decreases-loop
+    invariant-loop-i
+    decreases-loop-i
     (λ c. search laws)
     (λ c. search laws)
     (λ c κs. search laws)

@@ -8,12 +8,12 @@ use Rattle.workload.proofs.GivenLaws.{accounts-step, accounts-fail, accounts-end
 use Rattle.workload.proofs.given.accounts_good.Statement.{statement}
 use Rattle.workload.proofs.given.accounts_good.Tie as tie
 
-abbrev invariant-loop : tie.invariant-loop
-invariant-loop names keys i₀ i =
+abbrev invariant-loop-i : tie.invariant-loop-i
+invariant-loop-i names keys i₀ i =
     (i ≤ length names) × (all_from (λ i a. is_account_name a) 0 (accounts_of names keys) ≡ all_from (λ i a. is_account_name a) i (drop i (accounts_of names keys)))
 
-abbrev decreases-loop : tie.decreases-loop
-decreases-loop names keys i₀ i = length names - i
+abbrev decreases-loop-i : tie.decreases-loop-i
+decreases-loop-i names keys i₀ i = length names - i
 
 ruleset laws = (accounts-step, accounts-fail, accounts-end, rules)
 
@@ -21,8 +21,8 @@ pub accounts_good_spec : {M : Type 1} → statement M
 accounts_good_spec =
     tie.close
     (tie.spec
-    invariant-loop
-    decreases-loop
+    invariant-loop-i
+    decreases-loop-i
     (λ c. search laws)
     (λ c κs. search laws)
     (λ c κs. search laws)

@@ -11,10 +11,8 @@ write_ask_spec =
     tie.close
     (tie.spec
     (λ c. search laws)
-    (λ c. search laws)
     (λ c κs. search laws)
     (λ c κs. search laws)
-    (λ c. search laws)
     (λ c κs. search laws)
     (λ c. search laws)
     (λ c. search laws))

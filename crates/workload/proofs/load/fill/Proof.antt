@@ -7,12 +7,12 @@ use Rattle.workload.proofs.LoadLaws.{Going, going_start, all-written, stops-here
 use Rattle.workload.proofs.load.fill.Statement.{statement}
 use Rattle.workload.proofs.load.fill.Tie as tie
 
-abbrev invariant-loop : tie.invariant-loop
-invariant-loop names keys start date reason most dst₀ count value₀ at₀ steps₀ dst value at steps =
+abbrev invariant-loop-steps : tie.invariant-loop-steps
+invariant-loop-steps names keys start date reason most dst₀ count value₀ at₀ steps₀ dst value at steps =
     Going (load_of date reason names keys) start most dst₀ dst value at steps × (length dst ≡ length dst₀)
 
-abbrev decreases-loop : tie.decreases-loop
-decreases-loop names keys start date reason most dst₀ count value₀ at₀ steps₀ dst value at steps = most - steps
+abbrev decreases-loop-steps : tie.decreases-loop-steps
+decreases-loop-steps names keys start date reason most dst₀ count value₀ at₀ steps₀ dst value at steps = most - steps
 
 ruleset laws = (going_start, all-written, stops-here, kept_here, goes_on, some-names, picked-name, picked-key, rules)
 
@@ -20,8 +20,8 @@ pub fill_spec : {M : Type 1} → statement M
 fill_spec =
     tie.close
     (tie.spec
-    invariant-loop
-    decreases-loop
+    invariant-loop-steps
+    decreases-loop-steps
     (λ c. search laws)
     (λ c κs. search laws)
     (λ c. search laws)
