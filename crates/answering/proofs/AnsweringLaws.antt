@@ -22,6 +22,7 @@ use Rattle.book.proofs.EntryLaws.{get_d-entries, book-set}
 use Rattle.answering.specs.declared.meaning.Meaning.{Meaning}
 use Rattle.daybook.specs.Freezing.{is_frozen}
 use Rattle.answering.specs.Answering.{Taking, meaning, turned, credits, authcode_after, answered_entry, take_at_place, take_receipt, is_check, check_code, take_answer}
+use Rattle.book_validity.proofs.PassedLaws.{place-in-use}
 
 -- ---- the authcode after an answer
 module _ (credited : Bool) (x : Answer) (e : Entry) where
@@ -116,3 +117,9 @@ module _ (b : Book) (t : BookRows) (a : Action) (receipt : ℕ) (text : List ℕ
     pub take-receipt : (k : Taking) → c ≡ false → k ≡ take_receipt b t a receipt text → k ≡ take_answer b t a receipt text
     unfolding take_answer
     take-receipt k n q = q ∙ rw (← eg, not-false g h, ← ec, n)
+
+pub ruleset take_at_laws = (at-unread, at-frozen)
+
+pub ruleset take_receipt_laws = (not-receipt, none_found, one_found, place-in-use)
+
+pub ruleset take_answer_laws = (take-not-book, take-check, take-receipt)

@@ -46,6 +46,7 @@ pub(crate) fn answered_entry(m: meaning::Meaning, x: Answer, e: Entry) -> Entry
 }
 
 // An answer for the entry at i.
+#[tactic(auto, using(crate::proofs::AnsweringLaws::take_at_laws))]
 pub(crate) fn take_at(
     nums: &mut [[u64; 6]],
     numbers: &mut [[u8; 30]],
@@ -74,6 +75,7 @@ pub(crate) fn take_at(
 }
 
 // An answer with a receipt.
+#[tactic(auto, using(crate::proofs::AnsweringLaws::take_receipt_laws))]
 pub(crate) fn take_receipt(
     nums: &mut [[u64; 6]],
     numbers: &mut [[u8; 30]],
@@ -116,6 +118,7 @@ pub(crate) fn take_check(text: &[u8]) -> u64
 }
 
 // Takes the answer to a request of this action and receipt; a fault keeps all.
+#[tactic(auto, using(crate::proofs::AnsweringLaws::take_answer_laws))]
 pub fn take_answer(
     nums: &mut [[u64; 6]],
     numbers: &mut [[u8; 30]],

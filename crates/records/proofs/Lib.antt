@@ -1,10 +1,4 @@
-pub mod Turn
-pub mod Elem
-pub mod Lent
 pub mod Types
 pub mod PartLaws
 pub mod CallLaws
 pub mod RecordsLaws
-pub mod CallsIn
-pub mod CallsOut
-pub mod CallsCall

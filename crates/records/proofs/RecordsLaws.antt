@@ -22,7 +22,8 @@ use Rattle.lists.proofs.LentLaws.{lent_none, lent-many}
 use Rattle.table.specs.Table.{Rows, no_record, nums_of, dates_of, record_from, record_at, records_of, rows_with, rows_from}
 use Rattle.validity.specs.Valid.{table_good}
 use Rattle.table.proofs.TableLaws.{length-records, from_at, from_more, from-whole, records-from}
-use Rattle.admission.specs.Delivery.{Delivery, undelivered}
+use Rattle.ledger.specs.declared.Reply.{Reply}
+use Rattle.admission.specs.Delivery.{Delivery, delivery_of, undelivered}
 use Rattle.records.specs.Records.{rows_of, Called, called_of, back_from, call_records}
 use Rattle.calls.specs.Calls.{call_on}
 use Rattle.records.specs.Copying.{rows_in, filled, restored, Sized, first_rows, on_rows, on_first, on_part}
@@ -223,6 +224,16 @@ module _ (g : Gate) (ts : List Record) (c : Call) (text out : List ℕ) where
   pub all-calls : Sized called.rows → called_of (reply_of called) (restored ts (rows_in (length ts)) called.rows) called.out ≡ (call_records g ts c text out)
   unfolding call_records
   all-calls = calls (call_on g c text out) g out (λ t h. call-refused g c text out t (table-many g t h)) empty empty-sized ts
+
+  -- the call that the code makes: records into rows, the call on these, and the rows back
+  pub call-made : (r : Reply) (w₁ w : Rows) (out₁ : List ℕ) (left : List Record) → w₁ ≡ filled ts (rows_in (length ts)) empty
+      → delivery_of r w out₁ ≡ on_part (length ts) g out (call_on g c text out) w₁ → Sized w → left ≡ restored ts (rows_in (length ts)) w
+      → called_of r left out₁ ≡ call_records g ts c text out
+  call-made r w₁ w out₁ left f d s l =
+      let e : delivery_of r w out₁ ≡ called = d ∙ ap (on_part (length ts) g out (call_on g c text out)) f in
+      ap (λ (x : List Record). called_of r x out₁) l
+      ∙ ap (λ (x : Delivery). called_of (reply_of x) (restored ts (rows_in (length ts)) x.rows) x.out) e
+      ∙ all-calls (subst (λ (x : Delivery). Sized x.rows) e s)
 
   -- ---- row 68: everything is kept
   abbrev kept : Called

@@ -90,3 +90,7 @@ module _ (b : Book) (t : BookRows) (n : Number) (k amount : ℕ) (out : List ℕ
         → ◌≡◌ {A = Writing} (record { code = 0; rows = t; out = left; size = size }) (write_check b t n k amount out)
     unfolding write_check
     check-written left size m es el = rw (← eg, not-false g h, le-leb _ _ l, ← check-asked n k amount, ← eq, ← ef, not-false f m, es, el)
+
+pub ruleset write_entry_laws = (at-closed)
+
+pub ruleset write_for_laws = (not-book, no_room, no-forms, no-entry, one-entry)

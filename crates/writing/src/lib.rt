@@ -19,6 +19,7 @@ use request_writer::write;
 const REQUEST_ROOM: usize = 512;
 
 // Writes the request of the entry at i.
+#[tactic(auto, using(crate::proofs::WritingLaws::write_entry_laws))]
 pub(crate) fn write_entry(
     nums: &mut [[u64; 6]],
     numbers: &mut [[u8; 30]],
@@ -42,6 +43,7 @@ pub(crate) fn write_entry(
 }
 
 // A request of an entry, by its receipt.
+#[tactic(auto, using(crate::proofs::WritingLaws::write_for_laws))]
 pub(crate) fn write_for(
     nums: &mut [[u64; 6]],
     numbers: &mut [[u8; 30]],

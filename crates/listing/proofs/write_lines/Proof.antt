@@ -11,8 +11,8 @@ use borrow.Author.Rules.{rules}
 use Rattle.listing.proofs.write_lines.Statement.{statement}
 use Rattle.listing.proofs.write_lines.Tie as tie
 
-abbrev invariant-loop : tie.invariant-loop
-invariant-loop nums numbers dates day out₀ used at₀ i₀ out at i =
+abbrev invariant-loop-i : tie.invariant-loop-i
+invariant-loop-i nums numbers dates day out₀ used at₀ i₀ out at i =
     let es : List Entry = entries_of (record { nums = nums; numbers = numbers; dates = dates }) used in
     (i ≤ used)
     × (length out ≡ length out₀)
@@ -20,8 +20,8 @@ invariant-loop nums numbers dates day out₀ used at₀ i₀ out at i =
     × (cursor_after out₀ 0 (registry_of day es) ≡ cursor_after out at (registry_of day (drop i es)))
     × (written out₀ 0 (registry_of day es) ≡ written out at (registry_of day (drop i es)))
 
-abbrev decreases-loop : tie.decreases-loop
-decreases-loop nums numbers dates day out₀ used at₀ i₀ out at i = used - i
+abbrev decreases-loop-i : tie.decreases-loop-i
+decreases-loop-i nums numbers dates day out₀ used at₀ i₀ out at i = used - i
 
 ruleset laws = (listed-date, listed-line, lines_start, skip-room, skip-cursor, skip-written, lines-cursor, lines-written, rules)
 
@@ -29,8 +29,8 @@ pub write_lines_spec : {M : Type 1} → statement M
 write_lines_spec =
     tie.close
     (tie.spec
-    invariant-loop
-    decreases-loop
+    invariant-loop-i
+    decreases-loop-i
     (λ c. search laws)
     (λ c κs. search laws)
     (λ c κs. search laws)

@@ -3,16 +3,16 @@ use borrow.Author.Rules.{rules}
 use Rattle.acceptance.proofs.accepting.accept.Statement.{statement}
 use Rattle.acceptance.proofs.accepting.accept.Tie as tie
 
-made-entry-requires : tie.Need-made-entry-requires
+made-entry-requires : tie.Need-made_entry-e-requires
 made-entry-requires c κs =
-    let k = c.before.accept-fault in
-    made-room _ _ _ _ _ _ _ k.ensures.0 c.if1.false k.ensures.1
+    let k = c.before.accept_fault-code in
+    made-room _ _ _ _ _ _ _ k.ensures.0 c.if-code-ne0.false k.ensures.1
 
-store-entry-requires : tie.Need-store-entry-requires
+store-entry-requires : tie.Need-store_entry-requires
 store-entry-requires c κs =
     let e = c.before.before.before.before in
-    let k = e.before.accept-fault in
-    store-room _ _ _ _ _ _ _ k.ensures.0 e.if1.false k.ensures.1
+    let k = e.before.accept_fault-code in
+    store-room _ _ _ _ _ _ _ k.ensures.0 e.if-code-ne0.false k.ensures.1
 
 ruleset laws = (accept-refused, accept-made, store-more, rules)
 

@@ -15,7 +15,7 @@ is_short_spec =
     (λ c g e.
     let k = c.before.before in
     let s = k.before.before in
-    short-known s.args.h s.args.n _ k.before.is_found.ensures g e k.if1.true _ (below-is s.args.h.balance s.args.n _ c.is-less.ensures (search rules)))
+    short-known s.args.h s.args.n _ k.before.is_found.ensures g e k.if-is_found.true _ (below-is s.args.h.balance s.args.n _ c.is_less.ensures (search rules)))
     (λ c g e.
     let s = c.before.before in
-    short-unknown s.args.h s.args.n _ c.before.is_found.ensures g e c.if1.false))
+    short-unknown s.args.h s.args.n _ c.before.is_found.ensures g e c.if-is_found.false))

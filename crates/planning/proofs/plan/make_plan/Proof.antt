@@ -16,4 +16,4 @@ make_plan_spec =
     let t = c.before in
     let v = t.before in
     let s = v.before in
-    plan-is g s.args.lent s.args.fault s.args.q s.args.found s.args.payment s.args.h _ _ _ eh (v.view_of.ensures g ec eu (held-balance g _ s.args.h eh)) t.standing.ensures c.decide.ensures))
+    plan-is g s.args.lent s.args.fault s.args.q s.args.found s.args.payment s.args.h _ _ _ eh (v.view_of-v.ensures g ec eu (held-balance g _ s.args.h eh)) t.standing.ensures c.decide-decided.ensures))

@@ -18,4 +18,4 @@ view_of_spec =
     let d = u.before in
     let k = d.before in
     let s = k.before in
-    view-is s.args.lent s.args.q s.args.r s.args.h _ _ _ _ _ _ k.is_found.ensures d.date-of.ensures u.is-up-to.ensures g ec eu (c.is-short.ensures g eb)))
+    view-is s.args.lent s.args.q s.args.r s.args.h _ _ _ _ _ _ k.is_found.ensures d.date_of.ensures u.is_up_to.ensures g ec eu (c.is_short.ensures g eb)))

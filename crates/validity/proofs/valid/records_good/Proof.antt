@@ -34,7 +34,7 @@ loop-again c =
     let h = n.loop-i-test.true in
     let s = n.before.before in (
       omega (arith, h),
-      record-guessed _ _ _ v.1 h _ r.record_good.ensures.0 o.if-not-record_good.false s.requires.1.0 _ _ a.account_at-a.ensures _ k.guess_fits.ensures c.if-guess_fits.true,
+      record-guessed _ _ _ v.1 h _ r.record_good.ensures.0 o.if-not-record_good.false-raw s.requires.1.0 _ _ a.account_at-a.ensures _ k.guess_fits.ensures c.if-guess_fits.true,
       whole-more _ _ _ v.2 h s.requires.0.0 s.requires.0.1 s.requires.0.2 r.record_good.ensures.1.0 r.record_good.ensures.1.1,
     )
 
@@ -48,7 +48,7 @@ loop-again-2 c =
     let h = n.loop-i-test.true in
     let s = n.before.before in (
       omega (arith, h),
-      record-known _ _ _ v.1 h _ r.record_good.ensures.0 _ k.is_Known.ensures o.if-not-record_good.false c.if-not-is_known.false,
+      record-known _ _ _ v.1 h _ r.record_good.ensures.0 _ k.is_known.ensures o.if-not-record_good.false-raw c.if-not-is_known.false-raw,
       whole-more _ _ _ v.2 h s.requires.0.0 s.requires.0.1 s.requires.0.2 r.record_good.ensures.1.0 r.record_good.ensures.1.1,
     )
 

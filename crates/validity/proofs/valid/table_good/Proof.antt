@@ -9,7 +9,7 @@ use Rattle.validity.proofs.valid.table_good.Tie as tie
 records-good-requires : tie.Need-records_good-requires
 records-good-requires c κs =
     let e = c.before.before.before.before in
-    let f = lent_is _ _ _ _ _ e.before.is_lent.ensures.1 e.if-not-is_lent.false in
+    let f = lent_is _ _ _ _ _ e.before.is_lent.ensures.1 e.if-not-is_lent.false-raw in
     ((f.room, omega (arith, f.room, f.second), omega (arith, f.room, f.third)), (search sound-gate, omega (arith, f.room, f.most)))
 
 pub table_good_spec : {M : Type 1} → statement M

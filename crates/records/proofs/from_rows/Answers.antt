@@ -1,0 +1,12 @@
+use Rattle.std.proofs.Common.{◌≡◌, refl, ap, ◌∙◌, arith, add-one, set}
+use Rattle.table.specs.Table.{record_at}
+use Rattle.records.specs.Copying.{restored}
+use Rattle.records.proofs.from_rows.Goals as goal
+
+pub loop-i-init : goal.loop-i-init
+unfolding restored
+loop-i-init c = (omega arith, refl)
+
+pub loop-i-preserved : goal.loop-i-preserved
+unfolding restored
+loop-i-preserved c = (omega arith, rw (add-one, c.get.ensures, ← c.loop-i.invariant.1))
