@@ -12,36 +12,17 @@ must_read() { # FILE
 
 stale() {
     [ ! -x "$root/target/bin/$name" ] || [ ! -f "$root/target/$name.stamp" ] ||
-        [ -n "$(find "$root/crates" "$root/crates.txt" -newer "$root/target/$name.stamp" -type f \( -name '*.rt' -o -name '*.antt' -o -name crates.txt \) -print | head -n 1)" ]
+        [ -n "$(find "$root/crates.txt" "$root"/crates/*/src "$root"/crates/*/specs "$root"/crates/*/proofs -newer "$root/target/$name.stamp" -type f -print 2>/dev/null | head -n 1)" ]
 }
 
 # one line for each crate that is proved, of as many as the program stands on
 prove() {
-    crates=$(awk -F: -v program="$name" '{ sub(/#.*/, ""); if (NF > 1) { listed[$1] = 1; needs[$1] = $2 } }
-        function count(name,   need, n, i, k) {
-            if (!(name in listed) || name in seen) return 0
-            seen[name] = 1
-            k = 1
-            n = split(needs[name], need, " ")
-            for (i = 1; i <= n; i++) k += count(need[i])
-            return k
-        }
-        END { print count(program) }' "$root/crates.txt")
-    log=$root/target/$name.log
-    done_so_far=0
-    { (cd "$root" && rt check "$name" 2>&1); printf 'status %s\n' "$?"; } | {
+    { "$root/tools/build" "$name" 2>&1; printf 'status %s\n' "$?"; } | {
         status=1
-        : > "$log"
         while IFS= read -r line; do
-            printf '%s\n' "$line" >> "$log"
             case $line in
-                'rt: ok,'*) ;;
-                'rt: '*' proved'*)
-                    crate=${line#rt: }
-                    done_so_far=$((done_so_far + 1))
-                    say "${crate%% *} proved ($done_so_far of $crates)"
-                    ;;
                 'status '*) status=${line#status } ;;
+                *) say "$line" ;;
             esac
         done
         exit "$status"

@@ -7,8 +7,8 @@ returns : tie.Need-returns
 returns c =
     let h = c.before.before.before.before in
     let u = h.before.before.before.before in (
-      admit-packed _ _ _ u.unpack.ensures h.head_of.ensures _ _ _ _ c.admit.ensures.0,
-      λ z. ready-packed _ _ _ u.unpack.ensures h.head_of.ensures _ (c.admit.ensures.1 z),
+      admit-packed _ _ _ u.unpack.ensures h.head_of-head.ensures _ _ _ _ c.admit.ensures.0,
+      λ z. ready-packed _ _ _ u.unpack.ensures h.head_of-head.ensures _ (c.admit.ensures.1 z),
     )
 
 pub admit_gate_spec : {M : Type 1} → statement M

@@ -5,10 +5,7 @@ use Rattle.opening.proofs.draw_funds.Tie as tie
 
 returns : tie.Need-returns
 returns c =
-    let r = c.before.before.before.before in
-    let h = r.before.before.before.before in
-    let u = h.before.before.before.before in
-    draw-packed _ _ _ _ _ _ _ _ _ _ _ u.unpack.ensures h.head_of.ensures c.pack.ensures _ r.draw-lent.ensures
+    draw-packed _ _ _ _ _ _ _ _ _ _ _ c.unpack.ensures c.head_of-h.ensures c.pack.ensures _ c.draw_lent-r.ensures
 
 pub draw_funds_spec : {M : Type 1} → statement M
 draw_funds_spec =

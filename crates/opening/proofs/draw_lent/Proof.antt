@@ -1,4 +1,5 @@
 use mathlib.Core.Path.{refl}
+use Rattle.table.specs.Columns.{gate_of, columns_of}
 use Rattle.table.proofs.AccountLaws.{held_place}
 use borrow.Author.Tests.{not-false}
 use borrow.Author.Rules.{rules}
@@ -6,40 +7,31 @@ use Rattle.opening.proofs.OpeningLaws.{draw-refused, draw-called, draw-malformed
 use Rattle.opening.proofs.draw_lent.Statement.{statement}
 use Rattle.opening.proofs.draw_lent.Tie as tie
 
-returns : tie.Need-returns
+returns : tie.Need-returns-then-not-table_good
 returns c =
-    let k = c.before in
-    draw-refused _ _ _ _ _ _ k.before.table-good.ensures.0 _ k.if1.true (c.keep.ensures _)
+    draw-refused _ _ _ _ _ _ c.table_good.ensures.0 _ c.if-not-table_good.true-raw (c.keep.ensures _)
 
-returns-2 : tie.Need-returns-2
+returns-2 : tie.Need-returns-then-not-is_named
 returns-2 c =
-    let k = c.before in
-    let e = k.before.before in
-    draw-called _ _ _ _ _ _ e.before.table-good.ensures.0 _ e.if1.false (draw-malformed _ _ _ _ _ k.before.is-named.ensures _ k.if2.true (c.keep2.ensures _))
+    draw-called _ _ _ _ _ _ c.table_good.ensures.0 _ c.if-not-table_good.false-raw (draw-malformed _ _ _ _ _ c.is_named.ensures _ c.if-not-is_named.true-raw (c.keep-then-not-is_named.ensures _))
 
-look-up-requires : tie.Need-look-up-requires
+look-up-requires : tie.Need-look_up-h-requires
 look-up-requires c κs =
-    let e = c.before.before.before in
-    (e.before.table-good.ensures.1 (not-false e.before.table-good.result e.if1.false)).funds.count
+    (c.table_good.ensures.1 (not-false c.table_good.result c.if-not-table_good.false-raw)).funds.count
 
-draw-on-requires : tie.Need-draw-on-requires
+draw-on-requires : tie.Need-draw_on-requires
 draw-on-requires c κs =
-    let u = c.before in
-    let e = u.before.before.before.before in
-    let s = (e.before.table-good.ensures.1 (not-false e.before.table-good.result e.if1.false)).funds in
+    let s = (c.table_good.ensures.1 (not-false c.table_good.result c.if-not-table_good.false-raw)).funds in
     let w = named-within _ _ _ _ s refl in
-    (held-within _ s _ _ u.look_up.ensures w, held-near _ s _ _ u.look_up.ensures w)
+    (held-within _ s _ _ c.look_up-h.ensures w, held-near _ s _ _ c.look_up-h.ensures w)
 
-returns-3 : tie.Need-returns-3
+returns-3 : tie.Need-returns
 returns-3 c =
-    let u = c.before.before in
-    let k = u.before.before in
-    let e = k.before.before in
-    let s = (e.before.table-good.ensures.1 (not-false e.before.table-good.result e.if1.false)).funds in
+    let s = (c.table_good.ensures.1 (not-false c.table_good.result c.if-not-table_good.false-raw)).funds in
     let w = named-within _ _ _ _ s refl in
-    draw-called _ _ _ _ _ _ e.before.table-good.ensures.0 _ e.if1.false
-    (draw-named _ _ _ _ _ k.before.is-named.ensures k.if2.false u.look_up.result.at (held_place _ _ _ u.look_up.ensures) _
-    (c.draw-on.ensures _ _ (held-balance _ s _ _ u.look_up.ensures w)))
+    draw-called _ _ _ _ _ _ c.table_good.ensures.0 _ c.if-not-table_good.false-raw
+    (draw-named _ _ _ _ _ c.is_named.ensures c.if-not-is_named.false-raw c.look_up-h.result.at (held_place (gate_of c.args.head (columns_of c.args.names.now c.args.keys.now c.args.balances.now)) _ _ c.look_up-h.ensures) _
+    (c.draw_on.ensures _ _ (held-balance _ s _ _ c.look_up-h.ensures w)))
 
 pub draw_lent_spec : {M : Type 1} → statement M
 draw_lent_spec =

@@ -6,54 +6,35 @@ use Rattle.opening.proofs.OpeningLaws.{draw-unknown, draw-amount, draw-short, dr
 use Rattle.opening.proofs.draw_on.Statement.{statement}
 use Rattle.opening.proofs.draw_on.Tie as tie
 
-returns : tie.Need-returns
+returns : tie.Need-returns-in_default
 returns c names keys eb = draw-unknown _ _ _ _ (search rules) (c.keep.ensures _)
 
-returns-2 : tie.Need-returns-2
+returns-2 : tie.Need-returns-then-not-is_amount
 returns-2 c names keys eb =
-    let k = c.before in
-    let f = k.before.before.before in
-    draw-amount _ _ _ _ _ f.f.given.1 _ k.before.is-amount.ensures k.if1.true (c.keep2.ensures _)
+    draw-amount _ _ _ _ _ c.in-At.is _ c.is_amount.ensures c.if-not-is_amount.true-raw (c.keep-then-not-is_amount.ensures _)
 
-is-less-requires : tie.Need-is-less-requires
+is-less-requires : tie.Need-is_less-requires
 is-less-requires c κs =
-    let e = c.before in
-    kopecks-small _ _ e.before.is-amount.ensures e.if1.false
+    kopecks-small _ _ c.is_amount.ensures c.if-not-is_amount.false-raw
 
-returns-3 : tie.Need-returns-3
+returns-3 : tie.Need-returns-then-is_less
 returns-3 c names keys eb =
-    let k = c.before in
-    let l = k.before in
-    let e = l.before.before in
-    let f = e.before.before.before in
-    let s = f.before.before in
-    let b = s.args.h.balance in
-    draw-short _ _ _ _ _ f.f.given.1 _ e.before.is-amount.ensures e.if1.false b eb _ (below-is b _ _ l.is-less.ensures (near-back b s.requires.1)) k.if2.true (c.keep3.ensures _)
+    let b = c.args.h.balance in
+    draw-short _ _ _ _ _ c.in-At.is _ c.is_amount.ensures c.if-not-is_amount.false-raw b eb _ (below-is b _ _ c.is_less.ensures (near-back b c.requires.1)) c.if-is_less.true (c.keep-then-is_less.ensures _)
 
 minus-requires : tie.Need-minus-requires
 minus-requires c κs =
-    let e = c.before.before.before.before.before in
-    let s = e.before.before.before.before.before in
-    (near-passed s.args.h.balance s.requires.1, kopecks-small _ _ e.before.is-amount.ensures e.if1.false)
+    (near-passed c.args.h.balance c.requires.1, kopecks-small _ _ c.is_amount.ensures c.if-not-is_amount.false-raw)
 
-put-balance-requires : tie.Need-put-balance-requires
+put-balance-requires : tie.Need-put_balance-requires
 put-balance-requires c κs =
-    let f = c.before.before.before.before.before.before.before.before.before in
-    let s = f.before.before in
-    (sym c.before.before.put-balance-arg.given.0.1, s.requires.0.at _ f.f.given.1)
+    (sym c.put_balance-arg-1.given.0.1, c.requires.0.at _ c.in-At.is)
 
-returns-4 : tie.Need-returns-4
+returns-4 : tie.Need-returns
 returns-4 c names keys eb =
-    let p = c.before in
-    let m = p.before in
-    let k = m.before.before.before in
-    let l = k.before in
-    let e = l.before.before in
-    let f = e.before.before.before in
-    let s = f.before.before in
-    let b = s.args.h.balance in
-    draw-done _ _ _ _ _ f.f.given.1 _ e.before.is-amount.ensures e.if1.false b eb _ (below-is b _ _ l.is-less.ensures (near-back b s.requires.1)) k.if2.false
-    _ (rest_back b m.minus.result s.args.kopecks s.requires.1 m.minus.ensures.1 m.minus.ensures.0) _ (p.put-balance.ensures s.args.head names keys) (c.keep4.ensures _)
+    let b = c.args.h.balance in
+    draw-done _ _ _ _ _ c.in-At.is _ c.is_amount.ensures c.if-not-is_amount.false-raw b eb _ (below-is b _ _ c.is_less.ensures (near-back b c.requires.1)) c.if-is_less.false
+    _ (rest_back b c.minus.result c.args.kopecks c.requires.1 c.minus.ensures.1 c.minus.ensures.0) _ (c.put_balance.ensures c.args.head names keys) (c.keep-2.ensures _)
 
 pub draw_on_spec : {M : Type 1} → statement M
 draw_on_spec =

@@ -5,10 +5,7 @@ use Rattle.opening.proofs.open_account.Tie as tie
 
 returns : tie.Need-returns
 returns c =
-    let r = c.before.before.before.before in
-    let h = r.before.before.before.before in
-    let u = h.before.before.before.before in
-    open-packed _ _ _ _ _ _ _ _ _ _ _ u.unpack.ensures h.head_of.ensures c.pack.ensures r.open_lent.ensures
+    open-packed _ _ _ _ _ _ _ _ _ _ _ c.unpack.ensures c.head_of-h.ensures c.pack.ensures c.open_lent-r.ensures
 
 pub open_account_spec : {M : Type 1} → statement M
 open_account_spec =

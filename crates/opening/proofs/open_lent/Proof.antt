@@ -4,20 +4,17 @@ use Rattle.opening.proofs.OpeningLaws.{open-refused, open-called}
 use Rattle.opening.proofs.open_lent.Statement.{statement}
 use Rattle.opening.proofs.open_lent.Tie as tie
 
-returns : tie.Need-returns
+returns : tie.Need-returns-then-not-table_good
 returns c =
-    let k = c.before in
-    open-refused _ _ _ _ _ _ k.before.table-good.ensures.0 k.if1.true (c.keep.ensures _)
+    open-refused _ _ _ _ _ _ c.table_good.ensures.0 c.if-not-table_good.true-raw (c.keep.ensures _)
 
-open-to-requires : tie.Need-open-to-requires
+open-to-requires : tie.Need-open_to-requires
 open-to-requires c κs =
-    let e = c.before.before.before in
-    (e.before.table-good.ensures.1 (not-false e.before.table-good.result e.if1.false)).funds.count
+    (c.table_good.ensures.1 (not-false c.table_good.result c.if-not-table_good.false-raw)).funds.count
 
-returns-2 : tie.Need-returns-2
+returns-2 : tie.Need-returns
 returns-2 c =
-    let e = c.before.before.before.before in
-    open-called _ _ _ _ _ _ e.before.table-good.ensures.0 e.if1.false c.open-to.ensures
+    open-called _ _ _ _ _ _ c.table_good.ensures.0 c.if-not-table_good.false-raw c.open_to.ensures
 
 pub open_lent_spec : {M : Type 1} → statement M
 open_lent_spec =

@@ -8,7 +8,7 @@ returns c =
     let d = c.before.before.before.before.before.before.before.before.before in
     let h = d.before.before in
     let u = h.before.before.before.before.before.before.before.before.before.before in
-    delivered-packed _ _ _ _ _ _ _ _ _ _ _ _ _ _ u.unpack.ensures h.head_of.ensures d.deliver-lent.ensures c.pack.ensures
+    delivered-packed _ _ _ _ _ _ _ _ _ _ _ _ _ _ u.unpack.ensures h.head_of.ensures d.deliver_lent-r.ensures c.pack.ensures
 
 pub deliver_spec : {M : Type 1} → statement M
 deliver_spec =

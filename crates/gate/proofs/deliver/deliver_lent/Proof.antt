@@ -5,23 +5,23 @@ use Rattle.gate.proofs.DeliverLaws.{not-admitted, read_done, asked-amount}
 use Rattle.gate.proofs.deliver.deliver_lent.Statement.{statement}
 use Rattle.gate.proofs.deliver.deliver_lent.Tie as tie
 
-answer-read-requires : tie.Need-answer-read-requires
+answer-read-requires : tie.Need-answer_read-requires
 answer-read-requires c κs =
     let q = c.before.before.before.before.before in
     let e = q.before in
     let k = e.before in
-    let z = e.if1.false in
-    (k.admit.ensures.1 z, (admitted-good _ _ _ _ _ k.admit.ensures.0 z, asked-amount _ _ q.read-request.ensures))
+    let z = e.if-fault-ne0.false in
+    (k.admit-fault.ensures.1 z, (admitted-good _ _ _ _ _ k.admit-fault.ensures.0 z, asked-amount _ _ q.read_request-q.ensures))
 
-returns : tie.Need-returns
-returns c = not-admitted _ _ _ _ _ _ c.before.admit.ensures.0 c.if1.true _ refl _ refl
+returns : tie.Need-returns-then-fault-ne0
+returns c = not-admitted _ _ _ _ _ _ c.before.admit-fault.ensures.0 c.if-fault-ne0.true _ refl _ refl
 
-returns-2 : tie.Need-returns-2
+returns-2 : tie.Need-returns
 returns-2 c =
     let a = c.before.before.before.before.before in
     let q = a.before.before.before.before.before.before in
     let e = q.before in
-    read_done _ _ _ _ _ _ e.before.admit.ensures.0 e.if1.false _ q.read-request.ensures _ a.answer-read.ensures
+    read_done _ _ _ _ _ _ e.before.admit-fault.ensures.0 e.if-fault-ne0.false _ q.read_request-q.ensures _ a.answer_read.ensures
 
 ruleset laws = (rules)
 

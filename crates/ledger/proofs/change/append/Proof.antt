@@ -19,4 +19,4 @@ append_spec =
     (λ c.
     let m = c.before.before.before.before.before.before.before.before in
     let s = m.before in
-    ((search laws, sum_back s.args.b _ s.args.q.amount s.requires.1.1 c.plus.ensures.1 c.plus.ensures.0), (m.make-record.ensures, search laws))))
+    ((search laws, sum_back s.args.b _ s.args.q.amount s.requires.1.1 c.plus.ensures.1 c.plus.ensures.0), (m.make_record-r.ensures, search laws))))

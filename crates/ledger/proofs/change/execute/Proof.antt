@@ -10,77 +10,54 @@ use Rattle.ledger.proofs.ChangeLaws.{near-back, near-passed, within-most, plan-b
 use Rattle.ledger.proofs.change.execute.Statement.{statement}
 use Rattle.ledger.proofs.change.execute.Tie as tie
 
-found-record-requires : tie.Need-found-record-requires
+found-record-requires : tie.Need-found_record-payment-requires
 found-record-requires c κs =
-    let f = c.before.before.before in
-    let s = f.before.before.before.before.before.before in
-    let t : Rows = record { nums = s.args.nums.now; numbers = s.args.numbers.now; dates = s.args.dates.now } in
-    let g : Gate = gate_of s.args.head (columns_of s.args.names.now s.args.keys.now s.args.balances.now) in
-    (search rules, search rules, search rules, found_within g t s.requires.1.0 _ _ f.find-record.ensures)
+    let t : Rows = record { nums = c.args.nums.now; numbers = c.args.numbers.now; dates = c.args.dates.now } in
+    let g : Gate = gate_of c.args.head (columns_of c.args.names.now c.args.keys.now c.args.balances.now) in
+    (search rules, search rules, search rules, found_within g t c.requires.1.0 _ _ c.find_record-found.ensures)
 
-make-plan-requires : tie.Need-make-plan-requires
+make-plan-requires : tie.Need-make_plan-p-requires
 make-plan-requires c κs =
-    let h = c in
-    let r = h.before.before in
-    let f = r.before.before.before.before in
-    let s = f.before.before.before.before.before.before in
-    let t : Rows = record { nums = s.args.nums.now; numbers = s.args.numbers.now; dates = s.args.dates.now } in
-    let g : Gate = gate_of s.args.head (columns_of s.args.names.now s.args.keys.now s.args.balances.now) in
-    found-amount g t s.requires.1.0 _ _ f.find-record.ensures _ r.found-record.ensures
+    let t : Rows = record { nums = c.args.nums.now; numbers = c.args.numbers.now; dates = c.args.dates.now } in
+    let g : Gate = gate_of c.args.head (columns_of c.args.names.now c.args.keys.now c.args.balances.now) in
+    found-amount g t c.requires.1.0 _ _ c.find_record-found.ensures _ c.found_record-payment.ensures
 
-make-change-requires : tie.Need-make-change-requires
+make-change-requires : tie.Need-make_change-o-requires
 make-change-requires c κs =
-    let m = c.before.before.before.before in
-    let h = m.before in
-    let r = h.before.before in
-    let f = r.before.before.before.before in
-    let s = f.before.before.before.before.before.before in
-    let t : Rows = record { nums = s.args.nums.now; numbers = s.args.numbers.now; dates = s.args.dates.now } in
-    let g : Gate = gate_of s.args.head (columns_of s.args.names.now s.args.keys.now s.args.balances.now) in
-    let p = m.make-plan.ensures g refl refl h.holding-of.ensures in (
-      (s.requires.0.whole, s.requires.0.same, s.requires.0.size),
+    let t : Rows = record { nums = c.args.nums.now; numbers = c.args.numbers.now; dates = c.args.dates.now } in
+    let g : Gate = gate_of c.args.head (columns_of c.args.names.now c.args.keys.now c.args.balances.now) in
+    let p = c.make_plan-p.ensures g refl refl c.holding_of-h.ensures in (
+      (c.requires.0.whole, c.requires.0.same, c.requires.0.size),
       (
-        planned g t s.args.fault s.args.q _ (plan-by g t s.args.fault s.args.q _ f.find-record.ensures _ r.found-record.ensures _ h.holding-of.ensures _ p) s.requires.1.0,
-        s.requires.1.1,
-        near-passed h.holding-of.result.balance (plan-near g t s.args.fault s.args.q _ f.find-record.ensures _ r.found-record.ensures _ h.holding-of.ensures s.requires.0.funds),
+        planned g t c.args.fault c.args.q _ (plan-by g t c.args.fault c.args.q _ c.find_record-found.ensures _ c.found_record-payment.ensures _ c.holding_of-h.ensures _ p) c.requires.1.0,
+        c.requires.1.1,
+        near-passed c.holding_of-h.result.balance (plan-near g t c.args.fault c.args.q _ c.find_record-found.ensures _ c.found_record-payment.ensures _ c.holding_of-h.ensures c.requires.0.funds),
       ),
     )
 
-move-balance-requires : tie.Need-move-balance-requires
+move-balance-requires : tie.Need-move_balance-requires
 move-balance-requires c κs =
-    let m = c.before.before.before.before.before.before.before.before.before.before.before in
-    let h = m.before in
-    let r = h.before.before in
-    let f = r.before.before.before.before in
-    let s = f.before.before.before.before.before.before in
-    let t : Rows = record { nums = s.args.nums.now; numbers = s.args.numbers.now; dates = s.args.dates.now } in
-    let g : Gate = gate_of s.args.head (columns_of s.args.names.now s.args.keys.now s.args.balances.now) in
-    let p = m.make-plan.ensures g refl refl h.holding-of.ensures in
-    (sym c.before.move-balance-arg.given.0.1, within-most _ _ (plan-within g t s.args.fault s.args.q _ f.find-record.ensures _ r.found-record.ensures _ h.holding-of.ensures _ p s.requires.0.funds) s.requires.0.funds.count)
+    let t : Rows = record { nums = c.args.nums.now; numbers = c.args.numbers.now; dates = c.args.dates.now } in
+    let g : Gate = gate_of c.args.head (columns_of c.args.names.now c.args.keys.now c.args.balances.now) in
+    let p = c.make_plan-p.ensures g refl refl c.holding_of-h.ensures in
+    (sym c.move_balance-arg-1.given.0.1, within-most _ _ (plan-within g t c.args.fault c.args.q _ c.find_record-found.ensures _ c.found_record-payment.ensures _ c.holding_of-h.ensures _ p c.requires.0.funds) c.requires.0.funds.count)
 
 returns : tie.Need-returns
 returns c =
-    let v = c.before in
-    let k = v.before.before.before.before.before.before.before in
-    let m = k.before.before.before.before.before in
-    let h = m.before in
-    let r = h.before.before in
-    let f = r.before.before.before.before in
-    let s = f.before.before.before.before.before.before in
-    let t : Rows = record { nums = s.args.nums.now; numbers = s.args.numbers.now; dates = s.args.dates.now } in
-    let g : Gate = gate_of s.args.head (columns_of s.args.names.now s.args.keys.now s.args.balances.now) in
-    let p = m.make-plan.ensures g refl refl h.holding-of.ensures in
-    let is = plan-by g t s.args.fault s.args.q _ f.find-record.ensures _ r.found-record.ensures _ h.holding-of.ensures _ p in
-    let near = plan-near g t s.args.fault s.args.q _ f.find-record.ensures _ r.found-record.ensures _ h.holding-of.ensures s.requires.0.funds in
-    let b = plan-balance g t s.args.fault s.args.q _ f.find-record.ensures _ r.found-record.ensures _ h.holding-of.ensures _ p in
-    let made = k.make-change.ensures g refl (b ∙ sym (near-back h.holding-of.result.balance near)) in
-    let o = k.make-change.result in
+    let t : Rows = record { nums = c.args.nums.now; numbers = c.args.numbers.now; dates = c.args.dates.now } in
+    let g : Gate = gate_of c.args.head (columns_of c.args.names.now c.args.keys.now c.args.balances.now) in
+    let p = c.make_plan-p.ensures g refl refl c.holding_of-h.ensures in
+    let is = plan-by g t c.args.fault c.args.q _ c.find_record-found.ensures _ c.found_record-payment.ensures _ c.holding_of-h.ensures _ p in
+    let near = plan-near g t c.args.fault c.args.q _ c.find_record-found.ensures _ c.found_record-payment.ensures _ c.holding_of-h.ensures c.requires.0.funds in
+    let b = plan-balance g t c.args.fault c.args.q _ c.find_record-found.ensures _ c.found_record-payment.ensures _ c.holding_of-h.ensures _ p in
+    let made = c.make_change-o.ensures g refl (b ∙ sym (near-back c.holding_of-h.result.balance near)) in
+    let o = c.make_change-o.result in
     record {
-      codes = decided-code g t s.args.clock s.args.q _ _ is;
+      codes = decided-code g t c.args.clock c.args.q _ _ is;
       made =
-          made_by g t s.args.clock s.args.q _ _ is _ _ _
-          (made-moved t _ g m.make-plan.result.account (to_z w64 (of_z w64 o.balance)) o.balance o.used _ _ made (search (v.before.struct-told2, rules)) _
-          (v.move-balance.ensures s.args.head s.args.names.now s.args.keys.now o.used));
+          made_by g t c.args.clock c.args.q _ _ is _ _ _
+          (made-moved t _ g c.make_plan-p.result.account (to_z w64 (of_z w64 o.balance)) o.balance o.used _ _ made (search (c.struct_told-2-1, rules)) _
+          (c.move_balance.ensures c.args.head c.args.names.now c.args.keys.now o.used));
     }
 
 pub execute_spec : {M : Type 1} → statement M

@@ -6,32 +6,23 @@ use Rattle.ledger.proofs.change.make_change.Tie as tie
 
 append-requires : tie.Need-append-requires
 append-requires c κs =
-    let s = c.before.before.before.before.before.before.before.before in
-    (s.requires.0, (s.requires.1.0.room c.before.before.before.enum-told2.given.1, near-passed s.args.b s.requires.1.2, s.requires.1.1))
+    (c.requires.0, (c.requires.1.0.room c.in-Append.is, near-passed c.args.b c.requires.1.2, c.requires.1.1))
 
 revoke-requires : tie.Need-revoke-requires
 revoke-requires c κs =
-    let s = c.before.before.before.before.before.before.before.before in
-    (s.requires.0, (s.requires.1.0.found, near-passed s.args.b s.requires.1.2, s.requires.1.0.amount))
+    (c.requires.0, (c.requires.1.0.found, near-passed c.args.b c.requires.1.2, c.requires.1.0.amount))
 
-returns : tie.Need-returns
+returns : tie.Need-returns-in-Keep
 returns c g eu eb =
-    let s = c.before.before.before.before.before in
-    kept _ s.args.used s.args.clock s.args.q s.args.p s.args.p.decided.change _ s.args.b _ _ _ g eu eb s.requires.0.0 c.enum_told.given.1 refl (near-back s.args.b s.requires.1.2) refl refl
+    kept _ c.args.used c.args.clock c.args.q c.args.p c.args.p.decided.change _ c.args.b _ _ _ g eu eb c.requires.0.0 c.in-Keep.is refl (near-back c.args.b c.requires.1.2) refl refl
 
-returns-2 : tie.Need-returns-2
+returns-2 : tie.Need-returns-in-Append
 returns-2 c g eu eb =
-    let a = c.before.before.before in
-    let e = a.before.before.before.before in
-    let s = c.before.before.before.before.before.before.before.before.before.before.before.before in
-    recorded _ s.args.used s.args.clock s.args.q s.args.p s.args.p.decided.change _ _ _ _ _ g eu (eb ∙ sym (near-back s.args.b s.requires.1.2)) e.enum-told2.given.1 a.append.ensures.0.0 a.append.ensures.0.1 (a.append.ensures.1.0 g eu) a.append.ensures.1.1
+    recorded _ c.args.used c.args.clock c.args.q c.args.p c.args.p.decided.change _ _ _ _ _ g eu (eb ∙ sym (near-back c.args.b c.requires.1.2)) c.in-Append.is c.append.ensures.0.0 c.append.ensures.0.1 (c.append.ensures.1.0 g eu) c.append.ensures.1.1
 
-returns-3 : tie.Need-returns-3
+returns-3 : tie.Need-returns-in-Revoke
 returns-3 c g eu eb =
-    let a = c.before.before.before in
-    let e = a.before.before.before.before in
-    let s = c.before.before.before.before.before.before.before.before.before.before.before.before in
-    cancelled _ s.args.used s.args.clock s.args.q s.args.p s.args.p.decided.change _ _ _ _ _ g eu (eb ∙ sym (near-back s.args.b s.requires.1.2)) e.enum-told3.given.1 a.revoke.ensures.0.0 a.revoke.ensures.0.1 a.revoke.ensures.0.2 a.revoke.ensures.1
+    cancelled _ c.args.used c.args.clock c.args.q c.args.p c.args.p.decided.change _ _ _ _ _ g eu (eb ∙ sym (near-back c.args.b c.requires.1.2)) c.in-Revoke.is c.revoke.ensures.0.0 c.revoke.ensures.0.1 c.revoke.ensures.0.2 c.revoke.ensures.1
 
 pub make_change_spec : {M : Type 1} → statement M
 make_change_spec =

@@ -5,11 +5,9 @@ use Rattle.ledger.proofs.change.move_balance.Tie as tie
 
 ruleset laws = (moved_none, moved-there, rules)
 
-put-balance-requires : tie.Need-put-balance-requires
+put-balance-requires : tie.Need-put_balance-requires
 put-balance-requires c κs =
-    let f = c.before.before in
-    let s = f.before.before in
-    (search rules, s.requires.1.at _ f.f.given.1)
+    (search rules, c.requires.1.at _ c.in-At.is)
 
 pub move_balance_spec : {M : Type 1} → statement M
 move_balance_spec =

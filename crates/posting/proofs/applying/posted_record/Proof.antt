@@ -9,4 +9,4 @@ posted_record_spec =
     tie.close
     (tie.spec
     (λ c κs. search rules)
-    (λ c. c.make-record.ensures))
+    (λ c. c.make_record.ensures))

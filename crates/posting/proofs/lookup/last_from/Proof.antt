@@ -9,11 +9,11 @@ use Rattle.posting.proofs.LookupLaws.{last-slot}
 use Rattle.posting.proofs.lookup.last_from.Statement.{statement}
 use Rattle.posting.proofs.lookup.last_from.Tie as tie
 
-abbrev invariant-loop : tie.invariant-loop
-invariant-loop nums used heads next i k₀ at₀ k at = (k < used) × (slot_of (receipt_at nums k) ≡ slot_of (receipt_at nums i)) × (at ≡ get_or next k 0)
+abbrev invariant-loop-at : tie.invariant-loop-at
+invariant-loop-at nums used heads next i k₀ at₀ k at = (k < used) × (slot_of (receipt_at nums k) ≡ slot_of (receipt_at nums i)) × (at ≡ get_or next k 0)
 
-abbrev decreases-loop : tie.decreases-loop
-decreases-loop nums used heads next i k₀ at₀ k at = used - k
+abbrev decreases-loop-at : tie.decreases-loop-at
+decreases-loop-at nums used heads next i k₀ at₀ k at = used - k
 
 ruleset laws = (chained-room, onward-in, last-slot, onward-less, chain-ends, rules)
 
@@ -21,8 +21,8 @@ pub last_from_spec : {M : Type 1} → statement M
 last_from_spec =
     tie.close
     (tie.spec
-    invariant-loop
-    decreases-loop
+    invariant-loop-at
+    decreases-loop-at
     (λ c κs. search laws)
     (λ c. search laws)
     (λ c. search laws)

@@ -8,12 +8,12 @@ use Rattle.posting.specs.Lookup.{receipt_at}
 use Rattle.posting.proofs.lookup.link_records.Statement.{statement}
 use Rattle.posting.proofs.lookup.link_records.Tie as tie
 
-abbrev invariant-loop : tie.invariant-loop
-invariant-loop nums used heads₀ next₀ i₀ heads next i =
+abbrev invariant-loop-i : tie.invariant-loop-i
+invariant-loop-i nums used heads₀ next₀ i₀ heads next i =
     (i ≤ used) × (length heads ≡ length heads₀) × (length next ≡ length next₀) × Chained (receipt_at nums) i used heads next
 
-abbrev decreases-loop : tie.decreases-loop
-decreases-loop nums used heads₀ next₀ i₀ heads next i = i
+abbrev decreases-loop-i : tie.decreases-loop-i
+decreases-loop-i nums used heads₀ next₀ i₀ heads next i = i
 
 ruleset laws = (chained-none, chained-turn, chained-all, chained-room, chained-slots, rules)
 
@@ -21,8 +21,8 @@ pub link_records_spec : {M : Type 1} → statement M
 link_records_spec =
     tie.close
     (tie.spec
-    invariant-loop
-    decreases-loop
+    invariant-loop-i
+    decreases-loop-i
     (λ c. search laws)
     (λ c. search laws)
     (λ c. search laws)
