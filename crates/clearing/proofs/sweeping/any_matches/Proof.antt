@@ -11,13 +11,13 @@ use Rattle.line_rows.specs.Lines.{LineRows, lines_of}
 use Rattle.clearing.proofs.sweeping.any_matches.Statement.{statement}
 use Rattle.clearing.proofs.sweeping.any_matches.Tie as tie
 
-abbrev invariant-loop : tie.invariant-loop
-invariant-loop values holders days count heads next r at₀ at =
+abbrev invariant-loop-at : tie.invariant-loop-at
+invariant-loop-at values holders days count heads next r at₀ at =
     let u : LineRows = record { nums = values; numbers = holders; dates = days } in
     Walk (λ (x : Line). matches x r) (lines_of u count) (receipt_in values) (slot_of r.receipt) count at
 
-abbrev decreases-loop : tie.decreases-loop
-decreases-loop values holders days count heads next r at₀ at = ahead count at
+abbrev decreases-loop-at : tie.decreases-loop-at
+decreases-loop-at values holders days count heads next r at₀ at = ahead count at
 
 ruleset laws = (any-start, any_none, any_here, any_next, read-nums, read-numbers, read-dates, chained-slots, chained-room, walk-in, walk-less, rules)
 
@@ -25,8 +25,8 @@ pub any_matches_spec : {M : Type 1} → statement M
 any_matches_spec =
     tie.close
     (tie.spec
-    invariant-loop
-    decreases-loop
+    invariant-loop-at
+    decreases-loop-at
     (λ c κs. search laws)
     (λ c. search laws)
     (λ c. search laws)

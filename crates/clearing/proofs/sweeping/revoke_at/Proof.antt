@@ -11,7 +11,7 @@ returns c =
     let s = m.before.before.before.before in
     let t : Rows = record { nums = s.args.nums.now; numbers = s.args.numbers.now; dates = s.args.dates.now } in
     let t' : Rows = record { nums = w.store.new.0; numbers = w.store.new.1.0; dates = w.store.new.1.1.0 } in
-    (stored-as t s.args.i m.revoke-record.result _ m.revoke-record.ensures t' w.store.ensures, c.find.ensures)
+    (stored-as t s.args.i m.revoke_record.result _ m.revoke_record.ensures t' w.store.ensures, c.find.ensures)
 
 pub revoke_at_spec : {M : Type 1} → statement M
 revoke_at_spec =

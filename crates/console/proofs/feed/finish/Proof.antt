@@ -4,14 +4,14 @@ use Rattle.console.proofs.PartLaws.{last_none, last_line, line-new}
 use Rattle.console.proofs.feed.finish.Statement.{statement}
 use Rattle.console.proofs.feed.finish.Tie as tie
 
-returns : tie.Need-returns
-returns c = last_none _ _ _ _ _ c.if1.true _ refl _ refl
+returns : tie.Need-returns-then-m-eq0
+returns c = last_none _ _ _ _ _ c.if-m-eq0.true _ refl _ refl
 
-returns-2 : tie.Need-returns-2
+returns-2 : tie.Need-returns
 returns-2 c =
     let w = c.before.before.before.before.before.before.before in
     let e = w.before.before.before.before.before.before.before.before in
-    last_line _ _ _ _ _ e.if1.false _ _ (line-new _ _ c.new-mark.ensures) _ _ _ w.end_line.ensures.0
+    last_line _ _ _ _ _ e.if-m-eq0.false _ _ (line-new _ _ c.new_mark.ensures) _ _ _ w.end_line-s.ensures.0
 
 pub finish_spec : {M : Type 1} → statement M
 finish_spec =

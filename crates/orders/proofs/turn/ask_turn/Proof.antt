@@ -8,7 +8,7 @@ returns c =
     let a = c.before.before.before.before.before in
     let p = a.before.before.before.before.before.before.before in
     let d = p.before in
-    ask-done _ _ _ _ _ d.before.field_at.ensures _ d.read-date.ensures _ p.params_in.ensures _ a.deliver-lent.ensures (c.answered.ensures _ _)
+    ask-done _ _ _ _ _ d.before.field_at.ensures _ d.read_date-d.ensures _ p.params_in-params.ensures _ a.deliver_lent.ensures (c.answered.ensures _ _)
 
 pub ask_turn_spec : {M : Type 1} → statement M
 ask_turn_spec =

@@ -3,13 +3,13 @@ use Rattle.orders.proofs.TurnLaws.{turn-order, turn-start}
 use Rattle.orders.proofs.turn.line_turn.Statement.{statement}
 use Rattle.orders.proofs.turn.line_turn.Tie as tie
 
-returns : tie.Need-returns
+returns : tie.Need-returns-then-x
 returns c =
     let a = c.before.before.before in
-    turn-order _ _ _ _ a.before.before.before.before.before.before.before.if1.true a.order-turn.ensures
+    turn-order _ _ _ _ a.before.before.before.before.before.before.before.if-x.true a.order_turn.ensures
 
-returns-2 : tie.Need-returns-2
-returns-2 c = turn-start _ _ _ _ c.before.if1.false (c.start-turn.ensures _ _)
+returns-2 : tie.Need-returns-else-x
+returns-2 c = turn-start _ _ _ _ c.before.if-x.false (c.start_turn.ensures _ _)
 
 pub line_turn_spec : {M : Type 1} → statement M
 line_turn_spec =

@@ -4,24 +4,17 @@ use Rattle.orders.proofs.TurnLaws.{list-none, list-faulty, list-day}
 use Rattle.orders.proofs.turn.list_turn.Statement.{statement}
 use Rattle.orders.proofs.turn.list_turn.Tie as tie
 
-returns : tie.Need-returns
+returns : tie.Need-returns-in_default
 returns c =
-    let d = c.before.before.before in
-    list-none _ _ _ _ _ d.before.field_at.ensures _ d.read-day.ensures (search rules) (c.not-read.ensures _ _)
+    list-none _ _ _ _ _ c.field_at.ensures _ c.read_day.ensures (search rules) (c.not_read.ensures _ _)
 
-returns-2 : tie.Need-returns-2
+returns-2 : tie.Need-returns-then-not-table_good
 returns-2 c =
-    let v = c.before in
-    let g = v.before.before in
-    let d = g.before.before in
-    list-faulty _ _ _ _ _ d.before.field_at.ensures _ d.read-day.ensures _ g.d.given.1 _ v.table-good.ensures.0 c.if1.true refl
+    list-faulty _ _ _ _ _ c.field_at.ensures _ c.read_day.ensures _ c.in-Good.is _ c.table_good.ensures.0 c.if-not-table_good.true-raw refl
 
-returns-3 : tie.Need-returns-3
+returns-3 : tie.Need-returns
 returns-3 c =
-    let v = c.before in
-    let g = v.before.before in
-    let d = g.before.before in
-    list-day _ _ _ _ _ d.before.field_at.ensures _ d.read-day.ensures _ g.d.given.1 _ v.table-good.ensures.0 c.if1.false refl
+    list-day _ _ _ _ _ c.field_at.ensures _ c.read_day.ensures _ c.in-Good.is _ c.table_good.ensures.0 c.if-not-table_good.false-raw refl
 
 pub list_turn_spec : {M : Type 1} → statement M
 list_turn_spec =

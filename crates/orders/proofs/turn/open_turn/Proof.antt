@@ -7,7 +7,7 @@ returns : tie.Need-returns
 returns c =
     let a = c.before in
     let s = a.before.before.before.before in
-    open_done _ _ _ _ _ (c.answered.ensures _ _) _ s.subject-of.ensures.0 _ s.subject-of.ensures.1 a.open_lent.ensures
+    open_done _ _ _ _ _ (c.answered.ensures _ _) _ s.subject_of-s.ensures.0 _ s.subject_of-s.ensures.1 a.open_lent.ensures
 
 pub open_turn_spec : {M : Type 1} → statement M
 open_turn_spec =

@@ -3,40 +3,25 @@ use Rattle.orders.proofs.TurnLaws.{order_open, order-draw, order-ask, order-list
 use Rattle.orders.proofs.turn.order_turn.Statement.{statement}
 use Rattle.orders.proofs.turn.order_turn.Tie as tie
 
-returns : tie.Need-returns
+returns : tie.Need-returns-then-has_form
 returns c =
-    let k = c.before.before.before.before.before.before.before in
-    order_open _ _ _ _ _ k.before.has-form.ensures k.if1.true c.open_Turn.ensures
+    order_open _ _ _ _ _ c.has_form.ensures c.if-has_form.true c.open_turn.ensures
 
-returns-2 : tie.Need-returns-2
+returns-2 : tie.Need-returns-then-has_form-2
 returns-2 c =
-    let k = c.before.before.before.before.before.before.before in
-    let e = k.before.before in
-    order-draw _ _ _ _ _ e.before.has-form.ensures e.if1.false _ k.before.has-form2.ensures k.if2.true c.draw-turn.ensures
+    order-draw _ _ _ _ _ c.has_form.ensures c.if-has_form.false _ c.has_form-2.ensures c.if-has_form-2.true c.draw_turn.ensures
 
-returns-3 : tie.Need-returns-3
+returns-3 : tie.Need-returns-then-has_least
 returns-3 c =
-    let a = c.before.before.before in
-    let k = a.before.before.before.before.before.before.before in
-    let g = k.before.before in
-    let e = g.before.before in
-    order-ask _ _ _ _ _ e.before.has-form.ensures e.if1.false _ g.before.has-form2.ensures g.if2.false _ k.before.has-least.ensures k.if3.true a.ask-turn.ensures
+    order-ask _ _ _ _ _ c.has_form.ensures c.if-has_form.false _ c.has_form-2.ensures c.if-has_form-2.false _ c.has_least.ensures c.if-has_least.true c.ask_turn.ensures
 
-returns-4 : tie.Need-returns-4
+returns-4 : tie.Need-returns-then-has_form-3
 returns-4 c =
-    let k = c.before.before.before.before.before.before.before in
-    let h = k.before.before in
-    let g = h.before.before in
-    let e = g.before.before in
-    order-list _ _ _ _ _ e.before.has-form.ensures e.if1.false _ g.before.has-form2.ensures g.if2.false _ h.before.has-least.ensures h.if3.false _ k.before.has-form3.ensures k.if4.true c.list-turn.ensures
+    order-list _ _ _ _ _ c.has_form.ensures c.if-has_form.false _ c.has_form-2.ensures c.if-has_form-2.false _ c.has_least.ensures c.if-has_least.false _ c.has_form-3.ensures c.if-has_form-3.true c.list_turn.ensures
 
-returns-5 : tie.Need-returns-5
+returns-5 : tie.Need-returns
 returns-5 c =
-    let k = c.before in
-    let h = k.before.before in
-    let g = h.before.before in
-    let e = g.before.before in
-    order-none _ _ _ _ _ e.before.has-form.ensures e.if1.false _ g.before.has-form2.ensures g.if2.false _ h.before.has-least.ensures h.if3.false _ k.before.has-form3.ensures k.if4.false (c.not-read.ensures _ _)
+    order-none _ _ _ _ _ c.has_form.ensures c.if-has_form.false _ c.has_form-2.ensures c.if-has_form-2.false _ c.has_least.ensures c.if-has_least.false _ c.has_form-3.ensures c.if-has_form-3.false (c.not_read.ensures _ _)
 
 pub order_turn_spec : {M : Type 1} → statement M
 order_turn_spec =

@@ -4,25 +4,17 @@ use Rattle.orders.proofs.TurnLaws.{start-other, start_none, start-good}
 use Rattle.orders.proofs.turn.start_turn.Statement.{statement}
 use Rattle.orders.proofs.turn.start_turn.Tie as tie
 
-returns : tie.Need-returns
+returns : tie.Need-returns-then-not-has_form
 returns c a t =
-    let k = c.before in
-    start-other _ _ _ _ _ k.before.has-form.ensures k.if1.true (c.not-read.ensures a t)
+    start-other _ _ _ _ _ c.has_form.ensures c.if-not-has_form.true-raw (c.not_read.ensures a t)
 
-returns-2 : tie.Need-returns-2
+returns-2 : tie.Need-returns-in_default
 returns-2 c a t =
-    let d = c.before.before.before in
-    let f = d.before in
-    let e = f.before in
-    start_none _ _ _ _ _ e.before.has-form.ensures e.if1.false _ f.field_at.ensures _ d.read-day.ensures (search rules) (c.not-read2.ensures a t)
+    start_none _ _ _ _ _ c.has_form.ensures c.if-not-has_form.false-raw _ c.field_at.ensures _ c.read_day.ensures (search rules) (c.not_read-in_default.ensures a t)
 
-returns-3 : tie.Need-returns-3
+returns-3 : tie.Need-returns
 returns-3 c a t =
-    let g = c.before.before.before in
-    let d = g.before.before in
-    let f = d.before in
-    let e = f.before in
-    start-good _ _ _ _ _ e.before.has-form.ensures e.if1.false _ f.field_at.ensures _ d.read-day.ensures _ g.d.given.1 _ (c.answered.ensures a t) refl
+    start-good _ _ _ _ _ c.has_form.ensures c.if-not-has_form.false-raw _ c.field_at.ensures _ c.read_day.ensures _ c.in-Good.is _ (c.answered.ensures a t) refl
 
 pub start_turn_spec : {M : Type 1} → statement M
 start_turn_spec =
