@@ -12,7 +12,6 @@ use Rattle.payments.specs.declared.Action.TheVariants.{Payment}
 use Rattle.message.specs.declared.request.Asked.{Asked}
 use Rattle.message.specs.Request.{request_read}
 use Rattle.message.proofs.RequestRange.{AskedGood, read-good}
-use Rattle.lists.specs.declared.Found.{Found}
 use Rattle.lists.specs.declared.Found.TheVariants.{At, Nothing}
 use Rattle.lists.specs.Lists.{tab, first_from}
 use Rattle.lists.proofs.EachLaws.{each-elem, elem-map}

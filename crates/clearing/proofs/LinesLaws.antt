@@ -16,6 +16,7 @@ use Rattle.table.specs.declared.Record.{Record}
 use Rattle.table.specs.Table.{Rows, records_of, rows_from, nums_of, dates_of}
 use Rattle.table.specs.Accounts.{balance_at, gate_balance, with_used, Funds}
 use Rattle.table.proofs.TableLaws.{length-records, rows-kept}
+use Rattle.table.proofs.SignedLaws.{back}
 use Rattle.posting.specs.declared.verdict.Verdict.{Verdict}
 use Rattle.posting.specs.Posting.{Ledger, verdict_of, settle_line, ledger_of}
 use Rattle.clearing.specs.Clearing.{settle_lines}
@@ -26,7 +27,7 @@ use Rattle.directory.specs.Directory.{Listed}
 use Rattle.directory.proofs.FindLaws.{listed-used, listed-moved}
 use Rattle.line_rows.specs.Lines.{LineRows, line_at, lines_of, Read}
 use Rattle.posting.proofs.PostLaws.{line-applied}
-use Rattle.posting.proofs.DueLaws.{due-place, due-balance, due-near, paid-none, paid-at}
+use Rattle.posting.proofs.DueLaws.{due-balance, paid-none, paid-at}
 use Rattle.posting.proofs.LookupLaws.{line-used, line-chained}
 use Rattle.index.specs.Index.{Chained}
 use Rattle.posting.specs.Lookup.{receipt_at}
@@ -126,13 +127,30 @@ pub record Turn : Type 0 where
   pub numbers-kept : length of.t'.numbers ≡ length of.t.numbers
   pub dates-kept : length of.t'.dates ≡ length of.t.dates
 
+-- a turn from what is known of it
+abbrev pub turn-of : {clock : List ℕ} {u : LineRows} {n : ℕ} {names keys : List (List ℕ)} {t₀ : Rows} {whole : Ledger} {heads₀ next₀ : List ℕ} {t : Rows} {g : Gate} {heads next : List ℕ} {i : ℕ}
+    {x : Line} {v : Verdict} {d : Due} {t' : Rows} → Read u n → 4096 ≡ length next₀ → Kept clock u n names keys t₀ whole heads₀ next₀ t g heads next i → i < n → x ≡ line_at u i
+    → v ≡ verdict_of g (records_of t g.used) (length t.nums) x → Applied names keys g.used t clock x v d t' → Within d.account (length names)
+    → length t'.numbers ≡ length t.numbers → length t'.dates ≡ length t.dates → Turn
+turn-of {clock = clock} {u = u} {n = n} {names = names} {keys = keys} {t₀ = t₀} {whole = whole} {heads₀ = heads₀} {next₀ = next₀} {t = t} {g = g} {heads = heads} {next = next} {i = i} {x = x} {v = v} {d = d} {t' = t'} read room kept more line judged applied within nk dk =
+    record {
+      of = record { clock = clock; u = u; n = n; names = names; keys = keys; t₀ = t₀; whole = whole; heads₀ = heads₀; next₀ = next₀; t = t; g = g; heads = heads; next = next; i = i; x = x; v = v; d = d; t' = t' };
+      read = read;
+      room = room;
+      kept = kept;
+      more = more;
+      line = line;
+      judged = judged;
+      applied = applied;
+      within = within;
+      numbers-kept = nk;
+      dates-kept = dk;
+    }
+
 module _ (turn : Turn) where
   open turn use {of, read, room, kept, more, line, judged, applied, within}
   open of use {clock, u, n, names, keys, t₀, whole, heads₀, next₀, t, g, heads, next, i, x, v, d, t'}
   open kept use {listed, going, chained}
-
-  pub turn-fits : i + 1 < 2 ^ 64
-  turn-fits = omega (arith, more, read.few)
 
   pub turn_small : x.amount < 1000000000
   turn_small = read_small u n read i more x line
@@ -146,12 +164,6 @@ module _ (turn : Turn) where
   module _ (at : ℕ) (ea : d.account ≡ At at) where
     funds : Funds g 10000000000000000
     funds = (going-held clock u n read t₀ whole t g i going more).backed.funds
-
-    pub turn-account : at < 256
-    turn-account = due-place names keys g listed d.account within at ea 10000000000000000 funds
-
-    pub turn_near : mag (to_z w64 (of_z w64 (balance_at g at))) ≤ 10000000000000000
-    turn_near = due-near names keys g listed d.account within at ea 10000000000000000 funds (omega arith)
 
     near : mag (balance_at g at) ≤ 10000000000000000
     near = due-balance names keys g listed d.account within at ea 10000000000000000 funds
@@ -192,3 +204,8 @@ module _ (turn : Turn) where
         → Kept clock u n names keys t₀ whole heads₀ next₀ t' (gate_balance (with_used g d.used) at z) heads' next' (i + 1)
     turn-credited at ea z ez fits =
         turned _ refl (listed-moved _ _ _ (listed-used names keys g listed d.used) _ _) (paid-at g d x.amount at ea (near at ea) z fits ez)
+
+    -- and as the balance is read back
+    pub turn-credited-back : (at : ℕ) → d.account ≡ At at → (z : ℤ) → z ≡ to_z w64 (of_z w64 (balance_at g at)) +ℤ pos x.amount → mag z < 2 ^ 63
+        → Kept clock u n names keys t₀ whole heads₀ next₀ t' (gate_balance (with_used g d.used) at (to_z w64 (of_z w64 z))) heads' next' (i + 1)
+    turn-credited-back at ea z ez fits = rw (back z fits) (turn-credited at ea z ez fits)

@@ -13,11 +13,12 @@ use mir.Val.{to_z, of_z}
 use lib.Seq.{drop-cons}
 use Rattle.lists.proofs.ListLaws.{partly-get, partly-turn, partly-all}
 use Rattle.table.proofs.TableLaws.{length-records, get_d-records, rows-kept}
+use Rattle.table.proofs.SignedLaws.{back}
 use Rattle.posting.proofs.HeldLaws.{held_more, Step, left-records, left-held}
 use Rattle.clearing.proofs.LinesLaws.{from-from}
 use Rattle.clearing.proofs.RevokeLaws.{revoked_at, revoke-step, revoked-out, debited-none, debited-at}
 use Rattle.posting.proofs.MatchLaws.{match-receipt}
-use Rattle.posting.proofs.PostLaws.{at-nums, at-numbers, at-dates, found_within}
+use Rattle.posting.proofs.PostLaws.{found_within}
 use Rattle.posting.proofs.DueLaws.{due-place, due-balance, due-near}
 use Rattle.directory.specs.Directory.{holders_of, Listed}
 use Rattle.directory.proofs.FindLaws.{listed-find, listed-moved}
@@ -118,15 +119,6 @@ module _ {clock : List ℕ} {day : Day} {xs : List Line} {t₀ : Rows} {g₀ : G
   sweeping-place : i < g₀.used → i < g.used
   sweeping-place h = omega (arith, going.used)
 
-  pub sweeping-nums : i < g₀.used → i < length t.nums
-  sweeping-nums h = at-nums t g.used going.held.backed.whole i (sweeping-place h)
-
-  pub sweeping-numbers : i < g₀.used → i < length t.numbers
-  sweeping-numbers h = at-numbers t g.used going.held.backed.whole i (sweeping-place h)
-
-  pub sweeping-dates : i < g₀.used → i < length t.dates
-  sweeping-dates h = at-dates t g.used going.held.backed.whole i (sweeping-place h)
-
   pub sweeping-end : g₀.used ≤ i → Left t₀ (swept clock day xs (ledger_of g₀ t₀)) g t
   unfolding swept sweep_gates
   sweeping-end h =
@@ -161,6 +153,18 @@ pub record Turn : Type 0 where
   pub read : of.r ≡ record_at of.t of.i
   pub stray : of.s ≡ is_stray of.day of.xs of.r
 
+-- a turn from what is known of it
+abbrev pub turn-of : {clock : List ℕ} {day : Day} {xs : List Line} {names keys : List (List ℕ)} {t₀ : Rows} {g₀ : Gate} {t : Rows} {g : Gate} {i : ℕ} {r : Record} {s : Bool}
+    → Kept clock day xs names keys t₀ g₀ t g i → i < g₀.used → r ≡ record_at t i → s ≡ is_stray day xs r → Turn
+turn-of {clock = clock} {day = day} {xs = xs} {names = names} {keys = keys} {t₀ = t₀} {g₀ = g₀} {t = t} {g = g} {i = i} {r = r} {s = s} kept more read stray =
+    record {
+      of = record { clock = clock; day = day; xs = xs; names = names; keys = keys; t₀ = t₀; g₀ = g₀; t = t; g = g; i = i; r = r; s = s };
+      kept = kept;
+      more = more;
+      read = read;
+      stray = stray;
+    }
+
 module _ (turn : Turn) where
   open turn use {of, kept, more, read, stray}
   open of use {clock, day, xs, names, keys, t₀, g₀, t, g, i, r, s}
@@ -168,9 +172,6 @@ module _ (turn : Turn) where
 
   place : i < g.used
   place = sweeping-place sweeping more
-
-  pub turn-fits : i + 1 < 2 ^ 64
-  turn-fits = omega (arith, more, sweeping.used, sweeping.held.backed.whole.nums, sweeping.held.backed.size)
 
   below : i < length (records_of t₀ g₀.used)
   below = omega (arith, more, length-records t₀ g₀.used)
@@ -268,6 +269,11 @@ module _ (turn : Turn) where
       pub turn-debited : (at : ℕ) → f ≡ At at → (z : ℤ) → z ≡ to_z w64 (of_z w64 (balance_at g at)) -ℤ pos r.amount → mag z < 2 ^ 63
           → Kept clock day xs names keys t₀ g₀ t' (gate_balance g at z) (i + 1)
       turn-debited at ea z ez fits = cancelled _ (listed-moved names keys g listed at z) (debited-at g f r.amount at ea (near at ea) z fits ez)
+
+      -- and as the balance is read back
+      pub turn-debited-back : (at : ℕ) → f ≡ At at → (z : ℤ) → z ≡ to_z w64 (of_z w64 (balance_at g at)) -ℤ pos r.amount → mag z < 2 ^ 63
+          → Kept clock day xs names keys t₀ g₀ t' (gate_balance g at (to_z w64 (of_z w64 z))) (i + 1)
+      turn-debited-back at ea z ez fits = rw (back z fits) (turn-debited at ea z ez fits)
 
 -- ---- a sweep keeps the receipts, and so the chains
 swept-receipt : (clock : List ℕ) (day : Day) (xs : List Line) (r : Record) → (swept_record clock day xs r).receipt ≡ r.receipt

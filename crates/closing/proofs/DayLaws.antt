@@ -35,9 +35,6 @@ module _ (g : Gate) (t : Rows) (clock : List ℕ) (day : Day) (xs : List Line)
     (a : Gate) (t₁ : Rows) (left₁ : Left t (settle_lines clock (length t.nums) xs (ledger_of g t)) a t₁)
     (is₁ : settle_lines clock (length t.nums) xs (ledger_of g t) ≡ ledger_of a t₁)
     (b : Gate) (t₂ : Rows) (left₂ : Left t₁ (swept clock day xs (ledger_of a t₁)) b t₂) (is₂ : swept clock day xs (ledger_of a t₁) ≡ ledger_of b t₂) where
-  pub day-ledger : swept clock day xs (settle_lines clock (length t.nums) xs (ledger_of g t)) ≡ ledger_of b t₂
-  day-ledger = ap (swept clock day xs) is₁ ∙ is₂
-
   as_many : length (records_of t₂ b.used) ≡ length (records_of t₁ a.used)
   unfolding swept
   as_many = ap (λ (l : Ledger). length l.records) (sym is₂) ∙ length-map (records_of t₁ a.used) (swept_record clock day xs)

@@ -8,7 +8,7 @@ use mathlib.Core.List.{List, [], ◌∷◌, ◌++◌, append-nil, append_assoc}
 use mathlib.Core.Bool.{Bool, true, false, cond}
 use lib.Dec.{eqb, leb, ltb}
 use lib.ListN.{length, take, drop, length-set, length-drop, length-replicate}
-use lib.Seq.{take-nil, drop-drop}
+use lib.Seq.{drop-drop}
 use borrow.Author.Tests.{lt-ltb, le-ltb, lt-leb, le-leb, eqb-true, ltb-true, ltb-false}
 use Rattle.texts.specs.Lists.{find}
 use Rattle.coding.specs.Params.{split_at}
@@ -18,7 +18,7 @@ use Rattle.table.specs.Table.{Rows}
 use Rattle.gathering.specs.Held.{Held}
 use Rattle.orders.specs.Order.{Turn, line_turn, turn_text}
 use Rattle.gathering.specs.Held.{held_text, pushed, in_params, absorbed, absorb_all, emptied}
-use Rattle.console.specs.Feed.{Fed, ended, fed_byte, fed, finished, Fill, filled}
+use Rattle.console.specs.Feed.{Fed, ended, fed_byte, fed, finished, filled}
 use Rattle.gathering.specs.Gather.{Gathered}
 use Rattle.gathering.specs.Gather.{gathered}
 use Rattle.gathering.specs.Held.{new_held}

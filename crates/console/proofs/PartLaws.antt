@@ -30,8 +30,8 @@ use Rattle.figures.specs.Sums.{Summable, nameless}
 use Rattle.figures.specs.Listing.{Put}
 use Rattle.figures.proofs.SumLaws.{nameless-printed}
 use Rattle.gathering.specs.declared.Mark.{Mark}
-use Rattle.gathering.specs.Held.{held_of, new_mark, held_text, absorbed, emptied}
-use Rattle.console.specs.Feed.{Fed, ended, fed_byte, fed, finished, line_room, Fill, filled}
+use Rattle.gathering.specs.Held.{held_of, new_mark, held_text, emptied}
+use Rattle.console.specs.Feed.{Fed, ended, fed_byte, fed, finished, line_room, filled}
 use Rattle.gathering.specs.Gather.{gathered}
 use Rattle.gathering.specs.Held.{new_held}
 use Rattle.console.specs.Session.{empty_gate, new_console, new_head, new_fed, session_text}

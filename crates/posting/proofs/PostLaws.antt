@@ -116,18 +116,9 @@ module _ (g : Gate) (t : Rows) (x : Line) (v : Verdict) (ev : v ≡ verdict_of g
   verdict-placed names keys listed = record { restores = restores-within; room = posts-room; posts = λ a e. omega (arith, posts-within a e, listed.named) }
 
 -- ---- its application
-pub stored-as : (t : Rows) (i : ℕ) (q r : Record) → q ≡ r → (t' : Rows) → t' ≡ rows_with t i q → t' ≡ rows_with t i r
-stored-as t i q r e t' et = et ∙ rw e
-
 -- the account that is due
-pub none_within : (f : Found) (n : ℕ) → f ≡ Nothing → Within f n
-none_within f n e = record { at = λ a h. let z : ◌≡◌ {A = ℕ} 0 1 = cc in absurd (omega arith) }
-
 pub found_within : (names keys : List (List ℕ)) (n : Number) (kind : ℕ) (f : Found) → f ≡ find_account n kind (holders_of names keys) → Within f (length names)
 found_within names keys n kind f e = record { at = λ a h. holder_in names keys n kind a f e h }
-
-pub place-within : (f : Found) (a n : ℕ) → f ≡ At a → a < n → Within f n
-place-within f a n e h = record { at = λ b k. let q : a ≡ b = cc in omega arith }
 
 credit-same : (g : Gate) (k : Found) (n : ℕ) → with_used (credited_at g k n) g.used ≡ credited_at g k n
 unfolding credited

@@ -186,8 +186,7 @@ fn feed_all(
     let mut turns = u64::MAX;
     while 0 < turns {
         let stage = feed_some(
-            stdin,
-            nums, numbers, dates, names, keys, balances, bytes, input, out, session,
+            stdin, nums, numbers, dates, names, keys, balances, bytes, input, out, session,
         );
         if !stage.going {
             return stage;

@@ -20,7 +20,7 @@ use Rattle.line_fields.specs.LineFields.{field_count, field_at, has_letter}
 use Rattle.figures.specs.Daily.{day_text}
 use Rattle.orders.specs.Order.{list_turn, order_turn, line_turn, shown_text, turn_text}
 use Rattle.channel.specs.World.{World, Step, run}
-use Rattle.channel.specs.Claim.{Start, Lent, Paid, recorded, records_in, entries_in, done_on, credited_on, placed, by_number, total, SettledDay, Safe}
+use Rattle.channel.specs.Claim.{Start, Paid, recorded, records_in, entries_in, done_on, credited_on, placed, by_number, total, SettledDay, Safe}
 use Rattle.channel.proofs.kept.Reach.{run-reached, start-reached}
 use Rattle.channel.proofs.words.Refused.{safe-always}
 use Rattle.session_theorems.specs.SettledPrint.{AsksFor, credited_count, credited_total, SettledPrint}

@@ -1,5 +1,4 @@
-use Rattle.std.proofs.Common.{◌≡◌, refl, ap, ◌∙◌, arith, add-one, set}
-use Rattle.table.specs.Table.{record_at}
+use Rattle.std.proofs.Common.{refl, arith, add-one}
 use Rattle.records.specs.Copying.{restored}
 use Rattle.records.proofs.from_rows.Goals as goal
 

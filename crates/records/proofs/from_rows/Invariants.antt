@@ -1,4 +1,4 @@
-use Rattle.std.proofs.Common.{◌-◌, ◌≡◌, ◌≤◌, length}
+use Rattle.std.proofs.Common.{◌-◌, ◌≡◌, ◌≤◌}
 use Rattle.table.specs.Lent.{lent}
 use Rattle.records.specs.Copying.{restored}
 use Rattle.records.proofs.from_rows.Given as goal

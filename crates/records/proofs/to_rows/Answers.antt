@@ -1,4 +1,4 @@
-use Rattle.std.proofs.Common.{◌≡◌, ◌<◌, length, refl, ap, ◌∙◌, arith, add-one, get_or}
+use Rattle.std.proofs.Common.{◌<◌, length, refl, ap, ◌∙◌, arith, add-one, get_or}
 use Rattle.std.proofs.lemmas.List.{get_or_default}
 use Rattle.table.specs.Table.{Rows, no_record, rows_with}
 use Rattle.table.specs.Lent.{lent}
@@ -14,7 +14,8 @@ unfolding filled
 loop-i-preserved c =
     let i = c.loop-i.i in
     let t : Rows = lent c.loop-i.nums c.loop-i.numbers c.loop-i.dates in
-    let within : i < length c.args.records.now = omega arith in
-    (omega arith,
-    rw add-one (c.put.ensures ∙ ap (rows_with t i) (get_or_default c.args.records.now i _ no_record within)
-    ∙ ap (λ (w : Rows). rows_with w i (get_or c.args.records.now i no_record)) c.loop-i.invariant.1))
+    let within : i < length c.args.records.now = omega arith in (
+      omega arith,
+      rw add-one (c.put.ensures ∙ ap (rows_with t i) (get_or_default c.args.records.now i _ no_record within)
+          ∙ ap (λ (w : Rows). rows_with w i (get_or c.args.records.now i no_record)) c.loop-i.invariant.1),
+    )

@@ -1,4 +1,4 @@
-use Rattle.std.proofs.Common.{◌-◌, ◌≡◌, ◌≤◌, length}
+use Rattle.std.proofs.Common.{◌-◌, ◌≡◌, ◌≤◌}
 use Rattle.table.specs.Table.{Rows}
 use Rattle.table.specs.Lent.{lent}
 use Rattle.records.specs.Copying.{filled}

@@ -6,11 +6,11 @@ use borrow.Author.Rules.{rules}
 use Rattle.samples.proofs.lines.Statement.{statement}
 use Rattle.samples.proofs.lines.Tie as tie
 
-abbrev invariant-loop : tie.invariant-loop
-invariant-loop s space₀ at₀ t5 space at = (at ≤ length s + 1) × (length space ≡ length space₀)
+abbrev invariant-loop-at : tie.invariant-loop-at
+invariant-loop-at s space₀ at₀ space at = (at ≤ length s + 1) × (length space ≡ length space₀)
 
-abbrev decreases-loop : tie.decreases-loop
-decreases-loop s space₀ at₀ t5 space at = (length s + 1) - at
+abbrev decreases-loop-at : tie.decreases-loop-at
+decreases-loop-at s space₀ at₀ space at = (length s + 1) - at
 
 ruleset laws = (line-falls, rules)
 
@@ -18,13 +18,12 @@ pub lines_spec : {M : Type 1} → statement M
 lines_spec =
     tie.close
     (tie.spec
-    invariant-loop
-    decreases-loop
+    invariant-loop-at
+    decreases-loop-at
     (λ c. search laws)
     (λ c κs. search laws)
     (λ c κs. search laws)
     (λ c κs. search laws)
-    (λ c. search laws)
     (λ c κs. search laws)
     (λ c. search laws)
     (λ c. search laws)

@@ -22,57 +22,38 @@ decreases-loop-bytes nums₀ numbers₀ dates₀ names₀ keys₀ balances₀ by
 
 returns : tie.Need-returns-then-not-g invariant-loop-bytes decreases-loop-bytes
 returns c =
-    let g = c.before.before.before in
-    let e = g.before.before in
-    let l = e.before.before in
-    let v = l.loop-bytes.invariant.4 in
-    let r = l.before in
-    (feed-is _ _ _ _ _ _ r.line_room-need.ensures _ (part-rest _ _ _ _ _ _ _ _ _ _ v (sym e.before.goes_on.ensures ∙ e.loop-bytes-test.true) _ g.gather-g.ensures c.if-not-g.true), v.sums)
+    let v = c.loop-bytes.invariant.4 in
+    (feed-is _ _ _ _ _ _ c.line_room-need.ensures _ (part-rest _ _ _ _ _ _ _ _ _ _ v (sym c.goes_on.ensures ∙ c.loop-bytes-test.true) _ c.gather-g.ensures c.if-not-g.true), v.sums)
 
 end-line-requires : tie.Need-end_line-s-requires invariant-loop-bytes decreases-loop-bytes
 end-line-requires c κs =
-    let e = c.before.before.before.before.before.before.before.before.before.before.before.before.before in
-    let l = e.before.before in
-    let v = l.loop-bytes.invariant in
-    let r = l.before in
-    (v.4.sums, line-room _ _ _ _ _ _ _ _ _ _ v.4 (sym e.before.goes_on.ensures ∙ e.loop-bytes-test.true) _ _ r.line_room-need.ensures v.0)
+    let v = c.loop-bytes.invariant in
+    (v.4.sums, line-room _ _ _ _ _ _ _ _ _ _ v.4 (sym c.goes_on.ensures ∙ c.loop-bytes-test.true) _ _ c.line_room-need.ensures v.0)
 
 loop-less : tie.Need-loop-bytes-smaller invariant-loop-bytes decreases-loop-bytes
 loop-less c =
-    let w = c.before.before.before.before.before.before.before in
-    let b = w.before.before.before.before.before.before.before.before.before in
-    let g = b.before.before.before in
-    let e = g.before.before in
-    let v = e.before.before.loop-bytes.invariant.4 in
-    let goes = sym e.before.goes_on.ensures ∙ e.loop-bytes-test.true in
+    let v = c.loop-bytes.invariant.4 in
+    let goes = sym c.goes_on.ensures ∙ c.loop-bytes-test.true in
     omega (
       arith,
-      part-on _ _ _ _ _ _ _ _ _ _ v goes _ g.gather-g.ensures b.if-not-g.false,
-      part_in _ _ _ _ _ _ _ _ _ _ v goes _ g.gather-g.ensures b.if-not-g.false,
+      part-on _ _ _ _ _ _ _ _ _ _ v goes _ c.gather-g.ensures c.if-not-g.false,
+      part_in _ _ _ _ _ _ _ _ _ _ v goes _ c.gather-g.ensures c.if-not-g.false,
     )
 
 loop-again : tie.Need-loop-bytes-preserved invariant-loop-bytes decreases-loop-bytes
 loop-again c =
-    let w = c.before.before.before.before.before.before.before in
-    let b = w.before.before.before.before.before.before.before.before.before in
-    let g = b.before.before.before in
-    let e = g.before.before in
-    let l = e.before.before in
-    let v = l.loop-bytes.invariant in
-    let r = l.before in (
-      w.end_line-s.auto.0 ∙ v.0,
-      w.end_line-s.auto.1.0 ∙ v.1,
-      w.end_line-s.auto.1.1.0 ∙ v.2,
-      w.end_line-s.auto.1.1.1.1.1.1.1.1.1.0 ∙ v.3,
-      going_on _ _ _ _ _ _ _ _ _ _ v.4 (sym e.before.goes_on.ensures ∙ e.loop-bytes-test.true) _ g.gather-g.ensures b.if-not-g.false (room-same _ _ _ r.line_room-need.ensures v.0) _ _ (line-new _ _ c.new_mark-mark.ensures) _ _ _ w.end_line-s.ensures.0 w.end_line-s.ensures.1,
+    let v = c.loop-bytes.invariant in (
+      c.end_line-s.auto.nums ∙ v.0,
+      c.end_line-s.auto.numbers ∙ v.1,
+      c.end_line-s.auto.dates ∙ v.2,
+      c.end_line-s.auto.out ∙ v.3,
+      going_on _ _ _ _ _ _ _ _ _ _ v.4 (sym c.goes_on.ensures ∙ c.loop-bytes-test.true) _ c.gather-g.ensures c.if-not-g.false (room-same _ _ _ c.line_room-need.ensures v.0) _ _ (line-new _ _ c.new_mark-mark.ensures) _ _ _ c.end_line-s.ensures.0 c.end_line-s.ensures.1,
     )
 
 returns-2 : tie.Need-returns invariant-loop-bytes decreases-loop-bytes
 returns-2 c =
-    let l = c.before.before in
-    let v = l.loop-bytes.invariant.4 in
-    let r = l.before in
-    (feed-is _ _ _ _ _ _ r.line_room-need.ensures _ (part-stops _ _ _ _ _ _ _ _ _ _ v (sym c.before.goes_on.ensures ∙ c.loop-bytes-test.false)), v.sums)
+    let v = c.loop-bytes.invariant.4 in
+    (feed-is _ _ _ _ _ _ c.line_room-need.ensures _ (part-stops _ _ _ _ _ _ _ _ _ _ v (sym c.goes_on.ensures ∙ c.loop-bytes-test.false)), v.sums)
 
 ruleset laws = (going_start, rules)
 

@@ -9,9 +9,7 @@ returns c = last_none _ _ _ _ _ c.if-m-eq0.true _ refl _ refl
 
 returns-2 : tie.Need-returns
 returns-2 c =
-    let w = c.before.before.before.before.before.before.before in
-    let e = w.before.before.before.before.before.before.before.before in
-    last_line _ _ _ _ _ e.if-m-eq0.false _ _ (line-new _ _ c.new_mark.ensures) _ _ _ w.end_line-s.ensures.0
+    last_line _ _ _ _ _ c.if-m-eq0.false _ _ (line-new _ _ c.new_mark.ensures) _ _ _ c.end_line-s.ensures.0
 
 pub finish_spec : {M : Type 1} → statement M
 finish_spec =

@@ -2,18 +2,18 @@ use Rattle.std.proofs.Common.{◌-◌, ◌≤◌, rules}
 use Rattle.gate_samples.proofs.same.records.Statement.{statement}
 use Rattle.gate_samples.proofs.same.records.Tie as tie
 
-abbrev invariant-loop : tie.invariant-loop
-invariant-loop a b i₀ i = i ≤ 4
+abbrev invariant-loop-i : tie.invariant-loop-i
+invariant-loop-i a b i₀ i = i ≤ 4
 
-abbrev decreases-loop : tie.decreases-loop
-decreases-loop a b i₀ i = 4 - i
+abbrev decreases-loop-i : tie.decreases-loop-i
+decreases-loop-i a b i₀ i = 4 - i
 
 pub records_spec : {M : Type 1} → statement M
 records_spec =
     tie.close
     (tie.spec
-    invariant-loop
-    decreases-loop
+    invariant-loop-i
+    decreases-loop-i
     (λ c. search rules)
     (λ c. search rules)
     (λ c. search rules)

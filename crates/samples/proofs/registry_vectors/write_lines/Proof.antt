@@ -5,11 +5,11 @@ use lib.ListN.{length}
 use Rattle.samples.proofs.registry_vectors.write_lines.Statement.{statement}
 use Rattle.samples.proofs.registry_vectors.write_lines.Tie as tie
 
-abbrev invariant-loop : tie.invariant-loop
-invariant-loop n dst₀ at₀ i₀ dst at i = (i ≤ n) × (length dst ≡ length dst₀)
+abbrev invariant-loop-i : tie.invariant-loop-i
+invariant-loop-i n dst₀ at₀ i₀ dst at i = (i ≤ n) × (length dst ≡ length dst₀)
 
-abbrev decreases-loop : tie.decreases-loop
-decreases-loop n dst₀ at₀ i₀ dst at i = n - i
+abbrev decreases-loop-i : tie.decreases-loop-i
+decreases-loop-i n dst₀ at₀ i₀ dst at i = n - i
 
 ruleset laws = (rules)
 
@@ -17,8 +17,8 @@ pub write_lines_spec : {M : Type 1} → statement M
 write_lines_spec =
     tie.close
     (tie.spec
-    invariant-loop
-    decreases-loop
+    invariant-loop-i
+    decreases-loop-i
     (λ c. search laws)
     (λ c. search laws)
     (λ c κs. search laws)

@@ -4,12 +4,12 @@ use borrow.Author.Rules.{rules}
 use Rattle.settlement.proofs.settle.settle.Statement.{statement}
 use Rattle.settlement.proofs.settle.settle.Tie as tie
 
-settle-text-requires : tie.Need-settle-text-requires
+settle-text-requires : tie.Need-settle_text-requires
 settle-text-requires c κs =
     let e = c.before.before.before.before in
     let k = e.before in
-    let z = e.if1.false in
-    (held-ready _ _ (k.admit-gate.ensures.1 z) (admitted-good _ _ _ _ _ k.admit-gate.ensures.0 z), admitted-room _ _ _ _ _ k.admit-gate.ensures.0 z)
+    let z = e.if-refusal-ne0.false in
+    (held-ready _ _ (k.admit_gate-refusal.ensures.1 z) (admitted-good _ _ _ _ _ k.admit_gate-refusal.ensures.0 z), admitted-room _ _ _ _ _ k.admit_gate-refusal.ensures.0 z)
 
 ruleset laws = (not-admitted, settle-read, rules)
 

@@ -4,15 +4,15 @@ use Rattle.settlement.proofs.TextLaws.{text-fault, text-read}
 use Rattle.settlement.proofs.settle.settle_text.Statement.{statement}
 use Rattle.settlement.proofs.settle.settle_text.Tie as tie
 
-settle-read-requires : tie.Need-settle-read-requires
+settle-read-requires : tie.Need-settle_read-requires
 settle-read-requires c κs =
     let r = c.before.before.before.before.before.before.before.before.before.before.before.before in
     let p = r.before.before.before.before.before.before.before.before.before.requires in
-    (p.0, (lines-held _ (search rules) _ _ r.read-registry.ensures.1.1, p.1))
+    (p.0, (lines-held _ (search rules) _ _ r.read_registry-read.ensures.1.1, p.1))
 
-returns-2 : tie.Need-returns-2
+returns-2 : tie.Need-returns
 returns-2 c =
-    let r = c.before.before.before.before.before.before.before.before.before.before.before.before.before.before.before.before.before.before.read-registry in
+    let r = c.before.before.before.before.before.before.before.before.before.before.before.before.before.before.before.before.before.before.read_registry-read in
     text-read _ _ _ _ _ _ _ r.ensures.0 (search rules) _ _ r.ensures.1.0 _ (search rules)
 
 ruleset laws = (text-fault, rules)
