@@ -15,6 +15,8 @@ use posting::{applying, lookup, verdict};
 use table::{Gate, accounts};
 
 // Settles the lines, one after the other: each is judged and applied, and what is due is credited on the gate's own copy.
+// Not put into its caller: its copies of the gate and those of the other walk over the day lie in the stack one or the other.
+#[inline(never)]
 pub fn settle_lines(
     nums: &mut [[u64; 6]],
     numbers: &mut [[u8; 30]],

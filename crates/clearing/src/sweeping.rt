@@ -99,6 +99,8 @@ fn revoke_at(
 }
 
 // Sweeps every used record; what is cancelled is debited on the gate's own copy.
+// Not put into its caller: its copies of the gate and those of the other walk over the day lie in the stack one or the other.
+#[inline(never)]
 pub fn sweep(
     nums: &mut [[u64; 6]],
     numbers: &mut [[u8; 30]],

@@ -13,7 +13,7 @@
 //!
 //! # Stack
 //!
-//! A call takes at most [`STACK`] bytes of stack (measured: a settlement less than 240 KB, a request less than 160, the
+//! A call takes at most [`STACK`] bytes of stack (measured: a settlement some 250 KB, a request less than 160, the
 //! agent's calls less than 96). Threads of Rust have 2 MiB unless told otherwise; where they are smaller, add [`STACK`]
 //! to what they need.
 //!
