@@ -204,3 +204,5 @@ module _ (t : Rows) (used : ℕ) (clock : List ℕ) (q : Instruction) (p : Plan)
   unfolding changed
   cancelled e en ez es er =
       rw e (record { gates = moved-debit g p.account b z p.payment.amount n (eu ∙ sym en) eb ez; subjects = es; left = er })
+
+pub ruleset revoke_laws = (rest_back, revoked-rows)

@@ -116,6 +116,7 @@ fn append(
 }
 
 // The record that was found cancelled, and its amount off the balance of its account.
+#[tactic(auto, using(crate::proofs::ChangeLaws::revoke_laws))]
 fn revoke(
     nums: &mut [[u64; 6]],
     numbers: &mut [[u8; 30]],
