@@ -270,5 +270,3 @@ module _ (counts : List ℕ) (t : BookRows) (i : ℕ) (c : DayCounts counts (ent
 
 pub counts_end : (counts : List ℕ) (t : BookRows) (i u : ℕ) → DayCounts counts (entries_of t i) → i ≤ u → u ≤ i → true ≡ days_good (entries_of t u)
 counts_end counts t i u c h k = let e : i ≡ u = omega arith in rw (← e) (sym (days-kept (entries_of t i) c.few))
-
-pub ruleset days_good_laws = (few-days, good-day, date-known, counts-none, counts_step, counts-full, counts_end)

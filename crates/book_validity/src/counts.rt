@@ -62,7 +62,6 @@ fn no_counts() -> [u16; 38432]
 }
 
 // Whether no day has more than 512 of the first `used` entries; a book of so few has none.
-#[tactic(auto, using(crate::proofs::CountLaws::days_good_laws))]
 pub(crate) fn days_good(
     nums: &[[u64; 6]],
     numbers: &[[u8; 30]],
