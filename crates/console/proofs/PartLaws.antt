@@ -359,3 +359,5 @@ module _ (t : Rows) (input out : List ℕ) (need : ℕ) (en : need ≡ line_room
           let long : q.size ≡ length (all.text ++ rest.text)
           = ap (λ (x : Part). x.size) e ∙ ap (λ (i : ℕ). i + length rest.text) size ∙ sym (length-append all.text rest.text) in
           rw (← en, le-leb _ _ enough, whole, rows, ← text, ← long)
+
+pub ruleset finish_laws = (last_none, last_line, line-new)

@@ -115,6 +115,7 @@ pub fn feed(
 }
 
 // The end of the input: a last line without its end is read too, and prints at the cursor.
+#[tactic(auto, using(crate::proofs::PartLaws::finish_laws))]
 pub fn finish(
     nums: &mut [[u64; 6]],
     numbers: &mut [[u8; 30]],

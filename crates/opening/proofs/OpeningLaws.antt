@@ -143,3 +143,5 @@ module _ (g : Gate) (h h' : Head) (a a' : Columns) (t : Rows) (n : Number) (k co
       → ◌≡◌ {A = Reply} (record { code = code; gate = gate; size = size }) (draw_funds g t n k m)
   unfolding answer
   draw-packed m = by-columns answer (λ (x : Gate). draw_funds x t n k m) g gate h h' a a' unpacked eh packed
+
+pub ruleset open_to_laws = (open-malformed, open-known, open-many, open-new)

@@ -39,6 +39,7 @@ fn keep(code: u64, head: Head) -> HeadReply
     }
 }
 
+#[tactic(auto, using(crate::proofs::OpeningLaws::open_to_laws))]
 fn open_to(
     names: &mut [[u8; 30]; 256],
     keys: &mut [[u64; 2]; 256],

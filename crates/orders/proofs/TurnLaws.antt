@@ -27,7 +27,10 @@ use Rattle.opening.specs.Opening.{open_account, draw_funds}
 use Rattle.gate.specs.Deliver.{deliver}
 use Rattle.admission.specs.Delivery.{Delivery}
 use Rattle.orders.specs.declared.turn.Shown.TheVariants.{Figures, Payments}
-use Rattle.orders.specs.Order.{Console, Turn, unread, replied, answered, kind_in, start_turn, open_turn, draw_turn, ask_turn, list_turn, order_turn, line_turn}
+use Rattle.table.specs.Columns.{Columns}
+use Rattle.orders.specs.declared.ConsoleHead.{ConsoleHead}
+use Rattle.orders.specs.declared.turn.Turn.{Turn as Given}
+use Rattle.orders.specs.Order.{Console, Turn, console_of, turn_of, unread, replied, answered, kind_in, start_turn, open_turn, draw_turn, ask_turn, list_turn, order_turn, line_turn}
 use Rattle.line_fields.specs.LineFields.{field_at, field_count, has_letter, params_in}
 
 -- ---- the account that a line names
@@ -123,3 +126,10 @@ module _ (x : Console) (t : Rows) (l : List ℕ) (r : Turn) where
   pub turn-start : x.started ≡ false → r ≡ start_turn x t l → r ≡ line_turn x t l
   unfolding line_turn
   turn-start h e = e ∙ sym (ap (λ (b : Bool). cond b (order_turn x t l) (start_turn x t l)) h)
+
+-- what is told of a line for every gate and table, at one of each
+pub unread-at : (m : Given) (y : ConsoleHead) (a : Columns) (t : Rows) → ((a' : Columns) (t' : Rows) → turn_of m a' t' ≡ unread (console_of y a') t')
+    → turn_of m a t ≡ unread (console_of y a) t
+unread-at m y a t h = h a t
+
+pub ruleset order_turn_laws = (order_open, order-draw, order-ask, order-list, order-none)

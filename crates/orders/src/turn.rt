@@ -206,6 +206,7 @@ fn list_turn(
 }
 
 // A line of a started session, by its letter.
+#[tactic(auto, using(crate::proofs::TurnLaws::order_turn_laws))]
 fn order_turn(
     nums: &mut [[u64; 6]],
     numbers: &mut [[u8; 30]],
