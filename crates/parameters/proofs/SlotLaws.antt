@@ -268,3 +268,5 @@ module _ (s : List ℕ) (t : List (List ℕ)) (k : ℕ) (small : k < 7) (sizes :
           let n : end_at t k - from ≡ 0 = omega (arith, eqb-true (end_at t k) 0 z) in
           rw n none
       go false z = refl
+
+pub ruleset read_piece_laws = (piece-empty, name-size, piece-alone, piece-bad, place-fits, piece-placed)

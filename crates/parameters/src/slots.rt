@@ -41,6 +41,7 @@ fn part(s: &[u8], from: usize, to: usize) -> &[u8]
 }
 
 // What the piece from `at` to `end` is.
+#[tactic(auto, using(crate::proofs::SlotLaws::read_piece_laws))]
 fn read_piece(s: &[u8], at: usize, end: usize) -> Piece
     requires { (at ≤ end) × (end ≤ length s.now) }
     ensures { Adds s.now at end result }

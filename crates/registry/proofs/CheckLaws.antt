@@ -141,3 +141,5 @@ module _ (day : Day) (s : List ℕ) (n at : ℕ) (count : line_count s ≡ n + l
     fault-end few rose last rises h r q =
         let l : line_count s ≤ 512 = omega (arith, count-end s at h n count) in
         q ∙ rw (le-leb (line_count s) 512 l, good-end s at h day passed, rise-end s at h rose last rises)
+
+pub ruleset fault_behind_laws = (behind-many, behind-few)

@@ -72,6 +72,7 @@ pub fn fault_of(rose: bool) -> u64
 }
 
 // The fault of lines that are not all good, n of them before the cursor.
+#[tactic(auto, using(crate::proofs::CheckLaws::fault_behind_laws))]
 pub fn fault_behind(s: &[u8], at: usize, n: usize) -> u64
     requires { n ≤ 512 }
     ensures { result ≡ cond (leb (n + line_count (drop at s.now)) 512) 52 53 }
