@@ -1,4 +1,5 @@
 -- Laws of a payment that is accepted, at each way out of the call.
+use Rattle.std.specs.Prelude.{Option, Some, None}
 use Prim.Native.Nat.{ℕ, ◌+◌, ◌<◌, ◌≤◌}
 use native.Mathlib.Omega.{arith}
 use mathlib.Core.Path.{◌≡◌, refl, sym, ◌∙◌}
@@ -10,8 +11,6 @@ use borrow.Author.Tests.{lt-ltb, le-ltb, ltb-true, eq-eqb, ne_eqb, not-true, not
 use mir.Syntax.{w64}
 use mir.Val.{Fits}
 use Rattle.days.specs.declared.calendar.Day.{Day}
-use Rattle.days.specs.declared.calendar.DayRead.{DayRead}
-use Rattle.days.specs.declared.calendar.DayRead.TheVariants.{Good, NoDate}
 use Rattle.fields.specs.declared.number.Number.{Number}
 use Rattle.fields.specs.Amount.{is_amount}
 use Rattle.fields.specs.Codes.{is_receipt, is_kind}
@@ -56,14 +55,14 @@ module _ (b : Book) (n : Number) (kind amount : ℕ) (date : List ℕ) (m : Bool
         may-rest h f ef = rw (← em, not-false m hm, ← ek, not-false k hk, ← ea, not-false a ha, ← ew, not-false w h, ← ef)
 
 -- ---- a day with fewer than 512 entries
-module _ (es : List Entry) (s : List ℕ) (r : DayRead) (er : r ≡ date_day s) where
-  pub open_none : r ≡ NoDate → false ≡ day_open es (date_day s)
+module _ (es : List Entry) (s : List ℕ) (r : Option Day) (er : r ≡ date_day s) where
+  pub open_none : r ≡ None → false ≡ day_open es (date_day s)
   open_none e = rw (← er, e)
 
-  pub open-day : (x : Day) → r ≡ Good x → (n : ℕ) → n ≡ day_count x es → ltb n 512 ≡ day_open es (date_day s)
+  pub open-day : (x : Day) → r ≡ Some x → (n : ℕ) → n ≡ day_count x es → ltb n 512 ≡ day_open es (date_day s)
   open-day x e n en = rw (← er, e, en)
 
-pub open-few : (t : BookRows) (used : ℕ) (s : List ℕ) (r : DayRead) → r ≡ date_day s → (x : Day) → r ≡ Good x → used < 512 → true ≡ day_open (entries_of t used) (date_day s)
+pub open-few : (t : BookRows) (used : ℕ) (s : List ℕ) (r : Option Day) → r ≡ date_day s → (x : Day) → r ≡ Some x → used < 512 → true ≡ day_open (entries_of t used) (date_day s)
 open-few t used s r er x e h =
     rw (← er, e) (sym (lt-ltb (day_count x (entries_of t used)) 512 (omega (arith, count-length x (entries_of t used), length-entries t used))))
 

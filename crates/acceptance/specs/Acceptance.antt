@@ -1,7 +1,6 @@
 -- Document 01, "Agent" and the rows 68, 60 and 61: a payment is accepted at the counter.
-use Rattle.std.specs.Prelude.{ℕ, ◌+◌, List, [], ◌∷◌, ◌++◌, Bool, false, cond, not, ◌&&◌, eqb, ltb, length}
-use Rattle.days.specs.declared.calendar.DayRead.{DayRead}
-use Rattle.days.specs.declared.calendar.DayRead.TheVariants.{Good, NoDate}
+use Rattle.days.specs.declared.calendar.Day.{Day}
+use Rattle.std.specs.Prelude.{ℕ, ◌+◌, List, [], ◌∷◌, ◌++◌, Bool, false, cond, not, ◌&&◌, eqb, ltb, length, Option, Some, None}
 use Rattle.fields.specs.declared.number.Number.{Number}
 use Rattle.fields.specs.Amount.{is_amount}
 use Rattle.fields.specs.Codes.{is_receipt, is_kind}
@@ -38,9 +37,9 @@ unfoldable pub may_accept : Book → Number → ℕ → ℕ → List ℕ → Boo
 may_accept b n k amount date = is_number n && (is_kind k && (is_amount amount && (is_written date && not (is_frozen b date))))
 
 -- a day that has not its 512 entries yet
-abbrev pub day_open : List Entry → DayRead → Bool
-day_open es NoDate = false
-day_open es (Good d) = ltb (day_count d es) 512
+abbrev pub day_open : List Entry → Option Day → Bool
+day_open es None = false
+day_open es (Some d) = ltb (day_count d es) 512
 
 -- a free place in the book, on the day and among the receipts
 unfoldable pub has_place : Book → BookRows → List ℕ → Bool

@@ -10,7 +10,6 @@ use book::{Book, Entry, State, rows, states};
 use book_validity::{counts, valid};
 use dates::date;
 use daybook::frozen;
-use days::calendar::DayRead;
 use fields::number::Number;
 use fields::{amount, codes};
 
@@ -54,7 +53,7 @@ pub fn day_open(
     requires dated { Dated (lent_book nums.now numbers.now dates.now) used }
     ensures { result ≡ day_open (entries_of (lent_book nums.now numbers.now dates.now) used) (date_day written) }
 {
-    let DayRead::Good(day) = date::day_of_date(written) else {
+    let Some(day) = date::day_of_date(written) else {
         return false;
     };
     if used < counts::DAY_MOST {

@@ -5,7 +5,6 @@ use acceptance::accepting;
 use book::{Book, rows};
 use daybook::{Writing, freezing};
 use parameters::action;
-use parameters::action::ActionRead;
 use payments::Action;
 use reporting::taking;
 use reporting::taking::Reporting;
@@ -39,8 +38,8 @@ pub fn sent_of(s: &[u8]) -> Sent {
     let word = scan::before_byte(scan::before_byte(s, b' '), b'-');
     let r = action::read_action(word);
     match r {
-        ActionRead::Known(a) => Sent::Request(a),
-        ActionRead::Unknown => Sent::Registry,
+        Some(a) => Sent::Request(a),
+        None => Sent::Registry,
     }
 }
 

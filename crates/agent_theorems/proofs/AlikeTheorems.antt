@@ -1,4 +1,5 @@
 -- The registry of a frozen day is the same bytes at each writing, whatever answers and requests come between.
+use Rattle.std.specs.Prelude.{Option}
 use Prim.Native.Nat.{ℕ}
 use mathlib.Core.Path.{◌≡◌, sym, ap, ◌∙◌}
 use mathlib.Core.Bool.{true, false}
@@ -7,7 +8,6 @@ use lib.ListN.{set, get_or}
 use Rattle.days.specs.declared.calendar.Day.{Day}
 use Rattle.days.specs.Calendar.{day_before}
 use Rattle.payments.specs.declared.Action.{Action}
-use Rattle.lists.specs.declared.Found.{Found}
 use Rattle.book.specs.declared.Book.{Book}
 use Rattle.book.specs.declared.Entry.{Entry}
 use Rattle.book.specs.Entries.{BookRows, no_entry, entry_at, entries_of}
@@ -25,7 +25,7 @@ use Rattle.agent_theorems.proofs.WritingTheorems.{write-left}
 
 module _ (b : Book) (t : BookRows) (ready : ReadyBook b t) (day : Day) (past : day_before b.frozen day ≡ false) where
   -- an entry of an unfrozen day is in no registry of a frozen one, before and after it is moved
-  listed_kept : (p : Found) (t' : BookRows) → Left b t p t' → registry_of day (entries_of t b.used) ≡ registry_of day (entries_of t' b.used)
+  listed_kept : (p : Option ℕ) (t' : BookRows) → Left b t p t' → registry_of day (entries_of t b.used) ≡ registry_of day (entries_of t' b.used)
   listed_kept p t' (kept e) = ap (λ (r : BookRows). registry_of day (entries_of r b.used)) (sym e)
   listed_kept p t' (moved i e' found l good free same fields e) =
       let r = room_at b t i ready l in
@@ -38,7 +38,7 @@ module _ (b : Book) (t : BookRows) (ready : ReadyBook b t) (day : Day) (past : d
       ∙ ap (registry_of day) (sym (entries-set t i e' b.used room l))
       ∙ ap (λ (q : BookRows). registry_of day (entries_of q b.used)) (sym e)
 
-  alike : (p : Found) (t' : BookRows) → Left b t p t' → book_good b t ≡ true → (out : List ℕ) → write_registry b t' day out ≡ write_registry b t day out
+  alike : (p : Option ℕ) (t' : BookRows) → Left b t p t' → book_good b t ≡ true → (out : List ℕ) → write_registry b t' day out ≡ write_registry b t day out
   alike p t' left good out =
       sym (writing-same b b t t' day out good (good-kept b t p t' left good) past past (listed_kept p t' left))
 

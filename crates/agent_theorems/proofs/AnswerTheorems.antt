@@ -1,4 +1,5 @@
 -- What an answer may do to the book, and what it may not.
+use Rattle.std.specs.Prelude.{Option, Some, None}
 use Prim.Native.Nat.{ℕ, ◌<◌, ◌≤◌}
 use native.Mathlib.Omega.{arith}
 use mathlib.Core.Path.{◌≡◌, refl, sym, ◌∙◌}
@@ -15,8 +16,6 @@ use Rattle.payments.specs.declared.Action.TheVariants.{Check, Payment, Status, C
 use Rattle.payments.specs.declared.Answer.{Answer}
 use Rattle.answer_reader.specs.AnswerRead.{answer_read}
 use Rattle.answer_reader.proofs.AnswerRange.{read-code}
-use Rattle.lists.specs.declared.Found.{Found}
-use Rattle.lists.specs.declared.Found.TheVariants.{At, Nothing}
 use Rattle.book.specs.declared.Book.{Book}
 use Rattle.book.specs.declared.Entry.{Entry}
 use Rattle.book.specs.declared.State.{State}
@@ -100,12 +99,12 @@ module _ (b : Book) (t : BookRows) (a : Action) (receipt : ℕ) (text : List ℕ
   answered i = answered_entry (meaning a answer.code) answer (entry_at t i)
 
   module _ (P : Taking → Type 0) (stays : (code : ℕ) → P (took code t))
-      (answers : (i : ℕ) → book_good b t ≡ true → place_of b t receipt ≡ At i → is_frozen b (entry_at t i).date ≡ false → (answer_read a text).ok ≡ true
+      (answers : (i : ℕ) → book_good b t ≡ true → place_of b t receipt ≡ Some i → is_frozen b (entry_at t i).date ≡ false → (answer_read a text).ok ≡ true
       → P (took 0 (book_from t (set (entries_of t b.used) i (answered i))))) where
-    at-cases : book_good b t ≡ true → (p : Found) → place_of b t receipt ≡ p → P (take_at_place b t a text p)
+    at-cases : book_good b t ≡ true → (p : Option ℕ) → place_of b t receipt ≡ p → P (take_at_place b t a text p)
     unfolding take_at_place
-    at-cases good Nothing e = stays 62
-    at-cases good (At i) e =
+    at-cases good None e = stays 62
+    at-cases good (Some i) e =
         rw (get_d-entries t b.used i no_entry (entry-within t b.used receipt i e))
         (cond-elim P (answer_read a text).ok _ _
         (λ ok. cond-elim P (is_frozen b (entry_at t i).date) _ _ (λ _. stays 0) (λ free. answers i good e free ok))
@@ -133,7 +132,7 @@ module _ (b : Book) (t : BookRows) (a : Action) (receipt : ℕ) (text : List ℕ
         (book-set t b.used ready.whole i (answered i) l))
 
     -- ---- an answer moves at most the entry of its receipt
-    pub answer-others : (j : ℕ) → (place_of b t receipt ≡ At j → ⊥) → entry_at (take_answer b t a receipt text).rows j ≡ entry_at t j
+    pub answer-others : (j : ℕ) → (place_of b t receipt ≡ Some j → ⊥) → entry_at (take_answer b t a receipt text).rows j ≡ entry_at t j
     answer-others = others-kept b t (place_of b t receipt) _ answer-left
 
     -- every entry keeps its receipt, its account, its amount and its date
@@ -152,7 +151,7 @@ module _ (b : Book) (t : BookRows) (a : Action) (receipt : ℕ) (text : List ℕ
     answer-frozen = frozen-kept b t (place_of b t receipt) _ answer-left
 
     -- ---- a state that is not turned: the rows stay as they are
-    answer-unmoved : ((i : ℕ) → place_of b t receipt ≡ At i → turned (meaning a answer.code) (state_of (entry_at t i).state) ≡ state_of (entry_at t i).state)
+    answer-unmoved : ((i : ℕ) → place_of b t receipt ≡ Some i → turned (meaning a answer.code) (state_of (entry_at t i).state) ≡ state_of (entry_at t i).state)
         → (take_answer b t a receipt text).rows ≡ t
     answer-unmoved same =
         take_cases (λ (k : Taking). k.rows ≡ t) (λ code. refl)
@@ -169,7 +168,7 @@ module _ (b : Book) (t : BookRows) (a : Action) (receipt : ℕ) (text : List ℕ
     pub answer-refusal : (answer.code ≡ 0 → ⊥) → (answer.code ≡ 7 → ⊥) → (take_answer b t a receipt text).rows ≡ t
     answer-refusal zero seven = answer-silent (silent-code a answer.code zero seven)
 
-    module _ (i : ℕ) (found : place_of b t receipt ≡ At i) where
+    module _ (i : ℕ) (found : place_of b t receipt ≡ Some i) where
       -- a payment that is credited, cancelled or unposted stays so, whatever comes
       pub answer-final : waits (state_of (entry_at t i).state) ≡ false → (take_answer b t a receipt text).rows ≡ t
       answer-final h =

@@ -1,4 +1,5 @@
 -- What acceptance and freezing keep: a good book stays good with its receipts consecutive, its entries stay, and a fault changes nothing.
+use Rattle.std.specs.Prelude.{Option, Some, None}
 use Prim.Native.Nat.{ℕ, ◌+◌, ◌<◌}
 use native.Mathlib.Omega.{arith}
 use mathlib.Core.Path.{◌≡◌, refl, sym, ap, ◌∙◌}
@@ -9,8 +10,6 @@ use lib.ListN.{length, get_or, length-append, get_or-append}
 use lib.Seq.{get_or_at}
 use borrow.Author.Tests.{ltb-true, not-true}
 use Rattle.days.specs.declared.calendar.Day.{Day}
-use Rattle.days.specs.declared.calendar.DayRead.{DayRead}
-use Rattle.days.specs.declared.calendar.DayRead.TheVariants.{Good, NoDate}
 use Rattle.fields.specs.declared.number.Number.{Number}
 use Rattle.fields.specs.Amount.{is_amount}
 use Rattle.days.specs.Calendar.{is_day, day_before, next_day, on_day}
@@ -86,7 +85,7 @@ module _ (b : Book) (t : BookRows) (e : Entry) where
           room = omega (arith, nums-size);
         })
 
-    more-good : entry_fields e ≡ true → e.receipt ≡ b.first + b.used → (x : Day) → date_day e.date ≡ Good x → day_count x (entries_of t b.used) < 512
+    more-good : entry_fields e ≡ true → e.receipt ≡ b.first + b.used → (x : Day) → date_day e.date ≡ Some x → day_count x (entries_of t b.used) < 512
         → book_good (with_entry b) (book_from t more) ≡ true
     unfolding book_good
     more-good f r x q l =
@@ -217,7 +216,7 @@ module _ (b : Book) (t : BookRows) (n : Number) (kind amount : ℕ) (date : List
       unfolding has_place
       place_rest = and_right (ltb b.used (length t.nums)) places place
 
-      pub place-day : (x : Day) → date_day date ≡ Good x → day_count x (entries_of t b.used) < 512
+      pub place-day : (x : Day) → date_day date ≡ Some x → day_count x (entries_of t b.used) < 512
       place-day x q =
           ltb-true _ _ (ap (day_open (entries_of t b.used)) (sym q) ∙ and_left (day_open (entries_of t b.used) (date_day date)) (is_receipt (next_receipt b)) place_rest)
 
@@ -324,9 +323,9 @@ module _ (b : Book) (t : BookRows) (day : Day) where
       (λ c h. f)
       (λ g y n. go (day_before day d) refl (next-before (next_day b.frozen) refl (and_left (on_day day (next_day b.frozen)) b.settled n)))
     where
-      next-before : (r : DayRead) → next_day b.frozen ≡ r → on_day day r ≡ true → day_before b.frozen day ≡ true
-      next-before NoDate e h = no-claim h
-      next-before (Good x) e h = ap (day_before b.frozen) (sym (same-day x day h)) ∙ next-after b.frozen x e
+      next-before : (r : Option Day) → next_day b.frozen ≡ r → on_day day r ≡ true → day_before b.frozen day ≡ true
+      next-before None e h = no-claim h
+      next-before (Some x) e h = ap (day_before b.frozen) (sym (same-day x day h)) ∙ next-after b.frozen x e
 
       go : (u : Bool) → day_before day d ≡ u → day_before b.frozen day ≡ true → day_before day d ≡ false
       go true e h = no-claim (sym f ∙ before-trans b.frozen day d h e)

@@ -1,4 +1,5 @@
 -- What acceptance, freezing and a registry's writing give where document 01 asks for nothing more.
+use Rattle.std.specs.Prelude.{Some}
 use Prim.Native.Nat.{ℕ, ◌+◌, ◌<◌, ◌≤◌}
 use native.Mathlib.Omega.{arith}
 use mathlib.Core.Path.{◌≡◌, refl, ap, ◌∙◌}
@@ -7,7 +8,6 @@ use mathlib.Core.List.{List, [], ◌∷◌, ◌++◌, map}
 use lib.ListN.{length, get_or, take}
 use borrow.Author.Tests.{lt-ltb, le-leb}
 use Rattle.days.specs.declared.calendar.Day.{Day}
-use Rattle.days.specs.declared.calendar.DayRead.TheVariants.{Good}
 use Rattle.fields.specs.declared.number.Number.{Number}
 use Rattle.fields.specs.Amount.{is_amount}
 use Rattle.days.specs.Calendar.{is_day, day_before, next_day, on_day}
@@ -82,7 +82,7 @@ module _ (b : Book) (t : BookRows) (n : Number) (kind amount : ℕ) (date : List
   -- well formed fields of an unfrozen day, with a free place in the book, on the day and among the receipts, are the next entry, asked
   pub accept-gives : book_good b t ≡ true → ((i : ℕ) → i < b.used → length (get_or t.nums i []) ≡ 6)
       → is_number n ≡ true → is_kind kind ≡ true → is_amount amount ≡ true → is_written date ≡ true
-      → (x : Day) → date_day date ≡ Good x → day_before b.frozen x ≡ true
+      → (x : Day) → date_day date ≡ Some x → day_before b.frozen x ≡ true
       → b.used < length t.nums → day_count x (entries_of t b.used) < 512 → is_receipt (b.first + b.used) ≡ true
       → accept b t n kind amount date ≡
       record {

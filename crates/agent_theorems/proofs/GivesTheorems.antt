@@ -1,4 +1,5 @@
 -- What a writing and an answer give for an entry of a good book, where document 01 asks for nothing more.
+use Rattle.std.specs.Prelude.{Some}
 use Prim.Native.Nat.{ℕ, ◌+◌, ◌-◌, ◌<◌, ◌≤◌}
 use native.Mathlib.Omega.{arith}
 use mathlib.Core.Path.{◌≡◌, refl, sym, ap, ◌∙◌}
@@ -21,7 +22,6 @@ use Rattle.message.specs.RequestText.{is_asked, request_bytes, request_text}
 use Rattle.message.proofs.RequestAgain.{request-fits}
 use Rattle.payments.specs.declared.Answer.{Answer}
 use Rattle.answer_reader.specs.AnswerRead.{answer_read}
-use Rattle.lists.specs.declared.Found.TheVariants.{At}
 use Rattle.book.specs.declared.Book.{Book}
 use Rattle.book.specs.declared.Entry.{Entry}
 use Rattle.book.specs.declared.State.TheVariants.{Asked, Credited, CancelAsked, Cancelled}
@@ -112,11 +112,11 @@ module _ (b : Book) (t : BookRows) (good : book_good b t ≡ true) (six : (j : �
   parts = entry-parts entry ((good_book b t good).entry i used)
 
   -- its receipt finds it
-  pub place_here : place_of b t entry.receipt ≡ At i
+  pub place_here : place_of b t entry.receipt ≡ Some i
   place_here =
       let turn : entry.receipt ≡ b.first + i = (good_book b t good).turn i used in
       let k : entry.receipt - b.first ≡ i = omega arith in
-      sym (entry_here b t good entry.receipt (omega arith) (omega arith)) ∙ ap At k
+      sym (entry_here b t good entry.receipt (omega arith) (omega arith)) ∙ ap Some k
 
   set_here : (e : Entry) → book_from t (set (entries_of t b.used) i e) ≡ book_with t i e
   set_here e = book-set t b.used (good-whole b t good six) i e used

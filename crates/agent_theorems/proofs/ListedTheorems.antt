@@ -1,4 +1,5 @@
 -- The registry of a frozen day: it reads back as the day's entries that are not cancelled, and is the same bytes at each writing.
+use Rattle.std.specs.Prelude.{Option, Some, None}
 use Prim.Native.Nat.{ℕ, zero, suc, ◌+◌, ◌<◌, ◌≤◌}
 use native.Mathlib.Omega.{arith}
 use mathlib.Core.Path.{◌≡◌, refl, sym, ap, ◌∙◌}
@@ -8,8 +9,6 @@ use lib.Dec.{eqb, leb}
 use lib.ListN.{length, get_or, set}
 use borrow.Author.Tests.{lt-ltb, eqb-true, leb-true, not-true}
 use Rattle.days.specs.declared.calendar.Day.{Day}
-use Rattle.days.specs.declared.calendar.DayRead.{DayRead}
-use Rattle.days.specs.declared.calendar.DayRead.TheVariants.{Good, NoDate}
 use Rattle.texts.specs.Lists.{written, cursor_after}
 use Rattle.days.specs.Calendar.{is_day, day_before, same_day, on_day, up_to}
 use Rattle.dates.specs.Date.{date_day}
@@ -166,9 +165,9 @@ unfrozen-off b day e h f = go (date_day e.date) f
     pick x true q g = no-claim (sym g ∙ ap not (ap (day_before b.frozen) (same-day x day q) ∙ h))
     pick x false q g = refl
 
-    go : (r : DayRead) → up_to b.frozen r ≡ false → on_day day r && not (is_cancelled e) ≡ false
-    go NoDate g = refl
-    go (Good x) g = pick x (same_day x day) refl g
+    go : (r : Option Day) → up_to b.frozen r ≡ false → on_day day r && not (is_cancelled e) ≡ false
+    go None g = refl
+    go (Some x) g = pick x (same_day x day) refl g
 
 -- so it may be added, and replaced by another such, and the registry stays
 module _ (day : Day) where

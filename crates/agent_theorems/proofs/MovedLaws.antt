@@ -1,4 +1,5 @@
 -- What a writing and an answer find in the lent book, and what they leave: all as it was, or one entry in another state.
+use Rattle.std.specs.Prelude.{Option, Some}
 use Prim.Native.Nat.{ℕ, ◌<◌}
 use native.Mathlib.Decide.{ℕ_discrete}
 use native.Mathlib.Omega.{arith}
@@ -8,8 +9,6 @@ use mathlib.Core.List.{[]}
 use lib.ListN.{length, get_or, set, length-set}
 use lib.Seq.{get_or-set_same, get_or-set_other, set-get_or}
 use Rattle.texts.proofs.Tests.{no-claim}
-use Rattle.lists.specs.declared.Found.{Found}
-use Rattle.lists.specs.declared.Found.TheVariants.{At}
 use Rattle.book.specs.declared.Book.{Book}
 use Rattle.book.specs.declared.Entry.{Entry}
 use Rattle.book.specs.Entries.{BookRows, no_entry, entry_at, entries_of, entry_nums, book_with, book_from, find_entry, WholeBook}
@@ -22,15 +21,15 @@ use Rattle.daybook.specs.Freezing.{is_frozen}
 
 -- ---- what is found
 -- the place of a receipt
-abbrev pub place_of : Book → BookRows → ℕ → Found
+abbrev pub place_of : Book → BookRows → ℕ → Option ℕ
 place_of b t receipt = find_entry receipt (entries_of t b.used)
 
-pub same_place : (j i : ℕ) → At j ≡ At i → j ≡ i
+pub same_place : (j i : ℕ) → Some j ≡ Some i → j ≡ i
 same_place j i e = cc
 
 module _ (b : Book) (t : BookRows) where
   -- the entry that is found is good
-  pub found-fields : (receipt i : ℕ) → book_good b t ≡ true → place_of b t receipt ≡ At i → entry_fields (entry_at t i) ≡ true
+  pub found-fields : (receipt i : ℕ) → book_good b t ≡ true → place_of b t receipt ≡ Some i → entry_fields (entry_at t i) ≡ true
   found-fields receipt i good e = (good_book b t good).entry i (entry-within t b.used receipt i e)
 
   -- the entry that is there already
@@ -68,17 +67,17 @@ set-ready b t i e r =
     }
 
 -- ---- the rows t' that a call about the place p leaves of t
-pub data Left (b : Book) (t : BookRows) (p : Found) (t' : BookRows) : Type 0 where
+pub data Left (b : Book) (t : BookRows) (p : Option ℕ) (t' : BookRows) : Type 0 where
   kept : t' ≡ t → Left b t p t'
-  moved : (i : ℕ) (e' : Entry) → p ≡ At i → i < b.used → book_good b t ≡ true → is_frozen b (entry_at t i).date ≡ false
+  moved : (i : ℕ) (e' : Entry) → p ≡ Some i → i < b.used → book_good b t ≡ true → is_frozen b (entry_at t i).date ≡ false
       → SamePayment (entry_at t i) e' → entry_fields e' ≡ true → t' ≡ book_with t i e' → Left b t p t'
 
-module _ (b : Book) (t : BookRows) (p : Found) (t' : BookRows) where
+module _ (b : Book) (t : BookRows) (p : Option ℕ) (t' : BookRows) where
   -- an entry at another place is as it was
-  pub others-kept : Left b t p t' → (j : ℕ) → (p ≡ At j → ⊥) → entry_at t' j ≡ entry_at t j
+  pub others-kept : Left b t p t' → (j : ℕ) → (p ≡ Some j → ⊥) → entry_at t' j ≡ entry_at t j
   others-kept (kept e) j n = ap (λ (r : BookRows). entry_at r j) e
   others-kept (moved i e' found l good free same fields e) j n =
-      ap (λ (r : BookRows). entry_at r j) e ∙ entry_other t i e' j (λ q. n (found ∙ ap At (sym q)))
+      ap (λ (r : BookRows). entry_at r j) e ∙ entry_other t i e' j (λ q. n (found ∙ ap Some (sym q)))
 
   -- a property of what was at a place and what is there now
   each-kept : (P : Entry → Entry → Type 0) → ((e : Entry) → P e e) → Left b t p t'

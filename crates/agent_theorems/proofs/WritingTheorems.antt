@@ -1,4 +1,5 @@
 -- What a writing may do to the book, and what a reader makes of the request that it wrote.
+use Rattle.std.specs.Prelude.{Option, Some, None}
 use Prim.Native.Nat.{ℕ, ◌+◌, ◌<◌, ◌≤◌}
 use native.Mathlib.Omega.{arith}
 use mathlib.Core.Path.{◌≡◌, refl, sym, ap, ◌∙◌}
@@ -23,8 +24,6 @@ use Rattle.parameters.specs.Names.{has_reason}
 use Rattle.message.specs.Request.{request_read}
 use Rattle.message.specs.RequestText.{is_asked, request_bytes, request_text, asked_again}
 use Rattle.message.proofs.RequestAgain.{request-fits, request-again}
-use Rattle.lists.specs.declared.Found.{Found}
-use Rattle.lists.specs.declared.Found.TheVariants.{At, Nothing}
 use Rattle.book.specs.declared.Book.{Book}
 use Rattle.book.specs.declared.Entry.{Entry}
 use Rattle.book.specs.declared.State.TheVariants.{CancelAsked}
@@ -91,12 +90,12 @@ read_back q out dated good room =
 -- ---- the call: all stays with a fault, or the entry that was found is written
 module _ (b : Book) (t : BookRows) (a : Action) (receipt reason : ℕ) (out : List ℕ) where
   module _ (P : Writing → Type 0) (stays : (code : ℕ) → (code ≡ 0 → ⊥) → P (unwritten code t out))
-      (writes : (i : ℕ) → book_good b t ≡ true → 512 ≤ length out → forms_good a receipt reason ≡ true → place_of b t receipt ≡ At i → is_open b a (entry_at t i) ≡ true
+      (writes : (i : ℕ) → book_good b t ≡ true → 512 ≤ length out → forms_good a receipt reason ≡ true → place_of b t receipt ≡ Some i → is_open b a (entry_at t i) ≡ true
       → P (wrote (book_from t (set (entries_of t b.used) i (written_entry a (entry_at t i)))) out (request_text (request_of a (entry_at t i) reason)))) where
-    at-cases : book_good b t ≡ true → 512 ≤ length out → forms_good a receipt reason ≡ true → (p : Found) → place_of b t receipt ≡ p → P (write_at b t a reason out p)
+    at-cases : book_good b t ≡ true → 512 ≤ length out → forms_good a receipt reason ≡ true → (p : Option ℕ) → place_of b t receipt ≡ p → P (write_at b t a reason out p)
     unfolding write_at
-    at-cases good room forms Nothing e = stays 62 (λ z. omega arith)
-    at-cases good room forms (At i) e =
+    at-cases good room forms None e = stays 62 (λ z. omega arith)
+    at-cases good room forms (Some i) e =
         rw (get_d-entries t b.used i no_entry (entry-within t b.used receipt i e))
         (cond-elim P (is_open b a (entry_at t i)) _ _ (λ free. writes i good room forms e free) (λ _. stays 63 (λ z. omega arith)))
 
@@ -122,7 +121,7 @@ module _ (b : Book) (t : BookRows) (a : Action) (receipt reason : ℕ) (out : Li
       (λ i good room forms e free l. rest-kept out (request_text (request_of a (entry_at t i) reason)) j l)
 
   -- the entry of a written request: a cancel's is cancel-asked, the others are as they were
-  pub write-leaves : (i : ℕ) → place_of b t receipt ≡ At i → (write_request b t a receipt reason out).code ≡ 0
+  pub write-leaves : (i : ℕ) → place_of b t receipt ≡ Some i → (write_request b t a receipt reason out).code ≡ 0
       → entry_at (write_request b t a receipt reason out).rows i ≡ written_entry a (entry_at t i)
   write-leaves i found =
       write-cases (λ (k : Writing). k.code ≡ 0 → entry_at k.rows i ≡ written_entry a (entry_at t i)) (λ code n z. absurd (n z))
@@ -134,7 +133,7 @@ module _ (b : Book) (t : BookRows) (a : Action) (receipt reason : ℕ) (out : Li
       rw same (entry-from t es i no_entry k ∙ get_or-set_same (entries_of t b.used) i (written_entry a (entry_at t i)) no_entry l))
 
   -- ---- a request that is written reads back as the fields of its entry
-  pub write_again : (i : ℕ) → place_of b t receipt ≡ At i → (write_request b t a receipt reason out).code ≡ 0
+  pub write_again : (i : ℕ) → place_of b t receipt ≡ Some i → (write_request b t a receipt reason out).code ≡ 0
       → request_read (take (write_request b t a receipt reason out).size (write_request b t a receipt reason out).out)
       ≡ record { fault = 0; asked = asked_again (request_of a (entry_at t i) reason) }
   unfolding request_of
@@ -161,7 +160,7 @@ module _ (b : Book) (t : BookRows) (a : Action) (receipt reason : ℕ) (out : Li
         (book-set t b.used ready.whole i (written_entry a (entry_at t i)) l))
 
     -- ---- a writing moves at most the entry of its receipt
-    pub write-others : (j : ℕ) → (place_of b t receipt ≡ At j → ⊥) → entry_at (write_request b t a receipt reason out).rows j ≡ entry_at t j
+    pub write-others : (j : ℕ) → (place_of b t receipt ≡ Some j → ⊥) → entry_at (write_request b t a receipt reason out).rows j ≡ entry_at t j
     write-others = others-kept b t (place_of b t receipt) _ write-left
 
     -- every entry keeps its receipt, its account, its amount and its date

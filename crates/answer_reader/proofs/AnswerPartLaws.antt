@@ -1,4 +1,5 @@
 -- Laws of the elements of a response and of the steps that read them, at each way out.
+use Rattle.std.specs.Prelude.{Option, Some, None}
 use Prim.Native.Nat.{ℕ, ◌+◌, ◌≤◌, ◌<◌}
 use mathlib.Core.Path.{◌≡◌, refl, sym, ap, ◌∙◌}
 use native.Mathlib.Omega.{arith}
@@ -8,8 +9,6 @@ use lib.Dec.{leb}
 use lib.ListN.{length, take, drop, drop_of_length-le}
 use lib.Seq.{drop-drop, take_all, length-take-le}
 use borrow.Author.Tests.{le-leb, lt-leb, eq-eqb, ne_eqb, leb-true, leb-false, not-true, not-false}
-use Rattle.texts.specs.declared.digits.Digits.{Digits}
-use Rattle.texts.specs.declared.digits.Digits.TheVariants.{Value, Malformed}
 use Rattle.dates.specs.declared.date.DateRead.{DateRead}
 use Rattle.texts.specs.Digits.{digits_read}
 use Rattle.dates.specs.Date.{is_written, empty_date, date_read}
@@ -35,10 +34,10 @@ none_read x none = rw none
 
 -- ---- what an element gives
 module _ (r : Step) where
-  pub number-good : (d : Digits) (v at : ℕ) → d ≡ Value v → r ≡ record { ok = true; there = true; value = v; from = 0; at = at } → r ≡ number_step d at
+  pub number-good : (d : Option ℕ) (v at : ℕ) → d ≡ Some v → r ≡ record { ok = true; there = true; value = v; from = 0; at = at } → r ≡ number_step d at
   number-good d v at e q = rw e q
 
-  pub number-bad : (d : Digits) (at : ℕ) → d ≡ Malformed → r ≡ no_step → r ≡ number_step d at
+  pub number-bad : (d : Option ℕ) (at : ℕ) → d ≡ None → r ≡ no_step → r ≡ number_step d at
   number-bad d at e q = rw e q
 
   pub date-good : (w : Bool) (from at : ℕ) → w ≡ true → r ≡ record { ok = true; there = true; value = 0; from = from; at = at } → r ≡ date_step w from at
@@ -57,7 +56,7 @@ module _ (r : Step) where
     pub fill-as : (l : Part) → k ≡ l → r ≡ filled_step l c from at → r ≡ filled_step k c from at
     fill-as l e q = rw e q
 
-    pub fill-number : (most : ℕ) (d : Digits) → r ≡ number_step d at → d ≡ digits_read most c → r ≡ number_step (digits_read most c) at
+    pub fill-number : (most : ℕ) (d : Option ℕ) → r ≡ number_step d at → d ≡ digits_read most c → r ≡ number_step (digits_read most c) at
     fill-number most d q e = rw (← e) q
 
     pub fill-date : (d : DateRead) → r ≡ date_step d.ok from at → d ≡ date_read c → r ≡ date_step (date_read c).ok from at
@@ -88,11 +87,11 @@ date-written c = cond-elim (λ (r : DateRead). r.ok ≡ true → is_written c �
 
 -- ---- what was filled in is what the definition fills in
 module _ (s : List ℕ) (x : Answer) (from size next : ℕ) where
-  number-given : (k : Part) (f : ℕ → Answer) → ((r : Step) → held_by k s x r ≡ f r.value) → (d : Digits)
+  number-given : (k : Part) (f : ℕ → Answer) → ((r : Step) → held_by k s x r ≡ f r.value) → (d : Option ℕ)
       → given k s x (number_step d next) ≡ read_on (number_held f d) (drop next s)
   unfolding given
-  number-given k f h Malformed = refl
-  number-given k f h (Value v) = rw h
+  number-given k f h None = refl
+  number-given k f h (Some v) = rw h
 
   fill-given : (k : Part) (c : List ℕ) → c ≡ take size (drop from s) → given k s x (filled_step k c from next) ≡ read_on (filled k x c) (drop next s)
   unfolding filled_step filled given
@@ -114,9 +113,9 @@ module _ (s : List ℕ) (x : Answer) (from size next : ℕ) where
       go false = refl
 
 -- ---- the step of an element
-number-unheld : (d : Digits) (at : ℕ) → Unheld (number_step d at)
-number-unheld Malformed at h = refl
-number-unheld (Value v) at h = no-claim (sym h)
+number-unheld : (d : Option ℕ) (at : ℕ) → Unheld (number_step d at)
+number-unheld None at h = refl
+number-unheld (Some v) at h = no-claim (sym h)
 
 fill-unheld : (k : Part) (c : List ℕ) (from at : ℕ) → Unheld (filled_step k c from at)
 unfolding filled_step

@@ -1,4 +1,5 @@
 -- What is read of an answer is in range.
+use Rattle.std.specs.Prelude.{Option, Some, None}
 use Prim.Native.Nat.{ℕ, ◌^◌, ◌≤◌, ◌<◌}
 use native.Mathlib.Omega.{arith}
 use mathlib.Core.Path.{◌≡◌, refl, sym}
@@ -6,8 +7,6 @@ use mathlib.Core.List.{List}
 use mathlib.Core.Bool.{true, false}
 use lib.ListN.{length}
 use lib.Dec.{leb}
-use Rattle.texts.specs.declared.digits.Digits.{Digits}
-use Rattle.texts.specs.declared.digits.Digits.TheVariants.{Value, Malformed}
 use Rattle.texts.specs.Digits.{digits_read}
 use Rattle.dates.specs.Date.{date_read}
 use Rattle.texts.proofs.Tests.{cond-elim}
@@ -33,9 +32,9 @@ none-range = (omega arith, omega arith, λ e. refl)
 number-range : (f : ℕ → Answer) (most : ℕ) (c : List ℕ) → ((v : ℕ) → v < 10 ^ most → InRange (f v)) → InRange (number_held f (digits_read most c)).answer
 number-range f most c h = go (digits_read most c) refl
   where
-    go : (d : Digits) → digits_read most c ≡ d → InRange (number_held f d).answer
-    go Malformed e = none-range
-    go (Value v) e = h v (digits-below most c v (sym e))
+    go : (d : Option ℕ) → digits_read most c ≡ d → InRange (number_held f d).answer
+    go None e = none-range
+    go (Some v) e = h v (digits-below most c v (sym e))
 
 fill-range : (k : Part) (x : Answer) (c : List ℕ) → InRange x → InRange (filled k x c).answer
 unfolding filled

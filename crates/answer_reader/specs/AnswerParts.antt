@@ -1,7 +1,5 @@
 -- How the code walks through an answer: by places in its text. Cited by inner contracts only: it needs no belief.
-use Rattle.std.specs.Prelude.{ℕ, ◌≡◌, List, Bool, true, false, cond, leb, eqb, length, take, drop}
-use Rattle.texts.specs.declared.digits.Digits.{Digits}
-use Rattle.texts.specs.declared.digits.Digits.TheVariants.{Value, Malformed}
+use Rattle.std.specs.Prelude.{ℕ, ◌≡◌, List, Bool, true, false, cond, leb, eqb, length, take, drop, Option, Some, None}
 use Rattle.texts.specs.Digits.{digits_read}
 use Rattle.dates.specs.Date.{empty_date, date_read}
 use Rattle.payments.specs.declared.Action.{Action}
@@ -33,9 +31,9 @@ no_step = record { ok = false; there = false; value = 0; from = 0; at = 0 }
 abbrev pub absent_step : Bool → ℕ → Step
 absent_step ok at = record { ok = ok; there = false; value = 0; from = 0; at = at }
 
-abbrev pub number_step : Digits → ℕ → Step
-number_step Malformed at = no_step
-number_step (Value v) at = record { ok = true; there = true; value = v; from = 0; at = at }
+abbrev pub number_step : Option ℕ → ℕ → Step
+number_step None at = no_step
+number_step (Some v) at = record { ok = true; there = true; value = v; from = 0; at = at }
 
 abbrev pub date_step : Bool → ℕ → ℕ → Step
 date_step written from at = cond written (record { ok = true; there = true; value = 0; from = from; at = at }) no_step

@@ -1,7 +1,5 @@
 -- Document 01, "Gate": what the agent's reader takes as an answer to an action, by the templates of source 001, 3.2.1.
-use Rattle.std.specs.Prelude.{ℕ, ◌+◌, List, [], ◌∷◌, Bool, true, false, cond, ◌||◌, length, take, drop, leb, eqb}
-use Rattle.texts.specs.declared.digits.Digits.{Digits}
-use Rattle.texts.specs.declared.digits.Digits.TheVariants.{Value, Malformed}
+use Rattle.std.specs.Prelude.{ℕ, ◌+◌, List, [], ◌∷◌, Bool, true, false, cond, ◌||◌, length, take, drop, leb, eqb, Option, Some, None}
 use Rattle.dates.specs.declared.date.DateRead.{DateRead}
 use Rattle.texts.specs.Lists.{find, eq_list}
 use Rattle.texts.specs.Digits.{digits_read}
@@ -96,9 +94,9 @@ unreadable = record { ok = false; answer = empty_answer }
 abbrev pub good : Answer → AnswerRead
 good x = record { ok = true; answer = x }
 
-abbrev pub number_held : (ℕ → Answer) → Digits → AnswerRead
-number_held f Malformed = unreadable
-number_held f (Value v) = good (f v)
+abbrev pub number_held : (ℕ → Answer) → Option ℕ → AnswerRead
+number_held f None = unreadable
+number_held f (Some v) = good (f v)
 
 abbrev pub date_held : Answer → DateRead → AnswerRead
 date_held x d = cond d.ok (good (with_date x d.date)) unreadable

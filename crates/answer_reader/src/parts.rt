@@ -6,7 +6,6 @@ ghost use Rattle.answer_reader.specs.AnswerParts.{no_step, absent_step, number_s
 use dates::date;
 use payments::Action;
 use texts::digits;
-use texts::digits::Digits;
 
 // The most bytes of a message.
 const MESSAGE_MOST: usize = 512;
@@ -92,18 +91,18 @@ pub(crate) fn may_lack(k: Part, a: Action, code: u64) -> bool
 }
 
 // A number, where it was read.
-fn held_number(d: Digits, at: usize) -> Step
+fn held_number(d: Option<u64>, at: usize) -> Step
     ensures { result ≡ number_step d at }
 {
     match d {
-        Digits::Value(v) => Step {
+        Some(v) => Step {
             ok: true,
             there: true,
             value: v,
             from: 0,
             at,
         },
-        Digits::Malformed => no_step(),
+        None => no_step(),
     }
 }
 

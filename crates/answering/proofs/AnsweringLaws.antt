@@ -1,4 +1,5 @@
 -- Laws of an answer that the agent takes: the entry that it leaves, and the ways out of the call.
+use Rattle.std.specs.Prelude.{Option, Some, None}
 use Prim.Native.Nat.{ℕ, ◌<◌}
 use mathlib.Core.Path.{◌≡◌, sym, ap, ◌∙◌}
 use mathlib.Core.Bool.{Bool, true, false, not}
@@ -11,8 +12,6 @@ use Rattle.payments.specs.declared.Answer.{Answer}
 use Rattle.answer_reader.specs.declared.answer.AnswerRead.{AnswerRead}
 use Rattle.answer_reader.specs.AnswerRead.{answer_read}
 use Rattle.answer_reader.specs.AnswerParts.{undated}
-use Rattle.lists.specs.declared.Found.{Found}
-use Rattle.lists.specs.declared.Found.TheVariants.{At, Nothing}
 use Rattle.book.specs.declared.Book.{Book}
 use Rattle.book.specs.declared.Entry.{Entry}
 use Rattle.book.specs.declared.State.{State}
@@ -59,7 +58,7 @@ module _ (a : Action) (text : List ℕ) (x : AnswerRead) (ex : x ≡ undated (an
 
 -- ---- the entry at i
 module _ (b : Book) (t : BookRows) (i : ℕ) (a : Action) (text : List ℕ) (x : AnswerRead) (ex : x ≡ undated (answer_read a text)) where
-  pub at-unread : (rows : BookRows) → not x.ok ≡ true → rows ≡ t → ◌≡◌ {A = Taking} (record { code = 64; rows = rows }) (take_at_place b t a text (At i))
+  pub at-unread : (rows : BookRows) → not x.ok ≡ true → rows ≡ t → ◌≡◌ {A = Taking} (record { code = 64; rows = rows }) (take_at_place b t a text (Some i))
   unfolding take_at_place
   at-unread rows h er = rw (ok-is a text x ex, not-true x.ok h, er)
 
@@ -67,12 +66,12 @@ module _ (b : Book) (t : BookRows) (i : ℕ) (a : Action) (text : List ℕ) (x :
     frozen-there : f ≡ is_frozen b (entry_at t i).date
     frozen-there = ef ∙ ap (λ (v : Entry). is_frozen b v.date) ee
 
-    pub at-frozen : (rows : BookRows) → f ≡ true → rows ≡ t → ◌≡◌ {A = Taking} (record { code = 0; rows = rows }) (take_at_place b t a text (At i))
+    pub at-frozen : (rows : BookRows) → f ≡ true → rows ≡ t → ◌≡◌ {A = Taking} (record { code = 0; rows = rows }) (take_at_place b t a text (Some i))
     unfolding take_at_place
     at-frozen rows y er = rw (ok-is a text x ex, not-false x.ok h, get_d-entries t b.used i no_entry l, ← frozen-there, y, er)
 
     pub at-answered : (m : Meaning) (e' : Entry) (rows : BookRows) → f ≡ false → ReadyBook b t → m ≡ meaning a x.answer.code → e' ≡ answered_entry m x.answer e
-        → rows ≡ book_with t i e' → ◌≡◌ {A = Taking} (record { code = 0; rows = rows }) (take_at_place b t a text (At i))
+        → rows ≡ book_with t i e' → ◌≡◌ {A = Taking} (record { code = 0; rows = rows }) (take_at_place b t a text (Some i))
     unfolding take_at_place
     at-answered m e' rows n ready em ea er =
         let w : e' ≡ answered_entry m x.answer (entry_at t i) = ea ∙ ap (answered_entry m x.answer) ee in
@@ -84,12 +83,12 @@ module _ (b : Book) (t : BookRows) (a : Action) (receipt : ℕ) (text : List ℕ
   unfolding take_receipt
   not-receipt rows h e = rw (← er, not-true r h, e)
 
-  module _ (h : not r ≡ false) (p : Found) (ep : p ≡ find_entry receipt (entries_of t b.used)) where
-    pub none_found : (rows : BookRows) → p ≡ Nothing → rows ≡ t → ◌≡◌ {A = Taking} (record { code = 62; rows = rows }) (take_receipt b t a receipt text)
+  module _ (h : not r ≡ false) (p : Option ℕ) (ep : p ≡ find_entry receipt (entries_of t b.used)) where
+    pub none_found : (rows : BookRows) → p ≡ None → rows ≡ t → ◌≡◌ {A = Taking} (record { code = 62; rows = rows }) (take_receipt b t a receipt text)
     unfolding take_receipt take_at_place
     none_found rows n e = rw (← er, not-false r h, ← ep, n, e)
 
-    pub one_found : (i : ℕ) (k : Taking) → p ≡ At i → k ≡ take_at_place b t a text (At i) → k ≡ take_receipt b t a receipt text
+    pub one_found : (i : ℕ) (k : Taking) → p ≡ Some i → k ≡ take_at_place b t a text (Some i) → k ≡ take_receipt b t a receipt text
     unfolding take_receipt
     one_found i k y q = q ∙ rw (← er, not-false r h, ← ep, y)
 

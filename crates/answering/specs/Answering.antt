@@ -1,12 +1,10 @@
 -- Document 01, "Agent" and the rows 68, 60, 62 and 64: an answer is handed in together with the action and the receipt that it answers.
-use Rattle.std.specs.Prelude.{ℕ, List, Bool, true, false, cond, eqb, get_or, set}
+use Rattle.std.specs.Prelude.{ℕ, List, Bool, true, false, cond, eqb, get_or, set, Option, Some, None}
 use Rattle.fields.specs.Codes.{is_receipt}
 use Rattle.payments.specs.declared.Action.{Action}
 use Rattle.payments.specs.declared.Action.TheVariants.{Check, Payment, Status, Cancel}
 use Rattle.payments.specs.declared.Answer.{Answer}
 use Rattle.answer_reader.specs.AnswerRead.{answer_read}
-use Rattle.lists.specs.declared.Found.{Found}
-use Rattle.lists.specs.declared.Found.TheVariants.{At, Nothing}
 use Rattle.book.specs.declared.Book.{Book}
 use Rattle.book.specs.declared.Entry.{Entry}
 use Rattle.book.specs.declared.State.{State}
@@ -82,9 +80,9 @@ abbrev pub took : ℕ → BookRows → Taking
 took code t = record { code = code; rows = t }
 
 -- an entry of a frozen day is moved by no answer
-unfoldable pub take_at_place : Book → BookRows → Action → List ℕ → Found → Taking
-take_at_place b t a text Nothing = took 62 t
-take_at_place b t a text (At i) =
+unfoldable pub take_at_place : Book → BookRows → Action → List ℕ → Option ℕ → Taking
+take_at_place b t a text None = took 62 t
+take_at_place b t a text (Some i) =
     let e = get_or (entries_of t b.used) i no_entry in
     cond (answer_read a text).ok
     (cond (is_frozen b e.date) (took 0 t)

@@ -3,7 +3,6 @@
 pub mod meaning;
 
 ghost use Rattle.std.specs.Prelude.{◌≡◌, true, ◌<◌};
-ghost use Rattle.lists.specs.declared.Found.TheVariants.{At};
 ghost use Rattle.book_validity.specs.BookValid.{book_good, ReadyBook};
 ghost use Rattle.answering.specs.Answering.{taking_of, authcode_after, answered_entry, take_at_place, take_receipt, is_check, check_code, take_answer};
 ghost use Rattle.book.specs.Lent.{lent_book};
@@ -13,7 +12,6 @@ use book::{Book, Entry, rows, states};
 use book_validity::{find, valid};
 use daybook::frozen;
 use fields::codes;
-use lists::Found;
 use payments::{Action, Answer};
 
 // The authcode of an entry after an answer.
@@ -93,8 +91,8 @@ pub(crate) fn take_receipt(
     }
     let found = find::find_entry(nums, numbers, dates, b, receipt);
     match found {
-        Found::Nothing => 62,
-        Found::At(i) => take_at(nums, numbers, dates, b, i, a, text),
+        None => 62,
+        Some(i) => take_at(nums, numbers, dates, b, i, a, text),
     }
 }
 

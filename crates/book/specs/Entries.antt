@@ -1,7 +1,6 @@
 -- Document 01, "Agent": the book, lent as three rows of one length. Entry i has six numbers, the bytes of its account's number, and its date.
-use Rattle.std.specs.Prelude.{Bool, cond, ◌≡◌, List, [], ◌∷◌, ◌++◌, map, ℕ, ◌<◌, ◌≤◌, eqb, length, drop, get_or, set, replicate}
+use Rattle.std.specs.Prelude.{Bool, cond, ◌≡◌, List, [], ◌∷◌, ◌++◌, map, ℕ, ◌<◌, ◌≤◌, eqb, length, drop, get_or, set, replicate, Option}
 use Rattle.dates.specs.Date.{empty_date}
-use Rattle.lists.specs.declared.Found.{Found}
 use Rattle.lists.specs.Lists.{tab, first_from}
 use Rattle.book.specs.declared.Entry.{Entry}
 use Rattle.book.specs.declared.State.{State}
@@ -74,7 +73,7 @@ book_from t es =
 abbrev pub is_entry : ℕ → Entry → Bool
 is_entry x e = eqb e.receipt x
 
-unfoldable pub find_entry : ℕ → List Entry → Found
+unfoldable pub find_entry : ℕ → List Entry → Option ℕ
 find_entry x es = first_from (is_entry x) 0 es
 
 -- the rows have n entries, each with the length of its array

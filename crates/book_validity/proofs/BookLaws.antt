@@ -1,4 +1,5 @@
 -- What a book that is good gives its callers, and what makes a book good again.
+use Rattle.std.specs.Prelude.{Option, Some, None}
 use mathlib.Core.Path.{◌≡◌, refl, sym, ap, subst⁻¹, ◌∙◌}
 use mathlib.Core.Logic.{◌≢◌}
 use mathlib.Core.Bool.{Bool, true, false, not, ◌&&◌}
@@ -9,15 +10,12 @@ use native.Mathlib.Omega.{arith}
 use lib.ListN.{length, get_or, length-set}
 use borrow.Author.Tests.{eq-eqb, eqb-true, not-false}
 use Rattle.days.specs.declared.calendar.Day.{Day}
-use Rattle.days.specs.declared.calendar.DayRead.TheVariants.{Good}
 use Rattle.days.specs.Calendar.{is_day}
 use Rattle.fields.specs.Amount.{is_amount}
 use Rattle.fields.specs.Codes.{is_receipt, is_kind}
 use Rattle.fields.specs.Number.{is_number}
 use Rattle.dates.specs.Date.{date_day, is_written}
 use Rattle.texts.proofs.Tests.{and_left, and_right, no-claim}
-use Rattle.lists.specs.declared.Found.{Found}
-use Rattle.lists.specs.declared.Found.TheVariants.{At, Nothing}
 use Rattle.lists.specs.Lists.{all_from}
 use Rattle.lists.specs.Lent.{Lent}
 use Rattle.lists.proofs.LentLaws.{lent-facts, facts-lent}
@@ -171,7 +169,7 @@ module _ (b : Book) (t : BookRows) (good : book_good b t ≡ true) where
 
   -- one entry more, in turn and on a day that has room
   pub added-good : (e : Entry) (x : Day) → b.used < length t.nums → entry_fields e ≡ true → e.receipt ≡ b.first + b.used
-      → date_day e.date ≡ Good x → day_count x (entries_of t b.used) < 512
+      → date_day e.date ≡ Some x → day_count x (entries_of t b.used) < 512
       → book_good (record { first = b.first; used = b.used + 1; frozen = b.frozen; settled = b.settled }) (book_with t b.used e) ≡ true
   added-good e x room fields r q l =
       book-again next (book_with t b.used e) (put-lent b.used e next (omega arith))
@@ -190,48 +188,48 @@ module _ (b : Book) (t : BookRows) (good : book_good b t ≡ true) where
       before j k n = omega arith
 
 -- ---- the entry of a receipt
-pub entry-within : (t : BookRows) (n x i : ℕ) → find_entry x (entries_of t n) ≡ At i → i < n
+pub entry-within : (t : BookRows) (n x i : ℕ) → find_entry x (entries_of t n) ≡ Some i → i < n
 unfolding find_entry
 entry-within t n x i e = omega (arith, search-within (is_entry x) 0 (entries_of t n) i e, length-entries t n)
 
-pub entry_found : (t : BookRows) (n x i : ℕ) → find_entry x (entries_of t n) ≡ At i → (entry_at t i).receipt ≡ x
+pub entry_found : (t : BookRows) (n x i : ℕ) → find_entry x (entries_of t n) ≡ Some i → (entry_at t i).receipt ≡ x
 entry_found t n x i e =
     eqb-true (entry_at t i).receipt x
     (ap (is_entry x) (sym (get_d-entries t n i (entry_at t i) (entry-within t n x i e))) ∙ found-fits (is_entry x) (entries_of t n) (entry_at t i) (unfold find_entry in e))
 
 module _ (b : Book) (t : BookRows) (x : ℕ) (g : GoodBook b t) where
   -- a receipt before the first, at a place in use, and past the last
-  outside : ((i : ℕ) → i < b.used → b.first + i ≡ x → ⊥) → Nothing ≡ find_entry x (entries_of t b.used)
+  outside : ((i : ℕ) → i < b.used → b.first + i ≡ x → ⊥) → None ≡ find_entry x (entries_of t b.used)
   outside n = go (find_entry x (entries_of t b.used)) refl
     where
-      go : (f : Found) → find_entry x (entries_of t b.used) ≡ f → Nothing ≡ f
-      go Nothing e = refl
-      go (At i) e =
+      go : (f : Option ℕ) → find_entry x (entries_of t b.used) ≡ f → None ≡ f
+      go None e = refl
+      go (Some i) e =
           let l : i < b.used = entry-within t b.used x i e in
           absurd (n i l (sym (g.turn i l) ∙ entry_found t b.used x i e))
 
-  inside : (i : ℕ) → i < b.used → b.first + i ≡ x → At i ≡ find_entry x (entries_of t b.used)
+  inside : (i : ℕ) → i < b.used → b.first + i ≡ x → Some i ≡ find_entry x (entries_of t b.used)
   inside i l q = go (find_entry x (entries_of t b.used)) refl
     where
       here : is_entry x (get_or (entries_of t b.used) i (entry_at t i)) ≡ true
       here = ap (is_entry x) (get_d-entries t b.used i (entry_at t i) l) ∙ eq-eqb _ _ (g.turn i l ∙ q)
 
-      go : (f : Found) → find_entry x (entries_of t b.used) ≡ f → At i ≡ f
-      go Nothing e =
+      go : (f : Option ℕ) → find_entry x (entries_of t b.used) ≡ f → Some i ≡ f
+      go None e =
           no-claim (sym (found_none (is_entry x) (entries_of t b.used) (entry_at t i) (unfold find_entry in e) i (omega (arith, l, length-entries t b.used))) ∙ here)
-      go (At k) e =
+      go (Some k) e =
           let m : k < b.used = entry-within t b.used x k e in
           let w : (entry_at t k).receipt ≡ x = entry_found t b.used x k e in
           let v : (entry_at t k).receipt ≡ b.first + k = g.turn k m in
           let s : i ≡ k = omega arith in
-          ap At s
+          ap Some s
 
 module _ (b : Book) (t : BookRows) (good : book_good b t ≡ true) (x : ℕ) where
-  pub entry-before : x < b.first → Nothing ≡ find_entry x (entries_of t b.used)
+  pub entry-before : x < b.first → None ≡ find_entry x (entries_of t b.used)
   entry-before h = outside b t x (good_book b t good) (λ i l q. omega arith)
 
-  pub entry_here : b.first ≤ x → x - b.first < b.used → At (x - b.first) ≡ find_entry x (entries_of t b.used)
+  pub entry_here : b.first ≤ x → x - b.first < b.used → Some (x - b.first) ≡ find_entry x (entries_of t b.used)
   entry_here h l = inside b t x (good_book b t good) (x - b.first) l (omega arith)
 
-  pub entry_past : b.first ≤ x → b.used ≤ x - b.first → Nothing ≡ find_entry x (entries_of t b.used)
+  pub entry_past : b.first ≤ x → b.used ≤ x - b.first → None ≡ find_entry x (entries_of t b.used)
   entry_past h k = outside b t x (good_book b t good) (λ i l q. omega arith)

@@ -1,4 +1,5 @@
 -- Laws of the count of a day's entries, of its limit, and of the slots that the check counts in.
+use Rattle.std.specs.Prelude.{Option, Some, None}
 use mathlib.Core.Path.{◌≡◌, refl, sym, ap, ◌∙◌}
 use mathlib.Core.Logic.{◌⊎◌, inl, inr}
 use mathlib.Core.Bool.{Bool, true, false, cond, not}
@@ -13,8 +14,6 @@ use borrow.Author.Tests.{le-leb, leb-true, eq-eqb, not-true, not-false}
 use mir.Syntax.{w64}
 use mir.Val.{Fits}
 use Rattle.days.specs.declared.calendar.Day.{Day}
-use Rattle.days.specs.declared.calendar.DayRead.{DayRead}
-use Rattle.days.specs.declared.calendar.DayRead.TheVariants.{Good, NoDate}
 use Rattle.days.specs.Calendar.{is_day, same_day, on_day}
 use Rattle.dates.specs.Date.{date_day, is_written}
 use Rattle.texts.proofs.Tests.{and_left, and_right, no-claim}
@@ -108,9 +107,9 @@ unfolding entries_of tab day_count
 count_none d t = refl
 
 -- a book of 512 entries or fewer has no day with more
-few-fit : (es : List Entry) → length es ≤ 512 → (x : DayRead) → day_fits es x ≡ true
-few-fit es h NoDate = refl
-few-fit es h (Good d) = le-leb (day_count d es) 512 (omega (arith, count-length d es))
+few-fit : (es : List Entry) → length es ≤ 512 → (x : Option Day) → day_fits es x ≡ true
+few-fit es h None = refl
+few-fit es h (Some d) = le-leb (day_count d es) 512 (omega (arith, count-length d es))
 
 pub few-days : (t : BookRows) (used : ℕ) → used ≤ 512 → true ≡ days_good (entries_of t used)
 unfolding days_good
@@ -120,10 +119,10 @@ few-days t used h =
     (λ i l. few-fit es (omega (arith, length-entries t used)) (date_day (get_or es i (entry_at t 0)).date)))
 
 -- ---- the limit of a day: as a test of each entry's day, and of every day
-pub good-day : (s : List ℕ) (x : Day) → date_day s ≡ Good x → is_day x ≡ true
+pub good-day : (s : List ℕ) (x : Day) → date_day s ≡ Some x → is_day x ≡ true
 good-day s x e = let g : DayOf s = date-day s (rw e) in let q : g.day ≡ x = same g.is in ap is_day (sym q) ∙ g.good
   where
-    same : {y : Day} → date_day s ≡ Good y → y ≡ x
+    same : {y : Day} → date_day s ≡ Some y → y ≡ x
     same h = cc
 
 some_fits : (d : Day) (all es : List Entry) (k : ℕ) → all_from (λ i e. day_fits all (date_day e.date)) k es ≡ true → (day_count d es ≡ 0) ⊎ (day_count d all ≤ 512)
@@ -141,10 +140,10 @@ some_fits d all (x ∷ es) k h =
     pick y true s f up = inr (leb-true _ _ (ap (λ (v : Day). leb (day_count v all) 512) (sym (same-day y d s)) ∙ f))
     pick y false s f up = up
 
-    go : (r : DayRead) → day_fits all r ≡ true → (day_count d es ≡ 0) ⊎ (day_count d all ≤ 512)
+    go : (r : Option Day) → day_fits all r ≡ true → (day_count d es ≡ 0) ⊎ (day_count d all ≤ 512)
         → (cond (on_day d r) (suc (day_count d es)) (day_count d es) ≡ 0) ⊎ (day_count d all ≤ 512)
-    go NoDate f up = up
-    go (Good y) f up = pick y (same_day y d) refl f up
+    go None f up = up
+    go (Some y) f up = pick y (same_day y d) refl f up
 
 pub days-few : (es : List Entry) → days_good es ≡ true → (d : Day) → day_count d es ≤ 512
 days-few es h d = go (some_fits d es es 0 (unfold days_good in h))
@@ -158,16 +157,16 @@ unfolding all_from
 all_fit all [] k few = refl
 all_fit all (x ∷ es) k few = rw (fit (date_day x.date)) (all_fit all es (k + 1) few)
   where
-    fit : (r : DayRead) → day_fits all r ≡ true
-    fit NoDate = refl
-    fit (Good y) = le-leb _ _ (few y)
+    fit : (r : Option Day) → day_fits all r ≡ true
+    fit None = refl
+    fit (Some y) = le-leb _ _ (few y)
 
 pub days-kept : (es : List Entry) → ((d : Day) → day_count d es ≤ 512) → days_good es ≡ true
 unfolding days_good
 days-kept es few = all_fit es es 0 few
 
 -- one entry more, on a day that has room
-pub days-more : (es : List Entry) (e : Entry) (x : Day) → date_day e.date ≡ Good x → day_count x es < 512
+pub days-more : (es : List Entry) (e : Entry) (x : Day) → date_day e.date ≡ Some x → day_count x es < 512
     → ((d : Day) → day_count d es ≤ 512) → (d : Day) → day_count d (es ++ (e ∷ [])) ≤ 512
 days-more es e x q l few d = go (same_day x d) refl
   where
@@ -221,8 +220,8 @@ counts-none t counts e =
     }
 
 module _ (counts : List ℕ) (t : BookRows) (i : ℕ) (c : DayCounts counts (entries_of t i)) (e : Entry) (is : e ≡ entry_at t i)
-    (x : Day) (q : date_day e.date ≡ Good x) (s : ℕ) (slot : s ≡ day_slot x) where
-  on : date_day (entry_at t i).date ≡ Good x
+    (x : Day) (q : date_day e.date ≡ Some x) (s : ℕ) (slot : s ≡ day_slot x) where
+  on : date_day (entry_at t i).date ≡ Some x
   on = sym (ap (λ (v : Entry). date_day v.date) is) ∙ q
 
   valid : is_day x ≡ true

@@ -1,12 +1,11 @@
 -- What a book that has passed row 68 gives to the calls behind the check, and the entry that they find in it.
+use Rattle.std.specs.Prelude.{Option, Some}
 use Prim.Native.Nat.{ℕ, ◌<◌}
 use native.Mathlib.Omega.{arith}
 use mathlib.Core.Path.{◌≡◌, sym, ◌∙◌}
 use mathlib.Core.Bool.{Bool, true, false, not}
 use lib.ListN.{length}
 use borrow.Author.Tests.{not-false}
-use Rattle.lists.specs.declared.Found.{Found}
-use Rattle.lists.specs.declared.Found.TheVariants.{At}
 use Rattle.book.specs.declared.Book.{Book}
 use Rattle.book.specs.Entries.{BookRows, entries_of, find_entry}
 use Rattle.book_validity.specs.BookValid.{book_good, ReadyBook, Dated}
@@ -27,5 +26,5 @@ module _ (b : Book) (t : BookRows) where
   room_at i ready l = let w = ready.whole in (omega (arith, w.nums), omega (arith, w.numbers), omega (arith, w.dates))
 
 -- the entry of a receipt is in use
-pub place-in-use : (t : BookRows) (used receipt i : ℕ) (p : Found) → p ≡ find_entry receipt (entries_of t used) → p ≡ At i → i < used
+pub place-in-use : (t : BookRows) (used receipt i : ℕ) (p : Option ℕ) → p ≡ find_entry receipt (entries_of t used) → p ≡ Some i → i < used
 place-in-use t used receipt i p e q = entry-within t used receipt i (sym e ∙ q)

@@ -1,8 +1,6 @@
 -- Document 01, row 68 of "What a fault gives": what a lent book must be, clause by clause. Places past those in use are not looked at.
-use Rattle.std.specs.Prelude.{Bool, true, cond, ◌&&◌, List, [], ◌∷◌, ◌≡◌, ℕ, suc, ◌+◌, ◌≤◌, ◌<◌, eqb, leb, length}
+use Rattle.std.specs.Prelude.{Bool, true, cond, ◌&&◌, List, [], ◌∷◌, ◌≡◌, ℕ, suc, ◌+◌, ◌≤◌, ◌<◌, eqb, leb, length, Option, Some, None}
 use Rattle.days.specs.declared.calendar.Day.{Day}
-use Rattle.days.specs.declared.calendar.DayRead.{DayRead}
-use Rattle.days.specs.declared.calendar.DayRead.TheVariants.{Good, NoDate}
 use Rattle.texts.specs.Digits.{within}
 use Rattle.fields.specs.Amount.{is_amount}
 use Rattle.days.specs.Calendar.{is_day, on_day}
@@ -36,9 +34,9 @@ day_count day [] = 0
 day_count day (e ∷ es) = cond (on_day day (date_day e.date)) (suc (day_count day es)) (day_count day es)
 
 -- at most 512 on one day
-abbrev pub day_fits : List Entry → DayRead → Bool
-day_fits es NoDate = true
-day_fits es (Good d) = leb (day_count d es) 512
+abbrev pub day_fits : List Entry → Option Day → Bool
+day_fits es None = true
+day_fits es (Some d) = leb (day_count d es) 512
 
 unfoldable pub days_good : List Entry → Bool
 days_good es = all_from (λ i e. day_fits es (date_day e.date)) 0 es

@@ -5,7 +5,6 @@ ghost use Rattle.book.specs.Lent.{lent_book};
 ghost use Rattle.book_validity.specs.BookValid.{book_good};
 
 use book::Book;
-use lists::Found;
 
 // The entry of a receipt: receipts are consecutive, so its place is known.
 pub fn find_entry(
@@ -14,16 +13,16 @@ pub fn find_entry(
     dates: &[[u8; 19]],
     b: Book,
     receipt: u64,
-) -> Found
+) -> Option<usize>
     requires { book_good b (lent_book nums.now numbers.now dates.now) ≡ true }
     ensures { result ≡ find_entry receipt (entries_of (lent_book nums.now numbers.now dates.now) b.used) }
 {
     if receipt < b.first {
-        return Found::Nothing;
+        return None;
     }
     let place = receipt - b.first;
     if place < b.used as u64 {
-        return Found::At(place as usize);
+        return Some(place as usize);
     }
-    Found::Nothing
+    None
 }

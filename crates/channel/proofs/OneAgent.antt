@@ -1,4 +1,5 @@
 -- With one agent no request is answered 4, as specs/OneAgent.antt states it: by the model where a table and a book are lent; else nothing is recorded, or nothing sent.
+use Rattle.std.specs.Prelude.{Some, None}
 use Prim.Native.Nat.{ℕ}
 use native.Mathlib.Omega.{arith}
 use mathlib.Core.Path.{◌≡◌, refl, sym, ap, ◌∙◌, subst}
@@ -12,7 +13,6 @@ use Rattle.payments.specs.declared.Action.TheVariants.{Payment}
 use Rattle.message.specs.declared.request.Asked.{Asked}
 use Rattle.message.specs.Request.{request_read}
 use Rattle.message.proofs.RequestRange.{AskedGood, read-good}
-use Rattle.lists.specs.declared.Found.TheVariants.{At, Nothing}
 use Rattle.lists.specs.Lists.{tab, first_from}
 use Rattle.lists.proofs.EachLaws.{each-elem, elem-map}
 use Rattle.table.specs.Table.{Rows, record_at, records_of, find_record}
@@ -68,11 +68,11 @@ module _ (w₀ w : World) (r : Reached w₀ w) (n : ℕ) (a : Action) (receipt :
       never-four (world_of w) (reached-inv w₀ w r) (ask_of q) promised
       (ap (λ (x : M.Gate). (M.decide (ask_of q) x).code) g ∙ sym (ask-code w r.rep n a receipt text clock out e fair room dated) ∙ h))
 
-  module _ (pays : a ≡ Payment) (i : ℕ) (there : find_record receipt (records_of w.table w.gate.used) ≡ At i) where
+  module _ (pays : a ≡ Payment) (i : ℕ) (there : find_record receipt (records_of w.table w.gate.used) ≡ Some i) where
     own : q.action ≡ Payment
     own = fair.action ∙ pays
 
-    found : find_record q.receipt (records_of w.table w.gate.used) ≡ At i
+    found : find_record q.receipt (records_of w.table w.gate.used) ≡ Some i
     found = ap (λ (x : ℕ). find_record x (records_of w.table w.gate.used)) fair.note ∙ there
 
     abbrev line : M.Line
@@ -102,10 +102,10 @@ reached-undisputed w₀ w r =
     }
 
 -- ---- a table that is refused has no records, and the gate gives 68
-no-record : (t : Rows) (n receipt i : ℕ) → n ≡ 0 → find_record receipt (records_of t n) ≡ At i → ⊥
+no-record : (t : Rows) (n receipt i : ℕ) → n ≡ 0 → find_record receipt (records_of t n) ≡ Some i → ⊥
 unfolding find_record records_of tab first_from
 no-record t n receipt i e h =
-    let y : Nothing ≡ At i = sym (ap (λ (m : ℕ). find_record receipt (records_of t m)) e) ∙ h in
+    let y : None ≡ Some i = sym (ap (λ (m : ℕ). find_record receipt (records_of t m)) e) ∙ h in
     let z : ◌≡◌ {A = ℕ} 0 1 = cc in
     omega arith
 

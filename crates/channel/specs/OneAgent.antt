@@ -1,11 +1,10 @@
 -- Document 02, [3], and document 01, "The channel": with one agent no payment number is sent with other money, so none of its requests gets 4.
 -- `proofs/OneAgent.antt` proves it (`one-agent : OneAgent`).
-use Rattle.std.specs.Prelude.{ℕ, ◌≡◌, true, List}
+use Rattle.std.specs.Prelude.{ℕ, ◌≡◌, true, List, Some}
 use Rattle.std.proofs.Math.Option.{some}
 use Rattle.std.proofs.Math.ListN.{get_elem?}
 use Rattle.payments.specs.declared.Action.{Action}
 use Rattle.payments.specs.declared.Action.TheVariants.{Payment}
-use Rattle.lists.specs.declared.Found.TheVariants.{At}
 use Rattle.table.specs.Table.{find_record}
 use Rattle.planning.specs.Plan.{agrees}
 use Rattle.gate.specs.Deliver.{instruction_in}
@@ -15,7 +14,7 @@ use Rattle.channel.specs.Claim.{Start, record_in, records_in}
 pub record Undisputed (w : World) : Type 0 where
   -- a payment that was sent has the number, type, amount and date of the record that its receipt has
   pub agreed : (n receipt : ℕ) (text : List ℕ) → get_elem? w.sent n ≡ some (sent_request Payment receipt text)
-      → (i : ℕ) → find_record receipt (records_in w) ≡ At i → agrees Payment (instruction_in text).details (record_in w i) ≡ true
+      → (i : ℕ) → find_record receipt (records_in w) ≡ Some i → agrees Payment (instruction_in text).details (record_in w i) ≡ true
   -- whichever request arrives, and whenever, its code is not 4
   pub answers : (n : ℕ) (a : Action) (receipt : ℕ) (text : List ℕ) → get_elem? w.sent n ≡ some (sent_request a receipt text)
       → (clock out : List ℕ) → code_of (delivers n clock out) w ≡ 4 → ⊥

@@ -1,4 +1,5 @@
 -- Laws of the walk over the lines that were read.
+use Rattle.std.specs.Prelude.{Some, None}
 use Prim.Native.Nat.{ℕ, ◌+◌, ◌-◌, ◌*◌, ◌^◌, ◌≤◌, ◌<◌}
 use native.Mathlib.Omega.{arith}
 use mathlib.Core.Path.{◌≡◌, refl, sym, ap, ◌∙◌}
@@ -10,7 +11,6 @@ use mir.Syntax.{w64}
 use mir.Val.{to_z, of_z}
 use lib.Seq.{drop-append-add, drop-drop}
 use Rattle.lines.specs.declared.line.Line.{Line}
-use Rattle.lists.specs.declared.Found.TheVariants.{At, Nothing}
 use Rattle.table.specs.declared.Gate.{Gate}
 use Rattle.table.specs.declared.Record.{Record}
 use Rattle.table.specs.Table.{Rows, records_of, rows_from, nums_of, dates_of}
@@ -161,7 +161,7 @@ module _ (turn : Turn) where
       (line-applied g t clock x (length t.nums) v judged g' t' (rw eg (applied.left g listed refl)))
 
   -- the account of what is due
-  module _ (at : ℕ) (ea : d.account ≡ At at) where
+  module _ (at : ℕ) (ea : d.account ≡ Some at) where
     funds : Funds g 10000000000000000
     funds = (going-held clock u n read t₀ whole t g i going more).backed.funds
 
@@ -196,16 +196,16 @@ module _ (turn : Turn) where
           chained = rw eu follow;
         }
 
-    pub turn-none : d.account ≡ Nothing → Kept clock u n names keys t₀ whole heads₀ next₀ t' (with_used g d.used) heads' next' (i + 1)
+    pub turn-none : d.account ≡ None → Kept clock u n names keys t₀ whole heads₀ next₀ t' (with_used g d.used) heads' next' (i + 1)
     turn-none e = turned _ refl (listed-used names keys g listed d.used) (paid-none g d x.amount e)
 
     -- what is due credited
-    pub turn-credited : (at : ℕ) → d.account ≡ At at → (z : ℤ) → z ≡ to_z w64 (of_z w64 (balance_at g at)) +ℤ pos x.amount → mag z < 2 ^ 63
+    pub turn-credited : (at : ℕ) → d.account ≡ Some at → (z : ℤ) → z ≡ to_z w64 (of_z w64 (balance_at g at)) +ℤ pos x.amount → mag z < 2 ^ 63
         → Kept clock u n names keys t₀ whole heads₀ next₀ t' (gate_balance (with_used g d.used) at z) heads' next' (i + 1)
     turn-credited at ea z ez fits =
         turned _ refl (listed-moved _ _ _ (listed-used names keys g listed d.used) _ _) (paid-at g d x.amount at ea (near at ea) z fits ez)
 
     -- and as the balance is read back
-    pub turn-credited-back : (at : ℕ) → d.account ≡ At at → (z : ℤ) → z ≡ to_z w64 (of_z w64 (balance_at g at)) +ℤ pos x.amount → mag z < 2 ^ 63
+    pub turn-credited-back : (at : ℕ) → d.account ≡ Some at → (z : ℤ) → z ≡ to_z w64 (of_z w64 (balance_at g at)) +ℤ pos x.amount → mag z < 2 ^ 63
         → Kept clock u n names keys t₀ whole heads₀ next₀ t' (gate_balance (with_used g d.used) at (to_z w64 (of_z w64 z))) heads' next' (i + 1)
     turn-credited-back at ea z ez fits = rw (back z fits) (turn-credited at ea z ez fits)

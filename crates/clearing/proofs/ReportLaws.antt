@@ -1,4 +1,5 @@
 -- Laws of the report.
+use Rattle.std.specs.Prelude.{Option}
 use Prim.Native.Nat.{ℕ, ◌+◌, ◌≤◌, ◌<◌}
 use native.Mathlib.Omega.{arith}
 use mathlib.Core.Path.{◌≡◌, refl, sym, ap, ◌∙◌}
@@ -9,7 +10,6 @@ use Rattle.texts.specs.Lists.{over}
 use Rattle.texts.proofs.OutLaws.{over-step, over_none}
 use Rattle.lines.specs.declared.line.Line.{Line}
 use Rattle.table.specs.declared.Record.{Record}
-use Rattle.lists.specs.declared.Found.{Found}
 use Rattle.lists.specs.Lists.{first_from, is_found}
 use Rattle.index.proofs.WalkLaws.{found-any}
 use Rattle.posting.specs.declared.lookup.Sought.TheVariants.{MatchedDone}
@@ -19,7 +19,7 @@ use Rattle.line_rows.specs.Lines.{LineRows, line_at, lines_of}
 use Rattle.line_rows.proofs.ReadLaws.{next-line, last_line}
 
 -- ---- a line that matches a done record
-pub done-found : (x : Line) (rs : List Record) (f : Found) → f ≡ first_from (fits MatchedDone x) 0 rs → (b : Bool) → b ≡ is_found f → b ≡ any_done x rs
+pub done-found : (x : Line) (rs : List Record) (f : Option ℕ) → f ≡ first_from (fits MatchedDone x) 0 rs → (b : Bool) → b ≡ is_found f → b ≡ any_done x rs
 unfolding any_done
 done-found x rs f e b eb = eb ∙ ap is_found e ∙ found-any (fits MatchedDone x) (any_done x) refl (λ r l. refl) 0 rs
 

@@ -1,4 +1,5 @@
 -- Laws of the sweep.
+use Rattle.std.specs.Prelude.{Option, Some, None}
 use Prim.Native.Nat.{ℕ, zero, suc, ◌+◌, ◌-◌, ◌*◌, ◌^◌, ◌≤◌, ◌<◌}
 use native.Mathlib.Omega.{arith}
 use mathlib.Core.Path.{◌≡◌, refl, sym, ap, ◌∙◌}
@@ -28,8 +29,6 @@ use Rattle.index.proofs.ChainLaws.{slot-below, chained_same}
 use Rattle.index.proofs.WalkLaws.{Walk, walk_from, walk-hit, walk-next, walk_none, found-any}
 use Rattle.lists.specs.Lists.{first_from, is_found}
 use borrow.Author.Tests.{not-true, not-false}
-use Rattle.lists.specs.declared.Found.{Found}
-use Rattle.lists.specs.declared.Found.TheVariants.{At, Nothing}
 use Rattle.days.specs.declared.calendar.Day.{Day}
 use Rattle.lines.specs.declared.line.Line.{Line}
 use Rattle.table.specs.declared.Gate.{Gate}
@@ -237,8 +236,8 @@ module _ (turn : Turn) where
   turn-skip e = record { most = omega (arith, more); nums-kept = kept.nums-kept; numbers-kept = kept.numbers-kept; dates-kept = kept.dates-kept; listed = listed; sweeping = skip e }
 
   -- what is cancelled is debited, where its account is known
-  module _ (f : Found) (ef : f ≡ find_account r.number r.kind (holders_of names keys)) where
-    module _ (at : ℕ) (ea : f ≡ At at) where
+  module _ (f : Option ℕ) (ef : f ≡ find_account r.number r.kind (holders_of names keys)) where
+    module _ (at : ℕ) (ea : f ≡ Some at) where
       funds : Funds g 10000000000000000
       funds = (sweeping-held sweeping more).backed.funds
 
@@ -263,15 +262,15 @@ module _ (turn : Turn) where
             sweeping = on e g' t' (revoked-out g t _ sweeping.held clock r i place t' et f (ef ∙ listed-find names keys g listed r.number r.kind) g' eg);
           }
 
-      pub turn-none : f ≡ Nothing → Kept clock day xs names keys t₀ g₀ t' g (i + 1)
+      pub turn-none : f ≡ None → Kept clock day xs names keys t₀ g₀ t' g (i + 1)
       turn-none none = cancelled g listed (debited-none g f r.amount none)
 
-      pub turn-debited : (at : ℕ) → f ≡ At at → (z : ℤ) → z ≡ to_z w64 (of_z w64 (balance_at g at)) -ℤ pos r.amount → mag z < 2 ^ 63
+      pub turn-debited : (at : ℕ) → f ≡ Some at → (z : ℤ) → z ≡ to_z w64 (of_z w64 (balance_at g at)) -ℤ pos r.amount → mag z < 2 ^ 63
           → Kept clock day xs names keys t₀ g₀ t' (gate_balance g at z) (i + 1)
       turn-debited at ea z ez fits = cancelled _ (listed-moved names keys g listed at z) (debited-at g f r.amount at ea (near at ea) z fits ez)
 
       -- and as the balance is read back
-      pub turn-debited-back : (at : ℕ) → f ≡ At at → (z : ℤ) → z ≡ to_z w64 (of_z w64 (balance_at g at)) -ℤ pos r.amount → mag z < 2 ^ 63
+      pub turn-debited-back : (at : ℕ) → f ≡ Some at → (z : ℤ) → z ≡ to_z w64 (of_z w64 (balance_at g at)) -ℤ pos r.amount → mag z < 2 ^ 63
           → Kept clock day xs names keys t₀ g₀ t' (gate_balance g at (to_z w64 (of_z w64 z))) (i + 1)
       turn-debited-back at ea z ez fits = rw (back z fits) (turn-debited at ea z ez fits)
 

@@ -10,7 +10,6 @@ ghost use Rattle.posting.specs.Steps.{Held, Left};
 ghost use Rattle.line_rows.specs.Lines.{lines_of, Read, lines_lent};
 
 use line_rows::reading;
-use lists::Found;
 use posting::{applying, lookup, verdict};
 use table::{Gate, accounts};
 
@@ -55,7 +54,7 @@ pub fn settle_lines(
         gate.used = due.used;
         i += 1;
         let account = due.account;
-        let Found::At(at) = account else {
+        let Some(at) = account else {
             continue;
         };
         let mut a = gate.accounts[at];

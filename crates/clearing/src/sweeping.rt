@@ -15,7 +15,6 @@ ghost use Rattle.line_rows.specs.Lines.{lines_of, Read, lines_lent};
 use days::calendar::Day;
 use ledger::change;
 use line_rows::reading;
-use lists::Found;
 use posting::matching;
 use table::{Gate, Record, accounts, daily, rows};
 
@@ -88,7 +87,7 @@ fn revoke_at(
     i: usize,
     names: &[[u8; 30]],
     keys: &[[u64; 3]],
-) -> Found
+) -> Option<usize>
     requires { (i < length nums.old) × (i < length numbers.old) × (i < length dates.old) × Keyed names.now keys.now }
     ensures dates_value { lent nums.new numbers.new dates.new ≡ rows_with (lent nums.old numbers.old dates.old) i (revoked clock r) }
     ensures value { result ≡ find_account r.number r.kind (holders_of names.now keys.now) }
@@ -138,7 +137,7 @@ pub fn sweep(
         }
         let account = revoke_at(nums, numbers, dates, clock, r, i, names, keys);
         i += 1;
-        let Found::At(at) = account else {
+        let Some(at) = account else {
             continue;
         };
         let mut a = gate.accounts[at];

@@ -1,4 +1,5 @@
 -- What a line's turn looks at: fields to the fifth, each to 31 bytes, and the parameters of an R to 2,049. A line cut to that has the same turn.
+use Rattle.std.specs.Prelude.{Option, Some, None}
 use Prim.Native.Nat.{ℕ, zero, suc, ◌≤◌, ◌<◌}
 use native.Mathlib.Nat.{le_of_suc-le-suc, not-suc-le-zero}
 use native.Mathlib.Decide.{dec_lt}
@@ -11,9 +12,6 @@ use lib.ListN.{length, get_or, take, replicate}
 use lib.Seq.{take_all, length-take-le, take-nil}
 use borrow.Author.Tests.{le-leb, lt-leb, eq-eqb, ne_eqb, eqb-true, eqb-false, leb-true, leb-false}
 use Rattle.texts.proofs.Tests.{by-test}
-use Rattle.texts.specs.declared.digits.Digits.{Digits}
-use Rattle.texts.specs.declared.digits.Digits.TheVariants.{Value, Malformed}
-use Rattle.days.specs.declared.calendar.DayRead.TheVariants.{NoDate}
 use Rattle.texts.specs.Lists.{find, eq_list}
 use Rattle.texts.specs.Digits.{digits_read, range_read}
 use Rattle.fields.specs.Codes.{kind_read}
@@ -192,12 +190,12 @@ letter-cut x [] = refl
 letter-cut x (a ∷ []) = refl
 letter-cut x (a ∷ (b ∷ s)) = refl
 
-long-digits : (most : ℕ) (s : List ℕ) → most < length s → digits_read most s ≡ Malformed
+long-digits : (most : ℕ) (s : List ℕ) → most < length s → digits_read most s ≡ None
 unfolding digits_read
 long-digits most s h = rw (lt-leb (length s) most h, and-false)
 
 digits-cut : (most : ℕ) → most < 31 → (s : List ℕ) → digits_read most (take 31 s) ≡ digits_read most s
-digits-cut most h = cut-read (digits_read most) Malformed 31 (λ u l. long-digits most u (omega arith))
+digits-cut most h = cut-read (digits_read most) None 31 (λ u l. long-digits most u (omega arith))
 
 kind-cut : (s : List ℕ) → kind_read (take 31 s) ≡ kind_read s
 unfolding range_read
@@ -209,7 +207,7 @@ number_cut = cut-read number_read no_number 31 (λ u l. rw (lt-leb (length u) 30
 
 day-cut : (s : List ℕ) → day_read (take 31 s) ≡ day_read s
 unfolding day_read
-day-cut = cut-read day_read NoDate 31 (λ u l. rw (ne_eqb (length u) 10 (λ q. absurd (omega arith))))
+day-cut = cut-read day_read None 31 (λ u l. rw (ne_eqb (length u) 10 (λ q. absurd (omega arith))))
 
 date-cut : (s : List ℕ) → date_read (take 31 s) ≡ date_read s
 unfolding date_read date_day
@@ -279,9 +277,9 @@ module _ (x : Console) (t : Rows) (u l : List ℕ) where
       unfolding draw_turn
       draw-cut third = rw (third, digits-cut 15 (omega arith) (field_at 3 l)) (of (digits_read 15 (field_at 3 l)))
         where
-          of : (d : Digits) → draw_of x t u d ≡ draw_of x t l d
-          of Malformed = refl
-          of (Value n) = rw (first, number_cut (field_at 1 l), second, kind-cut (field_at 2 l))
+          of : (d : Option ℕ) → draw_of x t u d ≡ draw_of x t l d
+          of None = refl
+          of (Some n) = rw (first, number_cut (field_at 1 l), second, kind-cut (field_at 2 l))
 
   order-ask : has_letter 79 u ≡ false → has_letter 79 l ≡ false → has_letter 68 u ≡ false → has_letter 68 l ≡ false
       → has_letter 80 u ≡ false → has_letter 80 l ≡ false

@@ -1,4 +1,5 @@
 -- Laws of what a line prints: what it rests on, how long it is, and that the table keeps its places.
+use Rattle.std.specs.Prelude.{Option, Some, None}
 use Prim.Native.Nat.{ℕ, ◌+◌, ◌-◌, ◌*◌, ◌≤◌, ◌<◌}
 use native.Mathlib.Omega.{arith}
 use mathlib.Core.Path.{◌≡◌, refl, sym, ap, subst, ◌∙◌}
@@ -9,12 +10,8 @@ use lib.ListN.{length, set, replicate, length-set, length-append}
 use borrow.Author.Tests.{lt-ltb, le-ltb, ltb-true, ltb-false}
 use Rattle.texts.specs.Lists.{written, cursor_after}
 use Rattle.texts.proofs.Tests.{and_left, cond-elim, by-test}
-use Rattle.texts.specs.declared.digits.Digits.{Digits}
-use Rattle.texts.specs.declared.digits.Digits.TheVariants.{Value, Malformed}
 use Rattle.texts.specs.Digits.{digits_read}
 use Rattle.days.specs.declared.calendar.Day.{Day}
-use Rattle.days.specs.declared.calendar.DayRead.{DayRead}
-use Rattle.days.specs.declared.calendar.DayRead.TheVariants.{Good, NoDate}
 use Rattle.days.specs.Calendar.{day_read}
 use Rattle.dates.specs.Date.{date_read}
 use Rattle.lists.proofs.LentLaws.{lent-facts}
@@ -106,13 +103,13 @@ module _ (x : Console) (t : Rows) (l : List ℕ) where
   abbrev Shows : Turn → Type 0
   Shows r = (length r.rows.nums ≡ length t.nums) × Showable r.shown r.rows r.console.gate.used
 
-  draw-of-shows : (d : Digits) → Shows (draw_of x t l d)
-  draw-of-shows Malformed = (refl, tt)
-  draw-of-shows (Value m) = (refl, tt)
+  draw-of-shows : (d : Option ℕ) → Shows (draw_of x t l d)
+  draw-of-shows None = (refl, tt)
+  draw-of-shows (Some m) = (refl, tt)
 
-  list-of-shows : (d : DayRead) → Shows (list_of x t d)
-  list-of-shows NoDate = (refl, tt)
-  list-of-shows (Good d) = cond-elim Shows (table_good x.gate t) _ _ (λ good. (refl, good-payable x.gate t good)) (λ _. (refl, tt))
+  list-of-shows : (d : Option Day) → Shows (list_of x t d)
+  list-of-shows None = (refl, tt)
+  list-of-shows (Some d) = cond-elim Shows (table_good x.gate t) _ _ (λ good. (refl, good-payable x.gate t good)) (λ _. (refl, tt))
 
   order-shows : Shows (order_turn x t l)
   unfolding order_turn open_turn draw_turn ask_turn list_turn

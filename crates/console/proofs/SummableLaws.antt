@@ -1,4 +1,6 @@
 -- A line leaves balances that can be summed: it moves at most one, and only where all are in the bound of row 68.
+use Rattle.std.specs.Prelude.{Option, Some, None}
+use Rattle.days.specs.declared.calendar.Day.{Day}
 use Prim.Native.Nat.{ℕ, zero, suc, ◌+◌, ◌<◌, ◌≤◌}
 use native.Mathlib.Decide.{ℕ_discrete}
 use native.Mathlib.Omega.{arith}
@@ -10,10 +12,6 @@ use lib.IntN.{ℤ, pos, ◌+ℤ◌}
 use lib.Signed.{mag, lt_z}
 use lib.ListN.{length, get_or, set, replicate, length-set}
 use borrow.Author.Tests.{leb-false, not-true}
-use Rattle.days.specs.declared.calendar.DayRead.{DayRead}
-use Rattle.days.specs.declared.calendar.DayRead.TheVariants.{Good, NoDate}
-use Rattle.texts.specs.declared.digits.Digits.{Digits}
-use Rattle.texts.specs.declared.digits.Digits.TheVariants.{Value, Malformed}
 use Rattle.fields.specs.declared.number.Number.{Number}
 use Rattle.texts.specs.Digits.{digits_read}
 use Rattle.fields.specs.Amount.{is_amount}
@@ -24,8 +22,6 @@ use Rattle.dates.specs.Date.{date_read}
 use Rattle.texts.proofs.Tests.{and_right, cond-elim}
 use Rattle.payments.specs.declared.Instruction.{Instruction}
 use Rattle.message.specs.Request.{request_read}
-use Rattle.lists.specs.declared.Found.{Found}
-use Rattle.lists.specs.declared.Found.TheVariants.{At, Nothing}
 use Rattle.lists.specs.Lists.{is_found}
 use Rattle.table.specs.declared.Account.{Account}
 use Rattle.table.specs.declared.Gate.{Gate}
@@ -111,10 +107,10 @@ module _ (g : Gate) (s : Summable g) where
           balances = λ i h. omega (arith, near-mag (balance_at g' i) (near.balances i h));
         }
 
-    debited-summable : (f : Found) (n : Number) (k m : ℕ) → f ≡ find_account n k (accounts_of g) → is_short g f m ≡ false → Summable (debited_at g f m)
-    debited-summable Nothing n k m is funds = s
-    debited-summable (At a) n k m is funds =
-        near-summable (debited g a m) (names-debited g (At a) m) (near-debited g a m bound (holder-within g n k a (At a) is refl) funds)
+    debited-summable : (f : Option ℕ) (n : Number) (k m : ℕ) → f ≡ find_account n k (accounts_of g) → is_short g f m ≡ false → Summable (debited_at g f m)
+    debited-summable None n k m is funds = s
+    debited-summable (Some a) n k m is funds =
+        near-summable (debited g a m) (names-debited g (Some a) m) (near-debited g a m bound (holder-within g n k a (Some a) is refl) funds)
 
     credited-summable : (a m used : ℕ) → a < g.count → m < 1000000000 → Summable (with_used (credited g a m) used)
     unfolding credited
@@ -129,12 +125,12 @@ module _ (g : Gate) (s : Summable g) where
               (s.balances i l);
         }
 
-    draw-on-summable : (f : Found) (n : Number) (k m : ℕ) → f ≡ find_account n k (accounts_of g) → Sums (draw_on g f m)
+    draw-on-summable : (f : Option ℕ) (n : Number) (k m : ℕ) → f ≡ find_account n k (accounts_of g) → Sums (draw_on g f m)
     unfolding draw_on
-    draw-on-summable Nothing n k m is = s
-    draw-on-summable (At a) n k m is =
+    draw-on-summable None n k m is = s
+    draw-on-summable (Some a) n k m is =
         cond-elim Sums (is_amount m && not (lt_z (balance_at g a) (pos m))) _ _
-        (λ covered. debited-summable (At a) n k m is (not-true _ (and_right (is_amount m) _ covered)))
+        (λ covered. debited-summable (Some a) n k m is (not-true _ (and_right (is_amount m) _ covered)))
         (λ _. s)
 
     outcome-summable : (clock : List ℕ) (q : Instruction) (d : Delivery) → q.details.amount < 1000000000 → Outcome g t clock q d → Summable d.gate
@@ -162,21 +158,21 @@ module _ (x : Console) (t : Rows) (l : List ℕ) (s : Summable x.gate) where
   abbrev Left : Turn → Type 0
   Left r = Summable r.console.gate
 
-  start-on-summable : (d : DayRead) → Left (start_on x t d)
-  start-on-summable NoDate = s
-  start-on-summable (Good d) = record { places = s.places; count = s.count; balances = s.balances }
+  start-on-summable : (d : Option Day) → Left (start_on x t d)
+  start-on-summable None = s
+  start-on-summable (Some d) = record { places = s.places; count = s.count; balances = s.balances }
 
   start-summable : Left (start_turn x t l)
   unfolding start_turn
   start-summable = cond-elim Left (has_letter 67 l && eqb (field_count l) 2) _ _ (λ _. start-on-summable (day_read (field_at 1 l))) (λ _. s)
 
-  draw-of-summable : (d : Digits) → Left (draw_of x t l d)
-  draw-of-summable Malformed = s
-  draw-of-summable (Value m) = draw-summable x.gate s t (number_read (field_at 1 l)).number (kind_in (kind_read (field_at 2 l))) m
+  draw-of-summable : (d : Option ℕ) → Left (draw_of x t l d)
+  draw-of-summable None = s
+  draw-of-summable (Some m) = draw-summable x.gate s t (number_read (field_at 1 l)).number (kind_in (kind_read (field_at 2 l))) m
 
-  list-of-summable : (d : DayRead) → Left (list_of x t d)
-  list-of-summable NoDate = s
-  list-of-summable (Good d) = cond-elim Left (table_good x.gate t) _ _ (λ _. s) (λ _. s)
+  list-of-summable : (d : Option Day) → Left (list_of x t d)
+  list-of-summable None = s
+  list-of-summable (Some d) = cond-elim Left (table_good x.gate t) _ _ (λ _. s) (λ _. s)
 
   order-summable : Left (order_turn x t l)
   unfolding order_turn open_turn draw_turn ask_turn list_turn

@@ -1,4 +1,5 @@
 -- Laws of written dates.
+use Rattle.std.specs.Prelude.{Option, Some, None}
 use Prim.Native.Nat.{ℕ, ◌+◌, ◌-◌, ◌*◌, ◌≤◌, ◌<◌}
 use native.Mathlib.Nat.{add_assoc, le_trans}
 use native.Mathlib.Omega.{arith}
@@ -11,8 +12,6 @@ use lib.Dec.{eqb, leb}
 use lib.ListN.{get_or, length, drop, drop_of_length-le}
 use borrow.Author.Tests.{le-leb, lt-leb, eq-eqb, ne_eqb, leb-true, eqb-true, not-true, not-false}
 use Rattle.days.specs.declared.calendar.Day.{Day}
-use Rattle.days.specs.declared.calendar.DayRead.{DayRead}
-use Rattle.days.specs.declared.calendar.DayRead.TheVariants.{Good, NoDate}
 use Rattle.dates.specs.declared.date.DateRead.{DateRead}
 use Rattle.texts.specs.Lists.{every, written}
 use Rattle.texts.specs.Digits.{is_digit}
@@ -53,11 +52,11 @@ module _ (s : List ℕ) where
   second_is h m t a b c eh lh em lm et = rw (← eh, ← em, ← et) (simp (eq-eqb _ _ a, eq-eqb _ _ b, eq-eqb _ _ c, le-leb h 23 lh, le-leb m 59 lm))
 
   module _ (t : Bool) (test : t ≡ clock_time s) where
-    pub date-no-time : t ≡ false → NoDate ≡ date_day s
+    pub date-no-time : t ≡ false → None ≡ date_day s
     unfolding date_day
     date-no-time f = rw (← test, f) (simp and-false)
 
-    pub date-good : t ≡ true → length s ≡ 19 → (c y m d : ℕ) (r : DayRead)
+    pub date-good : t ≡ true → length s ≡ 19 → (c y m d : ℕ) (r : Option Day)
         → c ≡ two_digits (get_or s 0 0) (get_or s 1 0) → y ≡ two_digits (get_or s 2 0) (get_or s 3 0)
         → m ≡ two_digits (get_or s 5 0) (get_or s 6 0) → d ≡ two_digits (get_or s 8 0) (get_or s 9 0)
         → r ≡ day_with (get_or s 4 0) (get_or s 7 0) c y m d → r ≡ date_day s
@@ -75,11 +74,11 @@ module _ (s : List ℕ) where
         → r ≡ on_day day (day_with (get_or s 4 0) (get_or s 7 0) c y m d) → r ≡ on_day day (date_day s)
     on-good f l day c y m d r ec ey em ed e = e ∙ ap (on_day day) (date-good f l c y m d _ ec ey em ed refl)
 
-  module _ (x : DayRead) (ex : x ≡ date_day s) where
-    pub written_is : (y : Day) → x ≡ Good y → true ≡ is_written s
+  module _ (x : Option Day) (ex : x ≡ date_day s) where
+    pub written_is : (y : Day) → x ≡ Some y → true ≡ is_written s
     written_is y e = rw (← ex, e)
 
-    pub written-not : x ≡ NoDate → false ≡ is_written s
+    pub written-not : x ≡ None → false ≡ is_written s
     written-not e = rw (← ex, e)
 
 -- ---- a field that holds one
@@ -122,9 +121,9 @@ module _ (s : List ℕ) where
     pub on-written : on_day day (date_day s) ≡ true → is_written s ≡ true
     on-written = go (date_day s)
       where
-        go : (x : DayRead) → on_day day x ≡ true → found x ≡ true
-        go (Good y) h = refl
-        go NoDate h = h
+        go : (x : Option Day) → on_day day x ≡ true → found x ≡ true
+        go (Some y) h = refl
+        go None h = h
 
   -- a written date is read back
   pub date-again : is_written s ≡ true → date_read s ≡ record { ok = true; date = s }
@@ -134,31 +133,31 @@ module _ (s : List ℕ) where
 -- ---- the day of a written date
 -- the tests that a day which was read has passed
 module _ (s : List ℕ) (x : Day) where
-  part-tests : day_part s ≡ Good x
+  part-tests : day_part s ≡ Some x
       → (eqb (get_or s 4 0) 45 && (eqb (get_or s 7 0) 45 && (eqb (two_at s 0) 20 && leb (two_at s 2) 99)) ≡ true)
-      × (day_of (2000 + two_at s 2) (two_at s 5) (two_at s 8) ≡ Good x)
+      × (day_of (2000 + two_at s 2) (two_at s 5) (two_at s 8) ≡ Some x)
   unfolding day_part
   part-tests e = read-good _ _ (read-good (leb 10 (length s)) _ e).1
 
-  date-tests : date_day s ≡ Good x → (eqb (length s) 19 && clock_time s ≡ true) × (day_part s ≡ Good x)
+  date-tests : date_day s ≡ Some x → (eqb (length s) 19 && clock_time s ≡ true) × (day_part s ≡ Some x)
   unfolding date_day
   date-tests = read-good _ _
 
-  pub part-is-day : day_part s ≡ Good x → is_day x ≡ true
+  pub part-is-day : day_part s ≡ Some x → is_day x ≡ true
   part-is-day e =
       (made _ (record { year = 2000 + two_at s 2; month = two_at s 5; day = two_at s 8 }) x refl (part-tests e).1).0
 
 pub record DayOf (s : List ℕ) : Type 0 where
   pub day : Day
-  pub is : date_day s ≡ Good day
+  pub is : date_day s ≡ Some day
   pub good : is_day day ≡ true
 
 pub date-day : (s : List ℕ) → is_written s ≡ true → DayOf s
 date-day s = go (date_day s) refl
   where
-    go : (r : DayRead) → date_day s ≡ r → found r ≡ true → DayOf s
-    go (Good x) e h = record { day = x; is = e; good = part-is-day s x (date-tests s x e).1 }
-    go NoDate e h = let z : ◌≡◌ {A = ℕ} 0 1 = cc in absurd (omega arith)
+    go : (r : Option Day) → date_day s ≡ r → found r ≡ true → DayOf s
+    go (Some x) e h = record { day = x; is = e; good = part-is-day s x (date-tests s x e).1 }
+    go None e h = let z : ◌≡◌ {A = ℕ} 0 1 = cc in absurd (omega arith)
 
 -- ---- what stands where
 -- what the test `is_written` says
@@ -277,7 +276,7 @@ module _ (s : List ℕ) (h : is_written s ≡ true) where
 
   pub day-written : (y m d : ℕ)
       → y ≡ two_digits (get_or s 2 0) (get_or s 3 0) → m ≡ two_digits (get_or s 5 0) (get_or s 6 0) → d ≡ two_digits (get_or s 8 0) (get_or s 9 0)
-      → date_day s ≡ Good (record { year = 2000 + y; month = m; day = d })
+      → date_day s ≡ Some (record { year = 2000 + y; month = m; day = d })
   unfolding day_of
   day-written y m d ey em ed =
       let x = date-day s h in
@@ -292,12 +291,12 @@ module _ (s : List ℕ) (t : Bool) (et : t ≡ is_written s) where
   pub until_none : not t ≡ true → (last : Day) → true ≡ up_to last (date_day s)
   until_none n last = go (date_day s) (sym et ∙ not-true t n)
     where
-      go : (x : DayRead) → found x ≡ false → true ≡ up_to last x
-      go (Good y) e = no-claim (sym e)
-      go NoDate e = refl
+      go : (x : Option Day) → found x ≡ false → true ≡ up_to last x
+      go (Some y) e = no-claim (sym e)
+      go None e = refl
 
-pub until-written : (s : List ℕ) (last own : Day) → date_day s ≡ Good own → (r : Bool) → r ≡ day_before last own → not r ≡ up_to last (date_day s)
+pub until-written : (s : List ℕ) (last own : Day) → date_day s ≡ Some own → (r : Bool) → r ≡ day_before last own → not r ≡ up_to last (date_day s)
 until-written s last own e r q = ap not q ∙ rw e
 
-pub same-on : (s : List ℕ) (day own : Day) → date_day s ≡ Good own → (r : Bool) → r ≡ same_day own day → r ≡ on_day day (date_day s)
+pub same-on : (s : List ℕ) (day own : Day) → date_day s ≡ Some own → (r : Bool) → r ≡ same_day own day → r ≡ on_day day (date_day s)
 same-on s day own e r q = q ∙ rw e

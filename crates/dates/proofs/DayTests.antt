@@ -1,4 +1,5 @@
 -- Tests of days are tests of their numbers.
+use Rattle.std.specs.Prelude.{Option, Some, None}
 use Prim.Native.Nat.{ℕ, suc, ◌≤◌}
 use native.Mathlib.Omega.{arith}
 use mathlib.Core.Path.{◌≡◌, refl, sym, ap, ◌∙◌}
@@ -7,8 +8,6 @@ use mathlib.Core.List.{List}
 use lib.Dec.{eqb, leb, ltb}
 use borrow.Author.Tests.{eq-eqb, eqb-true, lt-leb, le-leb, le-ltb, ltb-true, ltb-false}
 use Rattle.days.specs.declared.calendar.Day.{Day}
-use Rattle.days.specs.declared.calendar.DayRead.{DayRead}
-use Rattle.days.specs.declared.calendar.DayRead.TheVariants.{Good, NoDate}
 use Rattle.days.specs.Calendar.{is_day, day_before, same_day, next_day, on_day, up_to, day_number, day_key}
 use Rattle.dates.specs.Date.{date_day, is_written}
 use Rattle.texts.proofs.Tests.{no-claim, same_bool}
@@ -33,9 +32,9 @@ same-number x y p q =
     (λ h. ap (same_day x) (sym (number_same x y p q (eqb-true _ _ h))) ∙ same-day-refl x)
 
 -- ---- a written date's day, by its number; what is no date has none
-abbrev pub read_number : DayRead → ℕ
-read_number NoDate = 0
-read_number (Good d) = day_number d
+abbrev pub read_number : Option Day → ℕ
+read_number None = 0
+read_number (Some d) = day_number d
 
 abbrev pub date_number : List ℕ → ℕ
 date_number s = read_number (date_day s)
@@ -50,7 +49,7 @@ on-day day date p w = let d = date-day date w in rw d.is (same-number d.day day 
 
 -- ---- the next day
 -- no day is after one that has no next
-last_one : (day last : Day) → is_day day ≡ true → is_day last ≡ true → next_day last ≡ NoDate → day_before last day ≡ false
+last_one : (day last : Day) → is_day day ≡ true → is_day last ≡ true → next_day last ≡ None → day_before last day ≡ false
 unfolding day_before
 last_one day last p q e =
     let z = next-none last q e in
@@ -62,13 +61,13 @@ last_one day last p q e =
 pub next-test : (day last : Day) → is_day day ≡ true → is_day last ≡ true → on_day day (next_day last) ≡ eqb (day_number day) (suc (day_number last))
 next-test day last p q = go (next_day last) refl
   where
-    go : (r : DayRead) → next_day last ≡ r → on_day day r ≡ eqb (day_number day) (suc (day_number last))
-    go (Good y) e =
+    go : (r : Option Day) → next_day last ≡ r → on_day day r ≡ eqb (day_number day) (suc (day_number last))
+    go (Some y) e =
         same-number y day (next-is-day last y e) p
         ∙ same_bool (eqb (day_number y) (day_number day)) (eqb (day_number day) (suc (day_number last)))
         (λ h. eq-eqb _ _ (sym (eqb-true _ _ h) ∙ next-number last y e))
         (λ h. eq-eqb _ _ (next-number last y e ∙ sym (eqb-true _ _ h)))
-    go NoDate e = sym (no_more (eqb (day_number day) (suc (day_number last))) refl)
+    go None e = sym (no_more (eqb (day_number day) (suc (day_number last))) refl)
       where
         no_more : (t : Bool) → eqb (day_number day) (suc (day_number last)) ≡ t → t ≡ false
         no_more false h = refl
@@ -81,6 +80,6 @@ next-test day last p q = go (next_day last) refl
 pub next-is-date : (day last : Day) → on_day day (next_day last) ≡ true → is_day day ≡ true
 next-is-date day last h = go (next_day last) refl h
   where
-    go : (r : DayRead) → next_day last ≡ r → on_day day r ≡ true → is_day day ≡ true
-    go NoDate e h = no-claim h
-    go (Good y) e h = ap is_day (sym (same-day y day h)) ∙ next-is-day last y e
+    go : (r : Option Day) → next_day last ≡ r → on_day day r ≡ true → is_day day ≡ true
+    go None e h = no-claim h
+    go (Some y) e h = ap is_day (sym (same-day y day h)) ∙ next-is-day last y e

@@ -1,9 +1,9 @@
 -- Document 01, "Sample cases": K3 to K6, over the definitions.
+use Rattle.std.specs.Prelude.{Some}
 use Prim.Native.Nat.{ℕ}
 use mathlib.Core.Path.{◌≡◌, refl}
 use mathlib.Core.Bool.{true}
 use mathlib.Core.List.{List, [], ◌∷◌}
-use Rattle.texts.specs.declared.digits.Digits.TheVariants.{Value}
 use Rattle.texts.specs.Lists.{every, find}
 use Rattle.texts.specs.Digits.{digits_read, range_read}
 use Rattle.fields.specs.Amount.{kopecks_after, amount_read, amount_fault}
@@ -19,7 +19,7 @@ amount_most = 57 ∷ 57 ∷ 57 ∷ 57 ∷ 57 ∷ 57 ∷ 57 ∷ 46 ∷ 57 ∷ 57 
 abbrev pub amount_over : List ℕ
 amount_over = 49 ∷ 48 ∷ 48 ∷ 48 ∷ 48 ∷ 48 ∷ 48 ∷ 48 ∷ []
 
-pub k3 : (amount_read amount_most ≡ Value 999999999) × (amount_fault (amount_read amount_over) ≡ 3)
+pub k3 : (amount_read amount_most ≡ Some 999999999) × (amount_fault (amount_read amount_over) ≡ 3)
 unfolding every find digits_read kopecks_after amount_read
 k3 = (refl, refl)
 
@@ -43,8 +43,8 @@ three_decimals = 49 ∷ 48 ∷ 46 ∷ 49 ∷ 50 ∷ 53 ∷ []
 abbrev pub one_decimal : List ℕ
 one_decimal = 55 ∷ 46 ∷ 53 ∷ []
 
-pub k4 : (amount_read one_kopeck ≡ Value 1) × (amount_fault (amount_read no_kopecks) ≡ 3) × (amount_fault (amount_read point_alone) ≡ 3)
-    × (amount_fault (amount_read three_decimals) ≡ 3) × (amount_read one_decimal ≡ Value 750)
+pub k4 : (amount_read one_kopeck ≡ Some 1) × (amount_fault (amount_read no_kopecks) ≡ 3) × (amount_fault (amount_read point_alone) ≡ 3)
+    × (amount_fault (amount_read three_decimals) ≡ 3) × (amount_read one_decimal ≡ Some 750)
 unfolding every find digits_read kopecks_after amount_read
 k4 = (refl, refl, refl, refl, refl)
 
@@ -60,7 +60,7 @@ receipt_long = 57 ∷ 57 ∷ 57 ∷ 57 ∷ 57 ∷ 57 ∷ 57 ∷ 57 ∷ 57 ∷ 57
 abbrev pub receipt_zero : List ℕ
 receipt_zero = 48 ∷ []
 
-pub k5 : (receipt_read receipt_most ≡ Value 999999999999999) × (receipt_fault (receipt_read receipt_long) ≡ 4) × (receipt_fault (receipt_read receipt_zero) ≡ 4)
+pub k5 : (receipt_read receipt_most ≡ Some 999999999999999) × (receipt_fault (receipt_read receipt_long) ≡ 4) × (receipt_fault (receipt_read receipt_zero) ≡ 4)
 unfolding every digits_read range_read
 k5 = (refl, refl, refl)
 

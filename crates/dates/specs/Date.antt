@@ -1,7 +1,6 @@
 -- Document 01, "Fields": written dates, YYYY-MM-DDThh:mm:ss, nineteen bytes.
-use Rattle.std.specs.Prelude.{ℕ, List, Bool, true, false, cond, ◌&&◌, get_or, length, replicate, leb, eqb}
-use Rattle.days.specs.declared.calendar.DayRead.{DayRead}
-use Rattle.days.specs.declared.calendar.DayRead.TheVariants.{Good, NoDate}
+use Rattle.days.specs.declared.calendar.Day.{Day}
+use Rattle.std.specs.Prelude.{ℕ, List, Bool, true, false, cond, ◌&&◌, get_or, length, replicate, leb, eqb, Option, Some, None}
 use Rattle.dates.specs.declared.date.DateRead.{DateRead}
 use Rattle.days.specs.Calendar.{two_at, day_part}
 
@@ -12,12 +11,12 @@ clock_time s =
     && (eqb (get_or s 13 0) 58 && (eqb (get_or s 16 0) 58 && (leb (two_at s 11) 23 && (leb (two_at s 14) 59 && leb (two_at s 17) 59))))
 
 -- the day of a written date
-unfoldable pub date_day : List ℕ → DayRead
-date_day s = cond (eqb (length s) 19 && clock_time s) (day_part s) NoDate
+unfoldable pub date_day : List ℕ → Option Day
+date_day s = cond (eqb (length s) 19 && clock_time s) (day_part s) None
 
-abbrev pub found : DayRead → Bool
-found (Good x) = true
-found NoDate = false
+abbrev pub found : Option Day → Bool
+found (Some x) = true
+found None = false
 
 -- whether nineteen bytes are a written date
 abbrev pub is_written : List ℕ → Bool

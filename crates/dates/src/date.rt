@@ -1,12 +1,11 @@
 // Written dates: nineteen bytes, YYYY-MM-DDThh:mm:ss.
 ghost use Rattle.std.specs.Prelude.{◌≡◌, true, ◌<◌, ◌≤◌, length};
 ghost use Rattle.days.specs.Calendar.{on_day, up_to, two_digits};
-ghost use Rattle.days.specs.declared.calendar.DayRead.TheVariants.{Good};
 ghost use Rattle.dates.specs.Date.{clock_time, date_day, is_written, empty_date, no_date, date_read};
 ghost use Rattle.texts.specs.Lists.{eq_list, written, cursor_after};
 
 use days::calendar;
-use days::calendar::{Day, DayRead};
+use days::calendar::Day;
 use texts::{out, scan};
 
 // A written date, or `ok` false and nineteen zero bytes.
@@ -39,7 +38,7 @@ fn has_time(d: [u8; 19]) -> bool
 }
 
 // The day of a written date.
-pub fn day_of_date(d: [u8; 19]) -> DayRead
+pub fn day_of_date(d: [u8; 19]) -> Option<Day>
     ensures { result ≡ date_day d }
 {
     if has_time(d) {
@@ -49,7 +48,7 @@ pub fn day_of_date(d: [u8; 19]) -> DayRead
         let day = calendar::two(d[8], d[9]);
         calendar::day_with(d[4], d[7], century, y, month, day)
     } else {
-        DayRead::NoDate
+        None
     }
 }
 
@@ -59,8 +58,8 @@ pub fn is_written(d: [u8; 19]) -> bool
 {
     let x = day_of_date(d);
     match x {
-        DayRead::Good(_) => true,
-        DayRead::NoDate => false,
+        Some(_) => true,
+        None => false,
     }
 }
 

@@ -1,4 +1,5 @@
 -- Laws of days, at each way out of the calendar's functions.
+use Rattle.std.specs.Prelude.{Option, Some, None}
 use Prim.Native.Nat.{ℕ, ◌+◌, ◌-◌, ◌*◌, ◌%◌, ◌≤◌, ◌<◌}
 use native.Mathlib.Omega.{arith}
 use mathlib.Core.Path.{◌≡◌, refl, sym, ◌∙◌}
@@ -11,8 +12,6 @@ use lib.Dec.{eqb, leb, ltb}
 use lib.ListN.{get_or, length}
 use borrow.Author.Tests.{le-leb, lt-leb, lt-ltb, le-ltb, eq-eqb, ne_eqb, leb-true}
 use Rattle.days.specs.declared.calendar.Day.{Day}
-use Rattle.days.specs.declared.calendar.DayRead.{DayRead}
-use Rattle.days.specs.declared.calendar.DayRead.TheVariants.{Good, NoDate}
 use Rattle.days.specs.Calendar.{leap_year, days_in, is_date, day_of, is_day, next_day, day_key, day_before, same_day, on_day, two_digits, day_with, day_part, day_read}
 use Rattle.texts.proofs.Tests.{and_left, and_right, by-test}
 
@@ -76,17 +75,17 @@ module _ (y m : ℕ) where
     day-last a b f g h n e = rw (← e) (simp le-leb)
 
     module _ (t : Bool) (test : t ≡ is_date y m d) where
-      pub day-good : (r : DayRead) → r ≡ Good (record { year = y; month = m; day = d }) → t ≡ true → r ≡ day_of y m d
+      pub day-good : (r : Option Day) → r ≡ Some (record { year = y; month = m; day = d }) → t ≡ true → r ≡ day_of y m d
       unfolding day_of
       day-good r q i = q ∙ rw (← test, i)
 
-      pub day-none : t ≡ false → NoDate ≡ day_of y m d
+      pub day-none : t ≡ false → None ≡ day_of y m d
       unfolding day_of
       day-none i = rw (← test, i)
 
 -- ---- the following day
 module _ (x : Day) (t : Bool) (test : t ≡ is_date x.year x.month x.day) where
-  pub next-no-date : t ≡ false → NoDate ≡ next_day x
+  pub next-no-date : t ≡ false → None ≡ next_day x
   unfolding next_day
   next-no-date i = rw (← test, i)
 
@@ -99,15 +98,15 @@ module _ (x : Day) (t : Bool) (test : t ≡ is_date x.year x.month x.day) where
         omega (arith, leb-true x.year 2099 (and_left y _ (and_right (leb 2000 x.year) _ h)))
 
     module _ (n : ℕ) (last : n ≡ days_in x.year x.month) where
-      pub next-in-month : (r : DayRead) → x.day < n → r ≡ day_of x.year x.month (x.day + 1) → r ≡ next_day x
+      pub next-in-month : (r : Option Day) → x.day < n → r ≡ day_of x.year x.month (x.day + 1) → r ≡ next_day x
       unfolding next_day
       next-in-month r h e = e ∙ rw (← test, i, ← last) (simp lt-ltb)
 
-      pub next-month : (r : DayRead) → n ≤ x.day → x.month < 12 → r ≡ day_of x.year (x.month + 1) 1 → r ≡ next_day x
+      pub next-month : (r : Option Day) → n ≤ x.day → x.month < 12 → r ≡ day_of x.year (x.month + 1) 1 → r ≡ next_day x
       unfolding next_day
       next-month r h g e = e ∙ rw (← test, i, ← last) (simp (le-ltb, lt-ltb))
 
-      pub next-year : (r : DayRead) → n ≤ x.day → 12 ≤ x.month → r ≡ day_of (x.year + 1) 1 1 → r ≡ next_day x
+      pub next-year : (r : Option Day) → n ≤ x.day → 12 ≤ x.month → r ≡ day_of (x.year + 1) 1 1 → r ≡ next_day x
       unfolding next_day
       next-year r h g e = e ∙ rw (← test, i, ← last) (simp le-ltb)
 
@@ -152,19 +151,19 @@ module _ (a b : ℕ) where
   two_good h i j k = simp le-leb
 
 module _ (a b c y m d : ℕ) where
-  pub with-dash : (a ≡ 45 → ⊥) → NoDate ≡ day_with a b c y m d
+  pub with-dash : (a ≡ 45 → ⊥) → None ≡ day_with a b c y m d
   with-dash n = simp (ne_eqb _ _ n)
 
-  pub with-other : (b ≡ 45 → ⊥) → NoDate ≡ day_with a b c y m d
+  pub with-other : (b ≡ 45 → ⊥) → None ≡ day_with a b c y m d
   with-other n = simp (ne_eqb _ _ n, and-false)
 
-  pub with-century : (c ≡ 20 → ⊥) → NoDate ≡ day_with a b c y m d
+  pub with-century : (c ≡ 20 → ⊥) → None ≡ day_with a b c y m d
   with-century n = simp (ne_eqb _ _ n, and-false)
 
-  pub with-year : 99 < y → NoDate ≡ day_with a b c y m d
+  pub with-year : 99 < y → None ≡ day_with a b c y m d
   with-year h = simp (lt-leb _ _ h, and-false)
 
-  pub with-good : (r : DayRead) → a ≡ 45 → b ≡ 45 → c ≡ 20 → y ≤ 99 → r ≡ day_of (2000 + y) m d → r ≡ day_with a b c y m d
+  pub with-good : (r : Option Day) → a ≡ 45 → b ≡ 45 → c ≡ 20 → y ≤ 99 → r ≡ day_of (2000 + y) m d → r ≡ day_with a b c y m d
   with-good r ea eb ec l e = e ∙ simp (eq-eqb _ _ ea, eq-eqb _ _ eb, eq-eqb _ _ ec, le-leb _ _ l)
 
 -- ---- the day of dashes and digits, and another
@@ -176,7 +175,7 @@ module _ (day : Day) (a b c y m d : ℕ) where
   unfolding day_of
   on-with = go (eqb a 45 && (eqb b 45 && (eqb c 20 && leb y 99))) (is_date (2000 + y) m d)
     where
-      go : (p q : Bool) → on_day day (cond p (cond q (Good made) NoDate) NoDate) ≡ p && (q && same_day made day)
+      go : (p q : Bool) → on_day day (cond p (cond q (Some made) None) None) ≡ p && (q && same_day made day)
       go true true = refl
       go true false = refl
       go false q = refl
@@ -227,33 +226,33 @@ module _ (day : Day) (a b c y m d : ℕ) where
       unreal h = rw h (sym (and-false (leb y 99)))
 
 module _ (s : List ℕ) where
-  pub part-short : length s < 10 → NoDate ≡ day_part s
+  pub part-short : length s < 10 → None ≡ day_part s
   unfolding day_part
   part-short h = simp (lt-leb _ _ h)
 
-  pub part-with : (c y m d : ℕ) (r : DayRead) → 10 ≤ length s
+  pub part-with : (c y m d : ℕ) (r : Option Day) → 10 ≤ length s
       → c ≡ two_digits (get_or s 0 0) (get_or s 1 0) → y ≡ two_digits (get_or s 2 0) (get_or s 3 0)
       → m ≡ two_digits (get_or s 5 0) (get_or s 6 0) → d ≡ two_digits (get_or s 8 0) (get_or s 9 0)
       → r ≡ day_with (get_or s 4 0) (get_or s 7 0) c y m d → r ≡ day_part s
   unfolding day_part
   part-with c y m d r l ec ey em ed er = er ∙ rw (le-leb _ _ l, ← ec, ← ey, ← em, ← ed)
 
-  pub alone-other : (length s ≡ 10 → ⊥) → NoDate ≡ day_read s
+  pub alone-other : (length s ≡ 10 → ⊥) → None ≡ day_read s
   unfolding day_read
   alone-other n = simp (ne_eqb _ _ n)
 
-  pub alone : (r : DayRead) → length s ≡ 10 → r ≡ day_part s → r ≡ day_read s
+  pub alone : (r : Option Day) → length s ≡ 10 → r ≡ day_part s → r ≡ day_read s
   unfolding day_read
   alone r l e = e ∙ simp (eq-eqb _ _ l)
 
 -- ---- what was read, and a day
-module _ (day : Day) (x : DayRead) where
-  pub this-none : x ≡ NoDate → false ≡ on_day day x
+module _ (day : Day) (x : Option Day) where
+  pub this-none : x ≡ None → false ≡ on_day day x
   this-none e = rw e
 
-  pub this-day : (y : Day) → x ≡ Good y → (b : Bool) → b ≡ same_day y day → b ≡ on_day day x
+  pub this-day : (y : Day) → x ≡ Some y → (b : Bool) → b ≡ same_day y day → b ≡ on_day day x
   this-day y e b eb = rw (e, eb)
 
-module _ (day : Day) (x d : DayRead) (ex : x ≡ d) (b : Bool) where
+module _ (day : Day) (x d : Option Day) (ex : x ≡ d) (b : Bool) where
   pub this-of : b ≡ on_day day x → b ≡ on_day day d
   this-of e = e ∙ rw ex

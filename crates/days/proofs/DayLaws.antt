@@ -1,4 +1,5 @@
 -- Laws of days: what a date is, the next day, and that days are ordered as their numbers are.
+use Rattle.std.specs.Prelude.{Option, Some, None}
 use Prim.Native.Nat.{ℕ, zero, suc, ◌+◌, ◌-◌, ◌*◌, ◌≤◌, ◌<◌}
 use native.Mathlib.Nat.{add-zero, add-suc, le_refl, lt_trans}
 use native.Mathlib.Numerals.{sub-one}
@@ -9,8 +10,6 @@ use lib.Dec.{ltb, leb, eqb}
 use borrow.Author.Tests.{lt-ltb, le-ltb, le-leb, eq-eqb, ltb-true, ltb-false, leb-true, eqb-true}
 use borrow.Author.Rules.{rules}
 use Rattle.days.specs.declared.calendar.Day.{Day}
-use Rattle.days.specs.declared.calendar.DayRead.{DayRead}
-use Rattle.days.specs.declared.calendar.DayRead.TheVariants.{Good, NoDate}
 use Rattle.days.specs.Calendar.{leap_year, days_in, is_date, day_of, is_day, next_day, day_key, day_before, same_day, months_days, years_days, day_number}
 use Rattle.texts.proofs.Tests.{both, cond-elim}
 
@@ -194,11 +193,11 @@ number_same x y p q e = before-total x y p q (same-not-before x y p q e) (same-n
 
 -- ---- the next day
 -- what a test lets through was tested
-pub read-good : (t : Bool) (r : DayRead) {y : Day} → cond t r NoDate ≡ Good y → (t ≡ true) × (r ≡ Good y)
+pub read-good : (t : Bool) (r : Option Day) {y : Day} → cond t r None ≡ Some y → (t ≡ true) × (r ≡ Some y)
 read-good true r e = (refl, e)
 read-good false r e = let z : ◌≡◌ {A = ℕ} 0 1 = cc in absurd (omega arith)
 
-pub next-of-day : (x y : Day) → next_day x ≡ Good y → is_day x ≡ true
+pub next-of-day : (x y : Day) → next_day x ≡ Some y → is_day x ≡ true
 unfolding next_day
 next-of-day x y h = (read-good (is_day x) _ h).0
 
@@ -208,16 +207,16 @@ unfolding days_in
 december y m e = rw e
 
 -- a date that was read keeps its number
-pub made : (n : ℕ) (z y : Day) → day_number z ≡ n → day_of z.year z.month z.day ≡ Good y → (is_day y ≡ true) × (day_number y ≡ n)
+pub made : (n : ℕ) (z y : Day) → day_number z ≡ n → day_of z.year z.month z.day ≡ Some y → (is_day y ≡ true) × (day_number y ≡ n)
 unfolding day_of
 made n z y h e =
-    let g = read-good (is_day z) (Good z) e in
+    let g = read-good (is_day z) (Some z) e in
     let s : z ≡ y = cc in
     (rw s at g.0, rw s at h)
 
 module _ (x : Day) (p : is_day x ≡ true) where
   -- the next day is in the month, at the start of a month, or at the start of a year
-  next-cases : (P : DayRead → Type 0)
+  next-cases : (P : Option Day → Type 0)
       → (x.day < days_in x.year x.month → P (day_of x.year x.month (x.day + 1)))
       → (x.day ≡ days_in x.year x.month → x.month < 12 → P (day_of x.year (x.month + 1) 1))
       → (x.day ≡ days_in x.year x.month → x.month ≡ 12 → P (day_of (x.year + 1) 1 1))
@@ -231,36 +230,36 @@ module _ (x : Day) (p : is_day x ≡ true) where
       let e : x.day ≡ days_in x.year x.month = omega (arith, ltb-false) in
       cond-elim P (ltb x.month 12) _ _ (λ u. month e (ltb-true _ _ u)) (λ u. year e (omega (arith, ltb-false)))))
 
-  next-step : (y : Day) → next_day x ≡ Good y → (is_day y ≡ true) × (day_number y ≡ suc (day_number x))
+  next-step : (y : Day) → next_day x ≡ Some y → (is_day y ≡ true) × (day_number y ≡ suc (day_number x))
   unfolding day_number months_days
   next-step y =
       let a = day-is x p in
       let full = months-next x.year x.month a.month-low in
       let i : x.month + 1 - 1 ≡ x.month = omega arith in
-      next-cases (λ r. r ≡ Good y → (is_day y ≡ true) × (day_number y ≡ suc (day_number x)))
+      next-cases (λ r. r ≡ Some y → (is_day y ≡ true) × (day_number y ≡ suc (day_number x)))
       (λ l. made (suc (day_number x)) (record { year = x.year; month = x.month; day = x.day + 1 }) y (omega arith))
       (λ e l. made (suc (day_number x)) (record { year = x.year; month = x.month + 1; day = 1 }) y (rw i (omega arith)))
       (λ e l.
       let g : months_days x.year x.month ≡ months_days x.year 12 = rw l in
       made (suc (day_number x)) (record { year = x.year + 1; month = 1; day = 1 }) y (omega (arith, years-next x.year a.year-low)))
 
-pub next-is-day : (x y : Day) → next_day x ≡ Good y → is_day y ≡ true
+pub next-is-day : (x y : Day) → next_day x ≡ Some y → is_day y ≡ true
 next-is-day x y h = (next-step x (next-of-day x y h) y h).0
 
-pub next-number : (x y : Day) → next_day x ≡ Good y → day_number y ≡ suc (day_number x)
+pub next-number : (x y : Day) → next_day x ≡ Some y → day_number y ≡ suc (day_number x)
 next-number x y h = (next-step x (next-of-day x y h) y h).1
 
-pub next-after : (x y : Day) → next_day x ≡ Good y → day_before x y ≡ true
+pub next-after : (x y : Day) → next_day x ≡ Some y → day_before x y ≡ true
 next-after x y h =
     before-number x y (next-of-day x y h) (next-is-day x y h) ∙ lt-ltb (day_number x) (day_number y) (omega (arith, next-number x y h))
 
 -- so no day of the calendar is left out
-pub none_between : (x y z : Day) → next_day x ≡ Good y → is_day z ≡ true → day_before x z ≡ true → day_before z y ≡ true → ⊥
+pub none_between : (x y z : Day) → next_day x ≡ Some y → is_day z ≡ true → day_before x z ≡ true → day_before z y ≡ true → ⊥
 none_between x y z h p b c =
     omega (arith, next-number x y h, before-less x z (next-of-day x y h) p b, before-less z y p (next-is-day x y h) c)
 
 -- a date is always read
-not_none : (y m d : ℕ) → IsDate y m d → day_of y m d ≡ NoDate → ⊥
+not_none : (y m d : ℕ) → IsDate y m d → day_of y m d ≡ None → ⊥
 unfolding day_of
 not_none y m d h e =
     let f = rw (date-is y m d h) at e in
@@ -268,12 +267,12 @@ not_none y m d h e =
     omega arith
 
 -- only the last day of the calendar has no next
-pub next-none : (x : Day) → is_day x ≡ true → next_day x ≡ NoDate → (x.year ≡ 2099) × ((x.month ≡ 12) × (x.day ≡ 31))
+pub next-none : (x : Day) → is_day x ≡ true → next_day x ≡ None → (x.year ≡ 2099) × ((x.month ≡ 12) × (x.day ≡ 31))
 next-none x p =
     let a = day-is x p in
     let b = days-low x.year (x.month + 1) in
     let c = days-low (x.year + 1) 1 in
-    next-cases x p (λ r. r ≡ NoDate → (x.year ≡ 2099) × ((x.month ≡ 12) × (x.day ≡ 31)))
+    next-cases x p (λ r. r ≡ None → (x.year ≡ 2099) × ((x.month ≡ 12) × (x.day ≡ 31)))
     (λ l e. absurd (not_none _ _ _ (search rules) e))
     (λ f l e. absurd (not_none _ _ _ (search rules) e))
     (λ f l e.

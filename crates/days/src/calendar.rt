@@ -13,12 +13,6 @@ pub struct Day {
     pub day: u8,
 }
 
-#[derive(Clone, Copy)]
-pub enum DayRead {
-    Good(Day),
-    NoDate,
-}
-
 // Whether a year has a 29th of February.
 fn is_leap(year: u16) -> bool
     ensures { result ≡ leap_year year }
@@ -66,13 +60,13 @@ fn is_date(year: u16, month: u8, day: u8) -> bool
 }
 
 // The day with these numbers.
-fn day_of(year: u16, month: u8, day: u8) -> DayRead
+fn day_of(year: u16, month: u8, day: u8) -> Option<Day>
     ensures { result ≡ day_of year month day }
 {
     if is_date(year, month, day) {
-        DayRead::Good(Day { year, month, day })
+        Some(Day { year, month, day })
     } else {
-        DayRead::NoDate
+        None
     }
 }
 
@@ -85,7 +79,7 @@ impl Day {
     }
 
     // The following day, where there is one.
-    pub fn next(self) -> DayRead
+    pub fn next(self) -> Option<Day>
         ensures { result ≡ next_day self }
     {
         if is_date(self.year, self.month, self.day) {
@@ -97,7 +91,7 @@ impl Day {
             }
             day_of(self.year + 1, 1, 1)
         } else {
-            DayRead::NoDate
+            None
         }
     }
 
@@ -157,12 +151,12 @@ impl Day {
 }
 
 // Whether what was read is this day.
-fn is_this(day: Day, x: DayRead) -> bool
+fn is_this(day: Day, x: Option<Day>) -> bool
     ensures { result ≡ on_day day x }
 {
     match x {
-        DayRead::NoDate => false,
-        DayRead::Good(own) => own.same(day),
+        None => false,
+        Some(own) => own.same(day),
     }
 }
 
@@ -186,30 +180,30 @@ pub fn two(a: u8, b: u8) -> u8
 }
 
 // The day of two dashes and four pairs of digits: its parts as numbers, so that no text is copied for it.
-pub fn day_with(dash: u8, other: u8, century: u8, y: u8, month: u8, day: u8) -> DayRead
+pub fn day_with(dash: u8, other: u8, century: u8, y: u8, month: u8, day: u8) -> Option<Day>
     ensures { result ≡ day_with dash other century y month day }
 {
     if dash != b'-' {
-        return DayRead::NoDate;
+        return None;
     }
     if other != b'-' {
-        return DayRead::NoDate;
+        return None;
     }
     if century != CENTURY {
-        return DayRead::NoDate;
+        return None;
     }
     if 99 < y {
-        return DayRead::NoDate;
+        return None;
     }
     day_of(2000 + y as u16, month, day)
 }
 
 // The day that the first ten bytes are.
-fn day_part(s: &[u8]) -> DayRead
+fn day_part(s: &[u8]) -> Option<Day>
     ensures { result ≡ day_part s.now }
 {
     if s.len() < 10 {
-        return DayRead::NoDate;
+        return None;
     }
     let century = two(s[0], s[1]);
     let y = two(s[2], s[3]);
@@ -217,12 +211,8 @@ fn day_part(s: &[u8]) -> DayRead
 }
 
 // A day that stands alone, YYYY-MM-DD.
-pub fn read_day(s: &[u8]) -> DayRead
+pub fn read_day(s: &[u8]) -> Option<Day>
     ensures { result ≡ day_read s.now }
 {
-    if s.len() == 10 {
-        day_part(s)
-    } else {
-        DayRead::NoDate
-    }
+    if s.len() == 10 { day_part(s) } else { None }
 }

@@ -1,4 +1,5 @@
 -- Laws of the lookup: the accounts of the rows, and those of a gate that they list.
+use Rattle.std.specs.Prelude.{Option, Some, None}
 use mathlib.Core.Path.{◌≡◌, refl, sym, ap, ◌∙◌}
 use mathlib.Core.Bool.{Bool, true, false, cond}
 use mathlib.Core.List.{List, [], ◌∷◌, map}
@@ -9,8 +10,6 @@ use lib.IntN.{ℤ, pos}
 use lib.ListN.{length, drop, get_or, length-set}
 use lib.Seq.{get_or-set_same, get_or-set_other}
 use Rattle.fields.specs.declared.number.Number.{Number}
-use Rattle.lists.specs.declared.Found.{Found}
-use Rattle.lists.specs.declared.Found.TheVariants.{At, Nothing}
 use Rattle.lists.specs.Lists.{tab, first_from}
 use Rattle.lists.proofs.ListLaws.{length-tab, get_d-tab, map-tab, tab-same, tab-take, search-hit, search-miss, search-end, search-within}
 use Rattle.table.specs.declared.Account.{Account}
@@ -31,7 +30,7 @@ module _ (names keys : List (List ℕ)) (n : Number) (k i : ℕ)
     unfolding holders_of
     tested = ap (is_account n k) (get_d-tab (length names) (holder_at names keys) i no_account h ∙ sym ea) ∙ sym et
 
-    pub holder-here : t ≡ true → At i ≡ find_account n k (holders_of names keys)
+    pub holder-here : t ≡ true → Some i ≡ find_account n k (holders_of names keys)
     holder-here e = sym (passed ∙ search-hit (is_account n k) i (holders_of names keys) no_account (omega (arith, size)) (tested ∙ e))
 
     pub holder-other : t ≡ false → find_account n k (holders_of names keys) ≡ first_from (is_account n k) (i + 1) (drop (i + 1) (holders_of names keys))
@@ -45,14 +44,14 @@ module _ (names keys : List (List ℕ)) (n : Number) (k i : ℕ)
       no-fit false e = e
       no-fit true e = absurd (other (keyed.digests.each i h ∙ digest-agrees n k (holder_at names keys i) e ∙ sym ed))
 
-  pub holder-none : length names ≤ i → Nothing ≡ find_account n k (holders_of names keys)
+  pub holder-none : length names ≤ i → None ≡ find_account n k (holders_of names keys)
   holder-none h = sym (passed ∙ search-end (is_account n k) i (holders_of names keys) no_account (omega (arith, size)))
 
 pub key-place : (names keys : List (List ℕ)) → Keyed names keys → (i : ℕ) → i < length names → i < length keys
 key-place names keys keyed i h = omega (arith, keyed.same)
 
 -- what is found is one of the rows
-pub holder_in : (names keys : List (List ℕ)) (n : Number) (k i : ℕ) (f : Found) → f ≡ find_account n k (holders_of names keys) → f ≡ At i → i < length names
+pub holder_in : (names keys : List (List ℕ)) (n : Number) (k i : ℕ) (f : Option ℕ) → f ≡ find_account n k (holders_of names keys) → f ≡ Some i → i < length names
 unfolding find_account holders_of
 holder_in names keys n k i f e h = omega (arith, search-within (is_account n k) 0 (holders_of names keys) i (sym e ∙ h), length-tab (length names) (holder_at names keys))
 
@@ -60,7 +59,7 @@ holder_in names keys n k i f e h = omega (arith, search-within (is_account n k) 
 first-map : {A B : Type 0} (f : A → B) (p : B → Bool) (i : ℕ) (l : List A) → first_from p i (map f l) ≡ first_from (λ a. p (f a)) i l
 unfolding first_from
 first-map f p i [] = refl
-first-map f p i (x ∷ l) = ap (λ (r : Found). cond (p (f x)) (At i) r) (first-map f p (i + 1) l)
+first-map f p i (x ∷ l) = ap (λ (r : Option ℕ). cond (p (f x)) (Some i) r) (first-map f p (i + 1) l)
 
 module _ (names keys : List (List ℕ)) (g : Gate) (listed : Listed names keys g) where
   -- a lookup in the rows is one among the accounts: balances do not matter

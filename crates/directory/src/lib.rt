@@ -7,7 +7,6 @@ ghost use Rattle.table.specs.Accounts.{find_account};
 ghost use Rattle.directory.specs.Directory.{holder_at, holders_of, Keyed, Listed};
 
 use fields::number::Number;
-use lists::Found;
 use table::{Account, Gate, accounts};
 
 // The numbers of the 256 accounts that a gate may have, none filled in yet.
@@ -59,7 +58,7 @@ fn holder_at(names: &[[u8; 30]], keys: &[[u64; 3]], i: usize) -> Account
 }
 
 // The first account of this number and type. Most have another digest, and nothing else of them is looked at.
-pub fn find(names: &[[u8; 30]], keys: &[[u64; 3]], n: Number, kind: u64) -> Found
+pub fn find(names: &[[u8; 30]], keys: &[[u64; 3]], n: Number, kind: u64) -> Option<usize>
     requires { Keyed names.now keys.now }
     ensures { result ≡ find_account n kind (holders_of names.now keys.now) }
 {
@@ -72,9 +71,9 @@ pub fn find(names: &[[u8; 30]], keys: &[[u64; 3]], n: Number, kind: u64) -> Foun
         }
         let a = holder_at(names, keys, i);
         if accounts::is_account(n, kind, a) {
-            return Found::At(i);
+            return Some(i);
         }
         i += 1;
     }
-    Found::Nothing
+    None
 }

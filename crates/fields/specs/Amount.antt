@@ -1,7 +1,5 @@
 -- Document 01, "Fields": amounts, in kopecks.
-use Rattle.std.specs.Prelude.{ℕ, ◌+◌, ◌*◌, ◌/◌, ◌%◌, List, [], ◌∷◌, ◌++◌, Bool, true, false, cond, length, take, drop, eqb}
-use Rattle.texts.specs.declared.digits.Digits.{Digits}
-use Rattle.texts.specs.declared.digits.Digits.TheVariants.{Value, Malformed}
+use Rattle.std.specs.Prelude.{ℕ, ◌+◌, ◌*◌, ◌/◌, ◌%◌, List, [], ◌∷◌, ◌++◌, Bool, true, false, cond, length, take, drop, eqb, Option, Some, None}
 use Rattle.texts.specs.Lists.{find}
 use Rattle.texts.specs.Digits.{digits_read, within, fault_of, fixed, decimal}
 
@@ -10,31 +8,31 @@ abbrev pub is_amount : ℕ → Bool
 is_amount = within 1 999999999
 
 -- one digit after the point stands for tens of kopecks
-abbrev pub tenfold : Digits → Bool → Digits
-tenfold Malformed t = Malformed
-tenfold (Value v) true = Value (v * 10)
-tenfold (Value v) false = Value v
+abbrev pub tenfold : Option ℕ → Bool → Option ℕ
+tenfold None t = None
+tenfold (Some v) true = Some (v * 10)
+tenfold (Some v) false = Some v
 
 -- the kopecks of the one or two digits after the point
-unfoldable pub kopecks_after : List ℕ → Digits
+unfoldable pub kopecks_after : List ℕ → Option ℕ
 kopecks_after f = tenfold (digits_read 2 f) (eqb (length f) 1)
 
 -- the kopecks of what stands from the point on, or of nothing
-abbrev pub kopecks_from : List ℕ → Digits
-kopecks_from [] = Value 0
+abbrev pub kopecks_from : List ℕ → Option ℕ
+kopecks_from [] = Some 0
 kopecks_from (p ∷ f) = kopecks_after f
 
-abbrev pub amount_of : Digits → Digits → Digits
-amount_of Malformed f = Malformed
-amount_of (Value w) Malformed = Malformed
-amount_of (Value w) (Value v) = cond (eqb (w * 100 + v) 0) Malformed (Value (w * 100 + v))
+abbrev pub amount_of : Option ℕ → Option ℕ → Option ℕ
+amount_of None f = None
+amount_of (Some w) None = None
+amount_of (Some w) (Some v) = cond (eqb (w * 100 + v) 0) None (Some (w * 100 + v))
 
 -- roubles in at most 7 digits, and kopecks in one or two behind a point (46), or none; 0 is no amount
-unfoldable pub amount_read : List ℕ → Digits
+unfoldable pub amount_read : List ℕ → Option ℕ
 amount_read s = amount_of (digits_read 7 (take (find 46 s) s)) (kopecks_from (drop (find 46 s) s))
 
 -- its number where it is malformed
-abbrev pub amount_fault : Digits → ℕ
+abbrev pub amount_fault : Option ℕ → ℕ
 amount_fault d = fault_of 3 d
 
 -- an amount as writers give it, with two decimals

@@ -3,7 +3,6 @@ ghost use Rattle.std.specs.Prelude.{◌≡◌, drop};
 ghost use Rattle.fields.specs.Amount.{is_amount, amount_read, kopecks_after, kopecks_from, amount_bytes};
 ghost use Rattle.texts.specs.Lists.{written, cursor_after};
 
-use texts::digits::Digits;
 use texts::{digits, out, scan};
 
 // The most that one payment or draw is, in kopecks.
@@ -17,50 +16,40 @@ pub fn is_amount(kopecks: u64) -> bool
 }
 
 // The kopecks that one or two digits after the point give.
-fn read_kopecks(f: &[u8]) -> Digits
+fn read_kopecks(f: &[u8]) -> Option<u64>
     ensures { result ≡ kopecks_after f.now }
 {
     let d = digits::read_digits(f, 2);
     match d {
-        Digits::Value(v) => {
-            if f.len() == 1 {
-                Digits::Value(v * 10)
-            } else {
-                Digits::Value(v)
-            }
-        }
-        Digits::Malformed => Digits::Malformed,
+        Some(v) => { if f.len() == 1 { Some(v * 10) } else { Some(v) } }
+        None => None,
     }
 }
 
 // The kopecks of what stands from the point at p on, or of nothing.
-fn kopecks_from(s: &[u8], p: usize) -> Digits
+fn kopecks_from(s: &[u8], p: usize) -> Option<u64>
     ensures { result ≡ kopecks_from (drop p s.now) }
 {
     if p < s.len() {
         read_kopecks(&s[p + 1..])
     } else {
-        Digits::Value(0)
+        Some(0)
     }
 }
 
 // The kopecks of an amount, 1 to 999,999,999.
-pub fn read_amount(s: &[u8]) -> Digits
+pub fn read_amount(s: &[u8]) -> Option<u64>
     ensures { result ≡ amount_read s.now }
 {
     let p = scan::find_byte(s, b'.');
-    let Digits::Value(whole) = digits::read_digits(&s[..p], 7) else {
-        return Digits::Malformed;
+    let Some(whole) = digits::read_digits(&s[..p], 7) else {
+        return None;
     };
-    let Digits::Value(part) = kopecks_from(s, p) else {
-        return Digits::Malformed;
+    let Some(part) = kopecks_from(s, p) else {
+        return None;
     };
     let sum = whole * 100 + part;
-    if sum == 0 {
-        Digits::Malformed
-    } else {
-        Digits::Value(sum)
-    }
+    if sum == 0 { None } else { Some(sum) }
 }
 
 // Writes an amount with two decimals at the cursor, where it has room.

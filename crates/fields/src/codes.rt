@@ -3,7 +3,6 @@ ghost use Rattle.std.specs.Prelude.{◌≡◌};
 ghost use Rattle.fields.specs.Codes.{is_receipt, receipt_read, is_kind, kind_read, is_reason, reason_read};
 
 use texts::digits;
-use texts::digits::Digits;
 
 // The largest receipt: 10^15 - 1.
 const RECEIPT_MOST: u64 = 999999999999999;
@@ -16,7 +15,7 @@ pub fn is_receipt(v: u64) -> bool
 }
 
 // A receipt: a payment's number, in at most 15 digits.
-pub fn read_receipt(s: &[u8]) -> Digits
+pub fn read_receipt(s: &[u8]) -> Option<u64>
     ensures { result ≡ receipt_read s.now }
 {
     digits::read_range(s, 15, 1, RECEIPT_MOST)
@@ -30,7 +29,7 @@ pub fn is_kind(v: u64) -> bool
 }
 
 // A type: 1 to 3 digits.
-pub fn read_kind(s: &[u8]) -> Digits
+pub fn read_kind(s: &[u8]) -> Option<u64>
     ensures { result ≡ kind_read s.now }
 {
     digits::read_range(s, 3, 0, 999)
@@ -44,7 +43,7 @@ pub fn is_reason(v: u64) -> bool
 }
 
 // A reason: one digit, 1 to 5.
-pub fn read_reason(s: &[u8]) -> Digits
+pub fn read_reason(s: &[u8]) -> Option<u64>
     ensures { result ≡ reason_read s.now }
 {
     digits::read_range(s, 1, 1, 5)

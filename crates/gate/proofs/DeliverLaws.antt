@@ -1,4 +1,5 @@
 -- Laws of a request delivered to the gate.
+use Rattle.std.specs.Prelude.{Option, Some, None}
 use Prim.Native.Nat.{ℕ, ◌<◌}
 use native.Mathlib.Omega.{arith}
 use mathlib.Core.Path.{◌≡◌, refl, sym, ◌∙◌}
@@ -11,16 +12,12 @@ use Rattle.payments.specs.declared.Action.{Action}
 use Rattle.payments.specs.declared.Instruction.{Instruction}
 use Rattle.message.specs.declared.request.Asked.{Asked}
 use Rattle.message.specs.declared.request.RequestRead.{RequestRead}
-use Rattle.texts.specs.declared.digits.Digits.{Digits}
-use Rattle.texts.specs.declared.digits.Digits.TheVariants.{Value, Malformed}
 use Rattle.fields.specs.Amount.{amount_read}
 use Rattle.texts.proofs.Tests.{cond-elim}
 use Rattle.texts.proofs.DigitLaws.{within-high}
 use Rattle.fields.proofs.AmountLaws.{amount-within}
 use Rattle.coding.specs.Url.{decoded}
 use Rattle.payments.specs.declared.Action.TheVariants.{Check}
-use Rattle.parameters.specs.declared.action.ActionRead.{ActionRead}
-use Rattle.parameters.specs.declared.action.ActionRead.TheVariants.{Known, Unknown}
 use Rattle.parameters.specs.Names.{action_of, has_account}
 use Rattle.parameters.specs.Slots.{Slot, Absent, Holds, Gathered, Broken, Values, gathered}
 use Rattle.message.specs.Request.{held, field_of, value_in, refused, field_fault, asked_of, fields_read, action_read, values_read, request_read}
@@ -71,15 +68,15 @@ module _ (g : Gate) (t : Rows) (clock params out : List ℕ) (f : ℕ) (ef : f �
   read_done z q eq d e = e ∙ rw eq (admitted-by g t clock out f ef z _)
 
 -- ---- an amount that was read is in its range
-held-amount : (used : Bool) (k : Slot) → value_in (field_of used (Value 0) Malformed amount_read k) < 1000000000
+held-amount : (used : Bool) (k : Slot) → value_in (field_of used (Some 0) None amount_read k) < 1000000000
 unfolding field_of held
 held-amount false k = omega arith
 held-amount true Absent = omega arith
 held-amount true (Holds v) = go (amount_read (decoded v)) refl
   where
-    go : (d : Digits) → amount_read (decoded v) ≡ d → value_in d < 1000000000
-    go Malformed e = omega arith
-    go (Value x) e = omega (arith, within-high 1 999999999 x (amount-within (decoded v) x (sym e)))
+    go : (d : Option ℕ) → amount_read (decoded v) ≡ d → value_in d < 1000000000
+    go None e = omega arith
+    go (Some x) e = omega (arith, within-high 1 999999999 x (amount-within (decoded v) x (sym e)))
 
 refused-amount : (f : ℕ) (a : Action) → (refused f a).asked.amount < 1000000000
 unfolding refused
@@ -94,11 +91,11 @@ fields-amount a s =
 
 values-amount : (x : Gathered) → (values_read x).asked.amount < 1000000000
 values-amount Broken = refused-amount 31 Check
-values-amount (Values s) = go (held Unknown action_of (get_or s 0 Absent))
+values-amount (Values s) = go (held None action_of (get_or s 0 Absent))
   where
-    go : (a : ActionRead) → (action_read a s).asked.amount < 1000000000
-    go Unknown = refused-amount 1 Check
-    go (Known a) = fields-amount a s
+    go : (a : Option Action) → (action_read a s).asked.amount < 1000000000
+    go None = refused-amount 1 Check
+    go (Some a) = fields-amount a s
 
 pub asked-amount : (s : List ℕ) (q : RequestRead) → q ≡ request_read s → q.asked.amount < 1000000000
 unfolding request_read

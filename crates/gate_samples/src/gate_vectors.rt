@@ -6,7 +6,6 @@ use calls::Call;
 use fields::number::Number;
 use ledger::Reply;
 use table::{Record, rows};
-use texts::digits::Digits;
 use texts::{digits, scan};
 use vectors::given;
 
@@ -21,8 +20,8 @@ fn answered(w: World, r: Reply) -> World {
 fn kind(s: &[u8]) -> u64 {
     let d = digits::read_digits(scan::before_byte(s, b' '), 3);
     match d {
-        Digits::Value(v) => v,
-        Digits::Malformed => 1000,
+        Some(v) => v,
+        None => 1000,
     }
 }
 

@@ -1,4 +1,5 @@
 -- What a delivery answers: its codes, its size, and that the agent's reader reads it back.
+use Rattle.std.specs.Prelude.{Option}
 use Prim.Native.Nat.{ℕ, ◌+◌, ◌≤◌}
 use native.Mathlib.Nat.{zero-add}
 use native.Mathlib.Omega.{arith}
@@ -21,7 +22,6 @@ use Rattle.answers.specs.Answer.{answer_bytes}
 use Rattle.answer_reader.specs.AnswerRead.{answer_read}
 use Rattle.table.specs.declared.Record.{Record}
 use Rattle.table.specs.declared.Gate.{Gate}
-use Rattle.lists.specs.declared.Found.{Found}
 use Rattle.table.specs.Table.{Rows, records_of, find_record}
 use Rattle.validity.specs.Valid.{table_good, Ready}
 use Rattle.table.proofs.TableLaws.{rows-kept}
@@ -89,7 +89,7 @@ module _ (g : Gate) (t : Rows) (clock params : List ℕ) where
       q : Instruction
       q = instruction_in params
 
-      f : Found
+      f : Option ℕ
       f = find_record q.details.receipt (records_of t g.used)
 
       r : Record

@@ -1,4 +1,5 @@
 -- Opening an account and drawing from one keep row 68, the balance bound too.
+use Rattle.std.specs.Prelude.{Option, Some, None}
 use Prim.Native.Nat.{ℕ, zero, suc, ◌+◌, ◌-◌, ◌<◌}
 use native.Mathlib.Nat.{add-zero}
 use native.Mathlib.Numerals.{add-one}
@@ -21,8 +22,6 @@ use Rattle.texts.proofs.Tests.{and_left, and_right, cond-elim, no-claim, and_bot
 use Rattle.table.specs.declared.Account.{Account}
 use Rattle.table.specs.declared.Gate.{Gate}
 use Rattle.table.specs.declared.Record.{Record}
-use Rattle.lists.specs.declared.Found.{Found}
-use Rattle.lists.specs.declared.Found.TheVariants.{At, Nothing}
 use Rattle.lists.specs.Lists.{first_from, is_found}
 use Rattle.table.specs.Table.{Rows, record_at, records_of, find_record}
 use Rattle.table.specs.Accounts.{is_account, accounts_of, find_account, no_account, with_balance, balance_at, credited, debited, with_used, opened}
@@ -81,7 +80,7 @@ near-used g n bound = record { balances = bound.balances }
 -- a payment that is not recorded leaves its account within the balance bound
 abbrev pub Roomy : Gate → Rows → Instruction → Type 0
 Roomy g t q =
-    (a : ℕ) → q.action ≡ Payment → find_record q.details.receipt (records_of t g.used) ≡ Nothing → find_account q.details.number q.details.kind (accounts_of g) ≡ At a
+    (a : ℕ) → q.action ≡ Payment → find_record q.details.receipt (records_of t g.used) ≡ None → find_account q.details.number q.details.kind (accounts_of g) ≡ Some a
     → near (balance_at g a +ℤ pos q.details.amount) ≡ true
 
 -- ---- a gate with the same names keeps the clauses
@@ -108,7 +107,7 @@ found-more p i [] m h = no-claim h
 found-more p i (y ∷ l) m h = go (p y) (λ q. found-more p (i + 1) l m q) h
   where
     go : (b : Bool) → (is_found (first_from p (i + 1) l) ≡ true → is_found (first_from p (i + 1) (l ++ m)) ≡ true)
-        → is_found (cond b (At i) (first_from p (i + 1) l)) ≡ true → is_found (cond b (At i) (first_from p (i + 1) (l ++ m))) ≡ true
+        → is_found (cond b (Some i) (first_from p (i + 1) l)) ≡ true → is_found (cond b (Some i) (first_from p (i + 1) (l ++ m))) ≡ true
     go true up q = refl
     go false up q = up q
 
@@ -180,16 +179,16 @@ module _ (g : Gate) (t : Rows) (n : Number) (k : ℕ) (P : Reply → Type 0) (fa
       (λ _. fault 59 (λ z. omega arith)))
       (λ _. fault 68 (λ z. omega arith))
 
-  pub draw-elim : (m : ℕ) → ((a : ℕ) → is_number n && is_kind k ≡ true → find_account n k (accounts_of g) ≡ At a → lt_z (balance_at g a) (pos m) ≡ false → P (replies 0 (debited g a m))) → P (draw_funds g t n k m)
+  pub draw-elim : (m : ℕ) → ((a : ℕ) → is_number n && is_kind k ≡ true → find_account n k (accounts_of g) ≡ Some a → lt_z (balance_at g a) (pos m) ≡ false → P (replies 0 (debited g a m))) → P (draw_funds g t n k m)
   unfolding draw_funds draw_from draw_on
   draw-elim m s =
       cond-elim P (table_good g t) _ _
       (λ _. cond-elim P (is_number n && is_kind k) _ _ (λ v. on v (find_account n k (accounts_of g)) refl) (λ _. fault 59 (λ z. omega arith)))
       (λ _. fault 68 (λ z. omega arith))
     where
-      on : is_number n && is_kind k ≡ true → (f : Found) → find_account n k (accounts_of g) ≡ f → P (draw_on g f m)
-      on v Nothing e = fault 59 (λ z. omega arith)
-      on v (At a) e =
+      on : is_number n && is_kind k ≡ true → (f : Option ℕ) → find_account n k (accounts_of g) ≡ f → P (draw_on g f m)
+      on v None e = fault 59 (λ z. omega arith)
+      on v (Some a) e =
           cond-elim P (is_amount m && not (lt_z (balance_at g a) (pos m))) _ _ (λ h. s a v e (not-true _ (and_right (is_amount m) (not (lt_z (balance_at g a) (pos m))) h))) (λ _. fault 58 (λ z. omega arith))
 
 -- row 68 holds again, and the number of records and the closed day are as they were
@@ -231,7 +230,7 @@ module _ (g : Gate) (t : Rows) (ready : Ready g t) (good : table_good g t ≡ tr
   debited-stands : (a m : ℕ) → a < g.count → lt_z (balance_at g a) (pos m) ≡ false → Stands g t (debited g a m)
   unfolding debited
   debited-stands a m h funds =
-      let names : SameNames g (debited g a m) = names-debited g (At a) m in
+      let names : SameNames g (debited g a m) = names-debited g (Some a) m in
       stands (debited g a m) (names.places ∙ ready.funds.places) (good-names g (debited g a m) t names refl facts) (near-debited g a m bound h funds) refl names.closed
 
   -- a draw keeps row 68
@@ -242,12 +241,12 @@ module _ (g : Gate) (t : Rows) (ready : Ready g t) (good : table_good g t ≡ tr
 
   -- and the accounts' names
   pub draw-names : (n : Number) (k m : ℕ) → SameNames g (draw_funds g t n k m).gate
-  draw-names n k m = draw-elim g t n k (λ (r : Reply). SameNames g r.gate) (λ _ _. names_same g g refl) m (λ a _ _ _. names-debited g (At a) m)
+  draw-names n k m = draw-elim g t n k (λ (r : Reply). SameNames g r.gate) (λ _ _. names_same g g refl) m (λ a _ _ _. names-debited g (Some a) m)
 
   -- ---- only a payment that is credited may take a balance past its bound
-  short-near : (f : Found) (n : Number) (k m : ℕ) → f ≡ find_account n k (accounts_of g) → is_short g f m ≡ false → Near (debited_at g f m)
-  short-near Nothing n k m is funds = bound
-  short-near (At a) n k m is funds = near-debited g a m bound (holder-within g n k a (At a) is refl) funds
+  short-near : (f : Option ℕ) (n : Number) (k m : ℕ) → f ≡ find_account n k (accounts_of g) → is_short g f m ≡ false → Near (debited_at g f m)
+  short-near None n k m is funds = bound
+  short-near (Some a) n k m is funds = near-debited g a m bound (holder-within g n k a (Some a) is refl) funds
 
   outcome-near : (clock : List ℕ) (q : Instruction) (d : Delivery) → Outcome g t clock q d → Roomy g t q → Near d.gate
   outcome-near clock q d (stays eg er) room = rw eg bound

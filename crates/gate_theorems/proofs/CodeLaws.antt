@@ -1,4 +1,5 @@
 -- The codes of decisions and faults, and what an answer tells by them: an authcode in its range and a date that is one.
+use Rattle.std.specs.Prelude.{Option, Some, None}
 use Prim.Native.Nat.{ℕ, ◌≤◌, ◌<◌}
 use native.Mathlib.Omega.{arith}
 use native.Mathlib.Decide.{ℕ_discrete}
@@ -8,8 +9,6 @@ use mathlib.Core.List.{List, [], ◌∷◌}
 use lib.Dec.{eqb, leb}
 use lib.ListN.{length, get_or}
 use borrow.Author.Tests.{eqb-true}
-use Rattle.texts.specs.declared.digits.Digits.{Digits}
-use Rattle.texts.specs.declared.digits.Digits.TheVariants.{Value, Malformed}
 use Rattle.texts.specs.Digits.{within, fault_of}
 use Rattle.texts.proofs.DigitLaws.{within_low, within-high}
 use Rattle.dates.specs.Date.{is_written, empty_date}
@@ -17,8 +16,6 @@ use Rattle.texts.proofs.Tests.{and_right, cond-elim, no-claim}
 use Rattle.dates.proofs.DateLaws.{written-parts}
 use Rattle.payments.specs.declared.Action.{Action}
 use Rattle.payments.specs.declared.Action.TheVariants.{Check, Payment, Status, Cancel}
-use Rattle.parameters.specs.declared.action.ActionRead.{ActionRead}
-use Rattle.parameters.specs.declared.action.ActionRead.TheVariants.{Known, Unknown}
 use Rattle.message.specs.declared.request.RequestRead.{RequestRead}
 use Rattle.parameters.specs.Names.{action_of}
 use Rattle.parameters.specs.Slots.{Slot, Absent, Gathered, Broken, Values, gathered}
@@ -30,8 +27,6 @@ use Rattle.answer_reader.specs.ReadBack.{answer_again}
 use Rattle.answers.proofs.AnswerTextLaws.{answer-length-512}
 use Rattle.table.specs.declared.Record.{Record}
 use Rattle.table.specs.declared.Gate.{Gate}
-use Rattle.lists.specs.declared.Found.{Found}
-use Rattle.lists.specs.declared.Found.TheVariants.{At, Nothing}
 use Rattle.table.specs.Table.{Rows, record_at, records_of, find_record}
 use Rattle.validity.specs.Valid.{state_good, table_good}
 use Rattle.table.proofs.TableLaws.{get_d-records, receipt-within}
@@ -131,9 +126,9 @@ module _ (P : ℕ → Type 0) (zero : P 0) (one : P 1) (two : P 2) (three : P 3)
 
 -- ---- the faults of a request
 module _ (P : ℕ → Type 0) (none : P 0) (one : P 1) (two : P 2) (three : P 3) (four : P 4) (five : P 5) (most : P 31) (reason : P 32) where
-  fault-of : (c : ℕ) (d : Digits) → P c → P (fault_of c d)
-  fault-of c Malformed p = p
-  fault-of c (Value v) p = none
+  fault-of : (c : ℕ) (d : Option ℕ) → P c → P (fault_of c d)
+  fault-of c None p = p
+  fault-of c (Some v) p = none
 
   first_of : (f : ℕ) (fs : List ℕ) → P f → P (first_fault fs) → P (first_fault (f ∷ fs))
   unfolding first_fault
@@ -155,11 +150,11 @@ module _ (P : ℕ → Type 0) (none : P 0) (one : P 1) (two : P 2) (three : P 3)
   values-fault : (x : Gathered) → P (values_read x).fault
   unfolding fields_read refused
   values-fault Broken = most
-  values-fault (Values t) = go (held Unknown action_of (get_or t 0 Absent))
+  values-fault (Values t) = go (held None action_of (get_or t 0 Absent))
     where
-      go : (a : ActionRead) → P (action_read a t).fault
-      go Unknown = one
-      go (Known a) = cond-elim (λ (r : RequestRead). P r.fault) (eqb (field_fault a t) 0) _ _ (λ _. none) (λ _. field-fault a t)
+      go : (a : Option Action) → P (action_read a t).fault
+      go None = one
+      go (Some a) = cond-elim (λ (r : RequestRead). P r.fault) (eqb (field_fault a t) 0) _ _ (λ _. none) (λ _. field-fault a t)
 
   pub fault-by : (params : List ℕ) → P (request_read params).fault
   unfolding request_read refused
@@ -253,11 +248,11 @@ pub cancel-dated : (r : Record) → state_good r ≡ true → eqb r.state 1 ≡ 
 unfolding state_good
 cancel-dated r h e = and_right (eqb r.state 2) (is_written r.cancel) (rw e at h)
 
-pub known-found : (g : Gate) (t : Rows) → table_good g t ≡ true → (q : Instruction) (f : Found) → find_record q.details.receipt (records_of t g.used) ≡ f
+pub known-found : (g : Gate) (t : Rows) → table_good g t ≡ true → (q : Instruction) (f : Option ℕ) → find_record q.details.receipt (records_of t g.used) ≡ f
     → Known-of (standing_of q f (record_found (records_of t g.used) f)) (record_found (records_of t g.used) f)
-known-found g t good q Nothing e =
+known-found g t good q None e =
     record { auth = omega arith; done = λ h. let z : ◌≡◌ {A = ℕ} 0 1 = cc in absurd (omega arith); void = λ h. let z : ◌≡◌ {A = ℕ} 0 1 = cc in absurd (omega arith) }
-known-found g t good q (At i) e =
+known-found g t good q (Some i) e =
     rw (get_d-records t g.used i no_record within)
     (record { auth = omega (arith, its.authcode, within, used-few g t good); done = λ _. its.credit; void = go (agrees q.action q.details (record_at t i)) (eqb (record_at t i).state 1) refl })
   where

@@ -1,4 +1,5 @@
 -- What moves, exactly, where a call's premises hold: an opening, a draw, a payment and a cancel; and what any delivery moves.
+use Rattle.std.specs.Prelude.{Option, Some, None}
 use Prim.Native.Nat.{ℕ, ◌+◌, ◌<◌, ◌≤◌}
 use native.Mathlib.Decide.{ℕ_discrete}
 use native.Mathlib.Omega.{arith}
@@ -19,8 +20,6 @@ use Rattle.fields.specs.Number.{is_number}
 use Rattle.payments.specs.declared.Action.TheVariants.{Payment, Cancel}
 use Rattle.payments.specs.declared.Instruction.{Instruction}
 use Rattle.message.specs.Request.{request_read}
-use Rattle.lists.specs.declared.Found.{Found}
-use Rattle.lists.specs.declared.Found.TheVariants.{At, Nothing}
 use Rattle.lists.proofs.ListLaws.{search-within, found_at}
 use Rattle.table.specs.declared.Account.{Account}
 use Rattle.table.specs.declared.Gate.{Gate}
@@ -53,7 +52,7 @@ pub record Moved (g g' : Gate) (a : ℕ) (z : ℤ) : Type 0 where
   pub others : (j : ℕ) → (j ≡ a → ⊥) → balance_at g' j ≡ balance_at g j
 
 -- what a lookup finds is an account
-found-there : (g : Gate) (n : Number) (k a : ℕ) → find_account n k (accounts_of g) ≡ At a → a < length g.accounts
+found-there : (g : Gate) (n : Number) (k a : ℕ) → find_account n k (accounts_of g) ≡ Some a → a < length g.accounts
 unfolding find_account
 found-there g n k a e = omega (arith, search-within (is_account n k) 0 (accounts_of g) a e, length-take g.count g.accounts)
 
@@ -76,7 +75,7 @@ debit-moves g a n h = moved g a (balance_at g a -ℤ pos n) h
 -- ---- an opening and a draw
 module _ (g : Gate) (t : Rows) (n : Number) (k : ℕ) (good : table_good g t ≡ true) (number : is_number n ≡ true) (kind : is_kind k ≡ true) where
   -- an account that is not known is opened with nothing on it, where there is a place, and every other account stays
-  pub open_gives : length g.accounts ≡ 256 → find_account n k (accounts_of g) ≡ Nothing → g.count < 256
+  pub open_gives : length g.accounts ≡ 256 → find_account n k (accounts_of g) ≡ None → g.count < 256
       → (open_account g t n k ≡ replies 0 (opened g n k)) × (get_or (opened g n k).accounts g.count no_account ≡ new_account g n k)
       × ((i : ℕ) → i < g.count → get_or (opened g n k).accounts i no_account ≡ get_or g.accounts i no_account)
   unfolding open_account open_to
@@ -85,7 +84,7 @@ module _ (g : Gate) (t : Rows) (n : Number) (k : ℕ) (good : table_good g t ≡
       (rw (good, number, kind, new, lt-leb 256 g.count few) refl, opened-new g n k room, opened-other g n k room)
 
   -- an amount that the balance covers is drawn from the account, and nothing else moves
-  pub draw-gives : (a kopecks : ℕ) → find_account n k (accounts_of g) ≡ At a → is_amount kopecks ≡ true → lt_z (balance_at g a) (pos kopecks) ≡ false
+  pub draw-gives : (a kopecks : ℕ) → find_account n k (accounts_of g) ≡ Some a → is_amount kopecks ≡ true → lt_z (balance_at g a) (pos kopecks) ≡ false
       → (draw_funds g t n k kopecks ≡ replies 0 (debited g a kopecks)) × Moved g (debited g a kopecks) a (balance_at g a -ℤ pos kopecks)
   unfolding draw_funds draw_from draw_on
   draw-gives a kopecks found amount funds = (rw (good, number, kind, found, amount, funds) refl, debit-moves g a kopecks (found-there g n k a found))
@@ -113,25 +112,25 @@ module _ (g : Gate) (t : Rows) (clock : List ℕ) (q : Instruction) (out : List 
   abbrev planned : Plan
   planned = plan_of g rs (length t.nums) 0 q
 
-  plan-pays : (a : ℕ) → q.action ≡ Payment → find_record q.details.receipt rs ≡ Nothing → date_closed g q.details.date ≡ false
-      → find_account q.details.number q.details.kind (accounts_of g) ≡ At a → g.used < length t.nums
-      → planned ≡ record { decided = record { code = 0; change = Append }; found = Nothing; payment = no_record; account = At a }
+  plan-pays : (a : ℕ) → q.action ≡ Payment → find_record q.details.receipt rs ≡ None → date_closed g q.details.date ≡ false
+      → find_account q.details.number q.details.kind (accounts_of g) ≡ Some a → g.used < length t.nums
+      → planned ≡ record { decided = record { code = 0; change = Append }; found = None; payment = no_record; account = Some a }
   unfolding plan_of plan_with decision decision_on payment_new view_of account_of date_of is_cancel is_full
   plan-pays a ea new day found room = rw (ea, new, day, found, lt-leb (length t.nums) g.used room) refl
 
-  respond-pays : (a : ℕ) → q.action ≡ Payment → find_record q.details.receipt rs ≡ Nothing → date_closed g q.details.date ≡ false
-      → find_account q.details.number q.details.kind (accounts_of g) ≡ At a → g.used < length t.nums → Paid g t clock q a (respond g t clock 0 q out)
+  respond-pays : (a : ℕ) → q.action ≡ Payment → find_record q.details.receipt rs ≡ None → date_closed g q.details.date ≡ false
+      → find_account q.details.number q.details.kind (accounts_of g) ≡ Some a → g.used < length t.nums → Paid g t clock q a (respond g t clock 0 q out)
   unfolding respond changed
   respond-pays a ea new day found room =
       subst (λ (p : Plan). Paid g t clock q a (respond_by g t clock q out p)) (sym (plan-pays a ea new day found room))
       (record { code = refl; gate = refl; rows = refl; balances = credit-moves g a q.details.amount (g.used + 1) (found-there g q.details.number q.details.kind a found) })
 
-  module _ (i a : ℕ) (ea : q.action ≡ Cancel) (there : find_record q.details.receipt rs ≡ At i) (done : (record_at t i).state ≡ 1) (day : date_closed g (record_at t i).date ≡ false)
-      (found : find_account (record_at t i).number (record_at t i).kind (accounts_of g) ≡ At a) (funds : lt_z (balance_at g a) (pos (record_at t i).amount) ≡ false) where
+  module _ (i a : ℕ) (ea : q.action ≡ Cancel) (there : find_record q.details.receipt rs ≡ Some i) (done : (record_at t i).state ≡ 1) (day : date_closed g (record_at t i).date ≡ false)
+      (found : find_account (record_at t i).number (record_at t i).kind (accounts_of g) ≡ Some a) (funds : lt_z (balance_at g a) (pos (record_at t i).amount) ≡ false) where
     within : i < g.used
     within = receipt-within t g.used q.details.receipt i (find_record q.details.receipt rs) refl there
 
-    plan-cancels : planned ≡ record { decided = record { code = 0; change = Revoke }; found = At i; payment = record_at t i; account = At a }
+    plan-cancels : planned ≡ record { decided = record { code = 0; change = Revoke }; found = Some i; payment = record_at t i; account = Some a }
     unfolding plan_of plan_with decision decision_on cancel_done view_of account_of date_of is_cancel
     plan-cancels = rw (ea, there, get_d-records t g.used i no_record within, eq-eqb (record_at t i).state 1 done, day, found, funds) refl
 
@@ -160,13 +159,13 @@ module _ (g : Gate) (t : Rows) (clock params out : List ℕ) (good : table_good 
   responds = rw (good, le-leb 512 (length out) size, dated, none) refl
 
   -- a payment that is not recorded, of an open day, to a known account, with a place left, is recorded and credited
-  pub pays : (a : ℕ) → asked.action ≡ Payment → find_record asked.details.receipt (records_of t g.used) ≡ Nothing → date_closed g asked.details.date ≡ false
-      → find_account asked.details.number asked.details.kind (accounts_of g) ≡ At a → g.used < length t.nums → Paid g t clock asked a (deliver g t clock params out)
+  pub pays : (a : ℕ) → asked.action ≡ Payment → find_record asked.details.receipt (records_of t g.used) ≡ None → date_closed g asked.details.date ≡ false
+      → find_account asked.details.number asked.details.kind (accounts_of g) ≡ Some a → g.used < length t.nums → Paid g t clock asked a (deliver g t clock params out)
   pays a ea new day found room = subst (Paid g t clock asked a) (sym responds) (respond-pays g t clock asked out a ea new day found room)
 
   -- a cancel of a payment that is done, of an open day, with the amount on its account, cancels it and takes the amount
-  pub cancels : (i a : ℕ) → asked.action ≡ Cancel → find_record asked.details.receipt (records_of t g.used) ≡ At i → (record_at t i).state ≡ 1 → date_closed g (record_at t i).date ≡ false
-      → find_account (record_at t i).number (record_at t i).kind (accounts_of g) ≡ At a → lt_z (balance_at g a) (pos (record_at t i).amount) ≡ false
+  pub cancels : (i a : ℕ) → asked.action ≡ Cancel → find_record asked.details.receipt (records_of t g.used) ≡ Some i → (record_at t i).state ≡ 1 → date_closed g (record_at t i).date ≡ false
+      → find_account (record_at t i).number (record_at t i).kind (accounts_of g) ≡ Some a → lt_z (balance_at g a) (pos (record_at t i).amount) ≡ false
       → Revoked g t clock i a (deliver g t clock params out)
   cancels i a ea there done day found funds = subst (Revoked g t clock i a) (sym responds) (respond-cancels g t clock asked out i a ea there done day found funds)
 
@@ -174,10 +173,10 @@ module _ (g : Gate) (t : Rows) (clock params out : List ℕ) (good : table_good 
 -- no record and no balance moves; or one record more, its amount on the first account that fits; or one record cancelled, its amount off its account
 pub data Moves (g : Gate) (t : Rows) (clock : List ℕ) (q : Instruction) (d : Delivery) : Type 0 where
   none_moves : records_of d.rows d.gate.used ≡ records_of t g.used → ((j : ℕ) → balance_at d.gate j ≡ balance_at g j) → Moves g t clock q d
-  one-paid : (a : ℕ) → find_record q.details.receipt (records_of t g.used) ≡ Nothing → find_account q.details.number q.details.kind (accounts_of g) ≡ At a
+  one-paid : (a : ℕ) → find_record q.details.receipt (records_of t g.used) ≡ None → find_account q.details.number q.details.kind (accounts_of g) ≡ Some a
       → records_of d.rows d.gate.used ≡ records_of t g.used ++ (make_record g clock q.details ∷ []) → Moved g d.gate a (balance_at g a +ℤ pos q.details.amount) → Moves g t clock q d
-  one-revoked : (i a : ℕ) → find_record q.details.receipt (records_of t g.used) ≡ At i → (record_at t i).state ≡ 1
-      → find_account (record_at t i).number (record_at t i).kind (accounts_of g) ≡ At a
+  one-revoked : (i a : ℕ) → find_record q.details.receipt (records_of t g.used) ≡ Some i → (record_at t i).state ≡ 1
+      → find_account (record_at t i).number (record_at t i).kind (accounts_of g) ≡ Some a
       → records_of d.rows d.gate.used ≡ set (records_of t g.used) i (revoked clock (record_at t i))
       → Moved g d.gate a (balance_at g a -ℤ pos (record_at t i).amount) → Moves g t clock q d
 
@@ -199,11 +198,11 @@ module _ (g : Gate) (t : Rows) (clock : List ℕ) (q : Instruction) (d : Deliver
       let within : i < g.used = receipt-within t g.used q.details.receipt i (find_record q.details.receipt (records_of t g.used)) refl ei in
       let is : r ≡ record_at t i = er ∙ get_d-records t g.used i no_record within in
       let h = found_at _ (known_of g i (record_at t i) (record-good g t good i within)) in
-      let fa : f ≡ At h.0 = ef ∙ ap (λ (x : Record). find_account x.number x.kind (accounts_of g)) is ∙ h.1 in
-      let now : d.gate ≡ debited g h.0 (record_at t i).amount = eg ∙ ap (λ (x : Found). debited_at g x r.amount) fa ∙ ap (λ (x : Record). debited g h.0 x.amount) is in
+      let fa : f ≡ Some h.0 = ef ∙ ap (λ (x : Record). find_account x.number x.kind (accounts_of g)) is ∙ h.1 in
+      let now : d.gate ≡ debited g h.0 (record_at t i).amount = eg ∙ ap (λ (x : Option ℕ). debited_at g x r.amount) fa ∙ ap (λ (x : Record). debited g h.0 x.amount) is in
       let rows : d.rows ≡ rows_from t (set (records_of t g.used) i (revoked clock (record_at t i))) = el ∙ ap (λ (x : Record). rows_from t (set (records_of t g.used) i (revoked clock x))) is in
       let l : length (set (records_of t g.used) i (revoked clock (record_at t i))) ≡ (debited g h.0 (record_at t i).amount).used
-      = length-set (records_of t g.used) i _ ∙ length-records t g.used ∙ sym (debit-used g (At h.0) (record_at t i).amount) in
+      = length-set (records_of t g.used) i _ ∙ length-records t g.used ∙ sym (debit-used g (Some h.0) (record_at t i).amount) in
       one-revoked i h.0 ei (ap (λ (x : Record). x.state) (sym is) ∙ es) h.1
       (left-records _ (debited g h.0 (record_at t i).amount) rows now l)
       (subst (λ (x : Gate). Moved g x h.0 (balance_at g h.0 -ℤ pos (record_at t i).amount)) (sym now)
@@ -217,18 +216,18 @@ deliver-moves g t clock params out =
 
 -- ---- the same as one equation
 -- an amount, where it goes to account j
-abbrev pub amount_at : ℕ → Found → ℕ → ℕ
-amount_at j Nothing n = 0
-amount_at j (At a) n = cond (eqb a j) n 0
+abbrev pub amount_at : ℕ → Option ℕ → ℕ → ℕ
+amount_at j None n = 0
+amount_at j (Some a) n = cond (eqb a j) n 0
 
 -- what a delivery that added a record adds to the balance at j
 abbrev pub raised : Gate → Instruction → Delivery → ℕ → ℕ
 raised g q d j = cond (ltb g.used d.gate.used) (amount_at j (find_account q.details.number q.details.kind (accounts_of g)) q.details.amount) 0
 
 -- what a delivery that turned record i from done to cancelled takes from it
-abbrev pub lowered : Gate → Rows → Delivery → Found → ℕ → ℕ
-lowered g t d Nothing j = 0
-lowered g t d (At i) j =
+abbrev pub lowered : Gate → Rows → Delivery → Option ℕ → ℕ → ℕ
+lowered g t d None j = 0
+lowered g t d (Some i) j =
     cond (eqb (record_at t i).state 1 && eqb (record_at d.rows i).state 2) (amount_at j (find_account (record_at t i).number (record_at t i).kind (accounts_of g)) (record_at t i).amount) 0
 
 revoked-state : (clock : List ℕ) (r : Record) → (revoked clock r).state ≡ 2
@@ -256,9 +255,9 @@ module _ (g : Gate) (t : Rows) (clock : List ℕ) (q : Instruction) (d : Deliver
   none-raised : d.gate.used ≡ g.used → raised g q d j ≡ 0
   none-raised e = rw (le-ltb g.used d.gate.used (omega (arith, e)))
 
-  none-lowered : records_of d.rows d.gate.used ≡ records_of t g.used → (f : Found) → find_record q.details.receipt (records_of t g.used) ≡ f → lowered g t d f j ≡ 0
-  none-lowered e Nothing ef = refl
-  none-lowered e (At i) ef = go (eqb (record_at t i).state 1) refl
+  none-lowered : records_of d.rows d.gate.used ≡ records_of t g.used → (f : Option ℕ) → find_record q.details.receipt (records_of t g.used) ≡ f → lowered g t d f j ≡ 0
+  none-lowered e None ef = refl
+  none-lowered e (Some i) ef = go (eqb (record_at t i).state 1) refl
     where
       within : i < g.used
       within = receipt-within t g.used q.details.receipt i (find_record q.details.receipt (records_of t g.used)) refl ef

@@ -1,4 +1,5 @@
 -- A call that gives a fault keeps everything: the gate, the rows, and with 68, 50 and 51 the buffer too.
+use Rattle.std.specs.Prelude.{Option, Some, None}
 use Prim.Native.Nat.{ℕ, ◌≤◌, ◌<◌}
 use mathlib.Core.Path.{◌≡◌, refl, sym, ◌∙◌}
 use mathlib.Core.Bool.{Bool, true, false, cond, not, ◌&&◌}
@@ -17,8 +18,6 @@ use Rattle.texts.proofs.Tests.{cond-elim, no-claim}
 use Rattle.payments.specs.declared.Instruction.{Instruction}
 use Rattle.message.specs.Request.{request_read}
 use Rattle.table.specs.declared.Gate.{Gate}
-use Rattle.lists.specs.declared.Found.{Found}
-use Rattle.lists.specs.declared.Found.TheVariants.{At, Nothing}
 use Rattle.lists.specs.Lists.{is_found}
 use Rattle.table.specs.Table.{Rows}
 use Rattle.table.specs.Accounts.{accounts_of, find_account, balance_at, debited, opened}
@@ -119,10 +118,10 @@ module _ (g : Gate) where
       (λ _. cond-elim (ReplyKeeps g) (leb 256 g.count) _ _ (λ _. refuses 57) (λ _. done (opened g n k))))
       (λ _. refuses 59)
 
-  draw-on-keeps : (f : Found) (m : ℕ) → ReplyKeeps g (draw_on g f m)
+  draw-on-keeps : (f : Option ℕ) (m : ℕ) → ReplyKeeps g (draw_on g f m)
   unfolding draw_on
-  draw-on-keeps Nothing m = refuses 59
-  draw-on-keeps (At a) m =
+  draw-on-keeps None m = refuses 59
+  draw-on-keeps (Some a) m =
       cond-elim (ReplyKeeps g) (is_amount m && not (lt_z (balance_at g a) (pos m))) _ _ (λ _. done (debited g a m)) (λ _. refuses 58)
 
   -- an opening with a code other than 0 keeps the gate

@@ -1,4 +1,5 @@
 -- A recorded receipt is never credited again.
+use Rattle.std.specs.Prelude.{Option, Some, None}
 use Prim.Native.Nat.{ℕ, zero, suc, ◌+◌, ◌-◌}
 use native.Mathlib.Omega.{arith}
 use mathlib.Core.Path.{◌≡◌, refl, sym, ap, ◌∙◌}
@@ -15,8 +16,6 @@ use Rattle.message.specs.Request.{request_read}
 use Rattle.table.specs.declared.Account.{Account}
 use Rattle.table.specs.declared.Gate.{Gate}
 use Rattle.table.specs.declared.Record.{Record}
-use Rattle.lists.specs.declared.Found.{Found}
-use Rattle.lists.specs.declared.Found.TheVariants.{At, Nothing}
 use Rattle.table.specs.Table.{Rows, records_of, find_record, rows_from}
 use Rattle.table.specs.Accounts.{no_account, balance_at, with_balance, debited}
 use Rattle.table.proofs.TableLaws.{length-records, records-from}
@@ -57,10 +56,10 @@ balance-set (y ∷ l) zero (suc j) x h = ≤ℤ_refl _
 balance-set (y ∷ l) (suc i) zero x h = ≤ℤ_refl _
 balance-set (y ∷ l) (suc i) (suc j) x h = balance-set l i j x h
 
-debit-below : (g : Gate) (f : Found) (n j : ℕ) → balance_at (debited_at g f n) j ≤ℤ balance_at g j
+debit-below : (g : Gate) (f : Option ℕ) (n j : ℕ) → balance_at (debited_at g f n) j ≤ℤ balance_at g j
 unfolding debited
-debit-below g Nothing n j = ≤ℤ_refl _
-debit-below g (At a) n j = balance-set g.accounts a j (with_balance (get_or g.accounts a no_account) (balance_at g a -ℤ pos n)) (minus-below (balance_at g a) n)
+debit-below g None n j = ≤ℤ_refl _
+debit-below g (Some a) n j = balance-set g.accounts a j (with_balance (get_or g.accounts a no_account) (balance_at g a -ℤ pos n)) (minus-below (balance_at g a) n)
 
 -- rows written from their own records hold the same records
 pub same-records : (t : Rows) (n : ℕ) → records_of (rows_from t (records_of t n)) n ≡ records_of t n
@@ -68,19 +67,19 @@ same-records t n = rw (length-records t n) at (records-from t (records_of t n) n
 
 -- ---- a request whose receipt is recorded
 -- its decision never appends: it keeps or revokes
-pub once-decided : (g : Gate) (rs : List Record) (lent fault : ℕ) (q : Instruction) (i : ℕ) → find_record q.details.receipt rs ≡ At i → (plan_of g rs lent fault q).decided.change ≡ Append → ⊥
+pub once-decided : (g : Gate) (rs : List Record) (lent fault : ℕ) (q : Instruction) (i : ℕ) → find_record q.details.receipt rs ≡ Some i → (plan_of g rs lent fault q).decided.change ≡ Append → ⊥
 unfolding plan_of plan_with
 once-decided g rs lent fault q i known h =
-    let f : Found = find_record q.details.receipt rs in
+    let f : Option ℕ = find_record q.details.receipt rs in
     let r : Record = record_found rs f in
     let b : Appends fault q.action (standing_of q f r) (view_of g lent q r (account_of g q r)) = append-of fault q.action (standing_of q f r) (view_of g lent q r (account_of g q r)) h in
-    let y : At i ≡ Nothing = sym known ∙ missing-of q f r b.standing in
+    let y : Some i ≡ None = sym known ∙ missing-of q f r b.standing in
     let z : ◌≡◌ {A = ℕ} 0 1 = cc in
     omega arith
 
-module _ (g : Gate) (t : Rows) (clock : List ℕ) (fault : ℕ) (q : Instruction) (out : List ℕ) (i : ℕ) (known : find_record q.details.receipt (records_of t g.used) ≡ At i) where
-  absent : {A : Type 0} → find_record q.details.receipt (records_of t g.used) ≡ Nothing → A
-  absent e = let y : At i ≡ Nothing = sym known ∙ e in let z : ◌≡◌ {A = ℕ} 0 1 = cc in absurd (omega arith)
+module _ (g : Gate) (t : Rows) (clock : List ℕ) (fault : ℕ) (q : Instruction) (out : List ℕ) (i : ℕ) (known : find_record q.details.receipt (records_of t g.used) ≡ Some i) where
+  absent : {A : Type 0} → find_record q.details.receipt (records_of t g.used) ≡ None → A
+  absent e = let y : Some i ≡ None = sym known ∙ e in let z : ◌≡◌ {A = ℕ} 0 1 = cc in absurd (omega arith)
 
   -- the number of records stays
   pub once-used : (respond g t clock fault q out).gate.used ≡ g.used
@@ -111,7 +110,7 @@ module _ (g : Gate) (t : Rows) (clock : List ℕ) (fault : ℕ) (q : Instruction
       go d (revokes k r f ea ek er ef es day fu ec eg el) = let y : Payment ≡ Cancel = sym p ∙ ea in let z : ◌≡◌ {A = ℕ} 0 1 = cc in absurd (omega arith)
 
 -- ---- the same for a delivery
-module _ (g : Gate) (t : Rows) (clock params out : List ℕ) (i : ℕ) (known : find_record (request_read params).asked.receipt (records_of t g.used) ≡ At i) where
+module _ (g : Gate) (t : Rows) (clock params out : List ℕ) (i : ℕ) (known : find_record (request_read params).asked.receipt (records_of t g.used) ≡ Some i) where
   -- a delivery of a recorded receipt adds no record
   pub delivered-once : (deliver g t clock params out).gate.used ≡ g.used
   delivered-once =

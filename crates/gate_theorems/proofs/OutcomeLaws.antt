@@ -1,4 +1,5 @@
 -- What a delivery may change: only a payment adds a record, and only a cancel revokes one.
+use Rattle.std.specs.Prelude.{Option, Some, None}
 use Prim.Native.Nat.{ℕ, ◌+◌, ◌<◌}
 use native.Mathlib.Omega.{arith}
 use mathlib.Core.Path.{◌≡◌, refl, sym, ap, ◌∙◌}
@@ -12,8 +13,6 @@ use Rattle.payments.specs.declared.Action.TheVariants.{Payment, Cancel}
 use Rattle.payments.specs.declared.Instruction.{Instruction}
 use Rattle.table.specs.declared.Record.{Record}
 use Rattle.table.specs.declared.Gate.{Gate}
-use Rattle.lists.specs.declared.Found.{Found}
-use Rattle.lists.specs.declared.Found.TheVariants.{At, Nothing}
 use Rattle.lists.specs.Lists.{is_found}
 use Rattle.table.specs.Table.{Rows, records_of, find_record, rows_from}
 use Rattle.table.specs.Accounts.{accounts_of, find_account, credited, with_used}
@@ -34,12 +33,12 @@ use Rattle.rules.proofs.DecisionLaws.{Appends, Revokes, decision-cases, append-o
 -- ---- the outcomes of a request: all stays, a payment is recorded, or a payment is revoked
 pub data Outcome (g : Gate) (t : Rows) (clock : List ℕ) (q : Instruction) (d : Delivery) : Type 0 where
   stays : d.gate ≡ g → d.rows ≡ rows_from t (records_of t g.used) → Outcome g t clock q d
-  appends : (a : ℕ) → q.action ≡ Payment → find_record q.details.receipt (records_of t g.used) ≡ Nothing
-      → find_account q.details.number q.details.kind (accounts_of g) ≡ At a → g.used < length t.nums → date_closed g q.details.date ≡ false → d.code ≡ 0
+  appends : (a : ℕ) → q.action ≡ Payment → find_record q.details.receipt (records_of t g.used) ≡ None
+      → find_account q.details.number q.details.kind (accounts_of g) ≡ Some a → g.used < length t.nums → date_closed g q.details.date ≡ false → d.code ≡ 0
       → d.gate ≡ with_used (credited g a q.details.amount) (g.used + 1) → d.rows ≡ rows_from t (records_of t g.used ++ (make_record g clock q.details ∷ []))
       → Outcome g t clock q d
-  revokes : (i : ℕ) (r : Record) (f : Found) → q.action ≡ Cancel → find_record q.details.receipt (records_of t g.used) ≡ At i
-      → r ≡ record_found (records_of t g.used) (At i) → f ≡ find_account r.number r.kind (accounts_of g) → r.state ≡ 1
+  revokes : (i : ℕ) (r : Record) (f : Option ℕ) → q.action ≡ Cancel → find_record q.details.receipt (records_of t g.used) ≡ Some i
+      → r ≡ record_found (records_of t g.used) (Some i) → f ≡ find_account r.number r.kind (accounts_of g) → r.state ≡ 1
       → date_closed g r.date ≡ false → is_short g f r.amount ≡ false → d.code ≡ 0
       → d.gate ≡ debited_at g f r.amount → d.rows ≡ rows_from t (set (records_of t g.used) i (revoked clock r))
       → Outcome g t clock q d
@@ -50,9 +49,9 @@ other-standing true true h = let z : ◌≡◌ {A = ℕ} 0 1 = cc in absurd (ome
 other-standing true false h = let z : ◌≡◌ {A = ℕ} 0 1 = cc in absurd (omega arith)
 other-standing false c h = let z : ◌≡◌ {A = ℕ} 0 1 = cc in absurd (omega arith)
 
-found-of : {A : Type 0} (q : Instruction) (f : Found) (r : Record) → ((i : ℕ) → f ≡ At i → r.state ≡ 1 → A) → standing_of q f r ≡ Done → A
-found-of q Nothing r k h = let z : ◌≡◌ {A = ℕ} 0 1 = cc in absurd (omega arith)
-found-of q (At i) r k h = k i refl (eqb-true r.state 1 (go (agrees q.action q.details r) (eqb r.state 1) h))
+found-of : {A : Type 0} (q : Instruction) (f : Option ℕ) (r : Record) → ((i : ℕ) → f ≡ Some i → r.state ≡ 1 → A) → standing_of q f r ≡ Done → A
+found-of q None r k h = let z : ◌≡◌ {A = ℕ} 0 1 = cc in absurd (omega arith)
+found-of q (Some i) r k h = k i refl (eqb-true r.state 1 (go (agrees q.action q.details r) (eqb r.state 1) h))
   where
     go : (a b : Bool) → cond a (cond b Done Cancelled) Other ≡ Done → b ≡ true
     go a true h = refl
@@ -60,13 +59,13 @@ found-of q (At i) r k h = k i refl (eqb-true r.state 1 (go (agrees q.action q.de
     go false false h = let z : ◌≡◌ {A = ℕ} 0 1 = cc in absurd (omega arith)
 
 -- what stands unrecorded was not found
-pub missing-of : (q : Instruction) (f : Found) (r : Record) → standing_of q f r ≡ Unrecorded → f ≡ Nothing
-missing-of q Nothing r h = refl
-missing-of q (At i) r h = other-standing (agrees q.action q.details r) (eqb r.state 1) h
+pub missing-of : (q : Instruction) (f : Option ℕ) (r : Record) → standing_of q f r ≡ Unrecorded → f ≡ None
+missing-of q None r h = refl
+missing-of q (Some i) r h = other-standing (agrees q.action q.details r) (eqb r.state 1) h
 
-place-of : {A : Type 0} (f : Found) → ((i : ℕ) → f ≡ At i → A) → is_found f ≡ true → A
-place-of (At i) k h = k i refl
-place-of Nothing k h = let z : ◌≡◌ {A = ℕ} 0 1 = cc in absurd (omega arith)
+place-of : {A : Type 0} (f : Option ℕ) → ((i : ℕ) → f ≡ Some i → A) → is_found f ≡ true → A
+place-of (Some i) k h = k i refl
+place-of None k h = let z : ◌≡◌ {A = ℕ} 0 1 = cc in absurd (omega arith)
 
 module _ (g : Gate) (q : Instruction) (r : Record) where
   own-account : q.action ≡ Payment → account_of g q r ≡ find_account q.details.number q.details.kind (accounts_of g)
@@ -85,7 +84,7 @@ module _ (g : Gate) (q : Instruction) (r : Record) where
   unfolding date_of is_cancel
   its-date e = rw e
 
-module _ (g : Gate) (t : Rows) (clock : List ℕ) (fault : ℕ) (q : Instruction) (out : List ℕ) (f : Found) (r : Record) where
+module _ (g : Gate) (t : Rows) (clock : List ℕ) (fault : ℕ) (q : Instruction) (out : List ℕ) (f : Option ℕ) (r : Record) where
   outcome-at : (rs : List Record) → rs ≡ records_of t g.used → f ≡ find_record q.details.receipt rs → r ≡ record_found rs f → (c : Change) (p : Plan)
       → p ≡ plan_with g (length t.nums) fault q f r → p.decided.change ≡ c
       → Outcome g t clock q (answered t out q.action p.decided.code clock (changed c g rs clock q p))
@@ -100,7 +99,7 @@ module _ (g : Gate) (t : Rows) (clock : List ℕ) (fault : ℕ) (q : Instruction
       (leb-false (length t.nums) g.used b.room)
       (ap (date_closed g) (sym (own-date g q r b.action)) ∙ b.unclosed)
       (ap (λ (x : Plan). x.decided.code) ep ∙ b.code)
-      (ap (λ (x : Found). with_used (credited_at g x q.details.amount) (g.used + 1)) (ap (λ (x : Plan). x.account) ep ∙ ea))
+      (ap (λ (x : Option ℕ). with_used (credited_at g x q.details.amount) (g.used + 1)) (ap (λ (x : Plan). x.account) ep ∙ ea))
       (rw ers))
       b.known
   outcome-at rs ers ef er Revoke p ep ec =
@@ -123,7 +122,7 @@ pub outcome : (g : Gate) (t : Rows) (clock : List ℕ) (fault : ℕ) (q : Instru
 unfolding respond plan_of
 outcome g t clock fault q out =
     let rs : List Record = records_of t g.used in
-    let f : Found = find_record q.details.receipt rs in
+    let f : Option ℕ = find_record q.details.receipt rs in
     let r : Record = record_found rs f in
     let p : Plan = plan_with g (length t.nums) fault q f r in
     outcome-at g t clock fault q out f r rs refl refl refl p.decided.change p refl refl

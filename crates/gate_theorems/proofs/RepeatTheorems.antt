@@ -1,5 +1,6 @@
 -- Document 02, [3]: a payment whose receipt is recorded. Where it tells what the record has, it is answered as before that request: 0 or 7 with the
 -- record's authcode and date. Any other gets 4, whatever the record's state, the day, the account and the table. Nothing moves in either case.
+use Rattle.std.specs.Prelude.{Some}
 use Prim.Native.Nat.{ℕ, ◌≤◌, ◌<◌}
 use mathlib.Core.Path.{◌≡◌, refl}
 use mathlib.Core.Bool.{Bool, true, false, cond}
@@ -18,7 +19,6 @@ use Rattle.message.specs.Request.{request_read}
 use Rattle.answers.specs.Answer.{answer_bytes}
 use Rattle.table.specs.declared.Record.{Record}
 use Rattle.table.specs.declared.Gate.{Gate}
-use Rattle.lists.specs.declared.Found.TheVariants.{At}
 use Rattle.table.specs.Table.{Rows, no_record, record_at, records_of, find_record, same_payment}
 use Rattle.table.specs.Daily.{is_done}
 use Rattle.table.proofs.TableLaws.{get_d-records, receipt-within, rows-kept}
@@ -46,7 +46,7 @@ abbrev pub only : Gate → Rows → List ℕ → Answer → Delivery
 only g t out x = record { code = x.code; gate = g; rows = t; out = written out 0 (answer_bytes x); size = cursor_after out 0 (answer_bytes x) }
 
 module _ (g : Gate) (t : Rows) (ready : Ready g t) (clock params out : List ℕ) (good : table_good g t ≡ true) (room : 512 ≤ length out) (dated : is_written clock ≡ true)
-    (sound : (request_read params).fault ≡ 0) (payment : asks params ≡ Payment) (i : ℕ) (there : find_record (request_read params).asked.receipt (records_of t g.used) ≡ At i) where
+    (sound : (request_read params).fault ≡ 0) (payment : asks params ≡ Payment) (i : ℕ) (there : find_record (request_read params).asked.receipt (records_of t g.used) ≡ Some i) where
   abbrev told : Bool
   told = agrees Payment (instruction_in params).details (record_at t i)
 
@@ -77,7 +77,7 @@ unfolding revoked same_payment
 revoked-agrees clock r d = refl
 
 -- ---- every other action goes by the state of the record, as before
-pub by_state : (q : Instruction) (i : ℕ) (r : Record) → (q.action ≡ Payment → ⊥) → standing_of q (At i) r ≡ cond (is_done r) Done Cancelled
+pub by_state : (q : Instruction) (i : ℕ) (r : Record) → (q.action ≡ Payment → ⊥) → standing_of q (Some i) r ≡ cond (is_done r) Done Cancelled
 by_state q i r other = go q.action refl
   where
     go : (a : Action) → q.action ≡ a → cond (agrees a q.details r) (cond (is_done r) Done Cancelled) Other ≡ cond (is_done r) Done Cancelled

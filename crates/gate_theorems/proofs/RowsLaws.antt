@@ -1,4 +1,5 @@
 -- A delivery keeps row 68: every record is good again at its place, and the gate keeps its accounts' names and its closed day.
+use Rattle.std.specs.Prelude.{Option, Some, None}
 use Prim.Native.Nat.{ℕ, zero, suc, ◌+◌, ◌-◌, ◌<◌, ◌≤◌}
 use native.Mathlib.Decide.{ℕ_discrete}
 use native.Mathlib.Omega.{arith}
@@ -24,8 +25,6 @@ use Rattle.message.proofs.RequestRange.{read-good}
 use Rattle.table.specs.declared.Account.{Account}
 use Rattle.table.specs.declared.Gate.{Gate}
 use Rattle.table.specs.declared.Record.{Record}
-use Rattle.lists.specs.declared.Found.{Found}
-use Rattle.lists.specs.declared.Found.TheVariants.{At, Nothing}
 use Rattle.lists.specs.Lists.{first_from}
 use Rattle.table.specs.Table.{Rows, record_at, records_of, rows_from, Whole}
 use Rattle.table.specs.Accounts.{is_account, accounts_of, find_account, no_account, with_balance, gate_balance, credited, debited, with_used}
@@ -73,7 +72,7 @@ module _ (z : ℤ) where
   find-moved n k zero i l a = refl
   find-moved n k (suc m) i [] a = refl
   find-moved n k (suc m) i (y ∷ l) zero = refl
-  find-moved n k (suc m) i (y ∷ l) (suc a) = ap (λ (f : Found). cond (is_account n k y) (At i) f) (find-moved n k m (i + 1) l a)
+  find-moved n k (suc m) i (y ∷ l) (suc a) = ap (λ (f : Option ℕ). cond (is_account n k y) (Some i) f) (find-moved n k m (i + 1) l a)
 
   -- a gate with a balance moved has the same names
   pub names-moved : (g : Gate) (a : ℕ) → SameNames g (gate_balance g a z)
@@ -100,14 +99,14 @@ unfolding credited
 names-credited g a n = names-moved _ g a
 
 -- and one that is debited
-pub names-debited : (g : Gate) (f : Found) (n : ℕ) → SameNames g (debited_at g f n)
+pub names-debited : (g : Gate) (f : Option ℕ) (n : ℕ) → SameNames g (debited_at g f n)
 unfolding debited
-names-debited g Nothing n = names_same g g refl
-names-debited g (At a) n = names-moved _ g a
+names-debited g None n = names_same g g refl
+names-debited g (Some a) n = names-moved _ g a
 
 -- ---- a record that is made or revoked is good
 pub made-good : (g : Gate) (clock : List ℕ) (q : Details) (a : ℕ) → is_receipt q.receipt ≡ true → is_amount q.amount ≡ true → is_written q.date ≡ true → is_written clock ≡ true
-    → find_account q.number q.kind (accounts_of g) ≡ At a → record_good g g.used (make_record g clock q) ≡ true
+    → find_account q.number q.kind (accounts_of g) ≡ Some a → record_good g g.used (make_record g clock q) ≡ true
 unfolding record_good authcode_good ranges_good state_good account_known make_record next_authcode eq_list
 made-good g clock q a receipt amount date dated known = rw (eq-eqb (g.used + 1) (g.used + 1) refl, receipt, amount, date, dated, known) refl
 

@@ -1,20 +1,19 @@
 -- Laws of a walk along a chain, for a test that holds only in one slot: it meets the first element that fits.
+use Rattle.std.specs.Prelude.{Option, Some, None}
 use mathlib.Core.Path.{◌≡◌, refl, sym, ap, ◌∙◌}
 use mathlib.Core.Bool.{Bool, true, false, cond, ◌||◌}
 use mathlib.Core.List.{List, [], ◌∷◌}
 use Prim.Native.Nat.{ℕ, zero, suc, ◌+◌, ◌-◌, ◌<◌, ◌≤◌}
 use native.Mathlib.Omega.{arith}
 use lib.ListN.{length, get_or, drop}
-use Rattle.lists.specs.declared.Found.{Found}
-use Rattle.lists.specs.declared.Found.TheVariants.{At, Nothing}
 use Rattle.lists.specs.Lists.{first_from, is_found}
 use Rattle.lists.proofs.ListLaws.{search-hit, search-miss, search-end}
 use Rattle.index.specs.Index.{slot_of, Link, Chained}
 use Rattle.index.proofs.ChainLaws.{link-as}
 
 -- the first that fits from the place of a link on, none behind the end
-unfoldable pub from_link : {A : Type 0} → (A → Bool) → ℕ → List A → Found
-from_link q zero l = Nothing
+unfoldable pub from_link : {A : Type 0} → (A → Bool) → ℕ → List A → Option ℕ
+from_link q zero l = None
 from_link q (suc i) l = first_from q i (drop i l)
 
 -- the places that a walk of n may still meet
@@ -62,7 +61,7 @@ module _ {A : Type 0} (q : A → Bool) (l : List A) (z : A) where
     walk_from at k = record { size = size; agree = agree; most = k.within; slot = k.slot; rest = leap 0 at (omega arith) k }
 
 module _ {A : Type 0} {q : A → Bool} {l : List A} {key : ℕ → ℕ} {s n at : ℕ} (w : Walk q l key s n at) where
-  pub walk_none : at ≤ 0 → first_from q 0 l ≡ Nothing
+  pub walk_none : at ≤ 0 → first_from q 0 l ≡ None
   unfolding from_link
   walk_none h = let e : at ≡ 0 = omega arith in w.rest ∙ ap (λ (m : ℕ). from_link q m l) e
 
@@ -74,7 +73,7 @@ module _ {A : Type 0} {q : A → Bool} {l : List A} {key : ℕ → ℕ} {s n at 
     pub walk-in : (m : ℕ) → n ≤ m → at - 1 < m
     walk-in m b = omega (arith, w.most)
 
-    pub walk-hit : (z : A) → q (get_or l (at - 1) z) ≡ true → first_from q 0 l ≡ At (at - 1)
+    pub walk-hit : (z : A) → q (get_or l (at - 1) z) ≡ true → first_from q 0 l ≡ Some (at - 1)
     walk-hit z y = here ∙ search-hit q (at - 1) l z (omega (arith, w.most, w.size)) y
 
     module _ (heads next : List ℕ) (c : Chained key 0 n heads next) (r : ℕ) (er : r ≡ get_or next (at - 1) 0) where
@@ -113,6 +112,6 @@ unfolding first_from
 found-any q any none more i [] = sym none
 found-any q any none more i (x ∷ l) = go (q x) (found-any q any none more (i + 1) l) ∙ sym (more x l)
   where
-    go : (b : Bool) → is_found (first_from q (i + 1) l) ≡ any l → is_found (cond b (At i) (first_from q (i + 1) l)) ≡ b || any l
+    go : (b : Bool) → is_found (first_from q (i + 1) l) ≡ any l → is_found (cond b (Some i) (first_from q (i + 1) l)) ≡ b || any l
     go true e = refl
     go false e = e

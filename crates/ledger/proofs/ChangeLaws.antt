@@ -1,4 +1,5 @@
 -- Laws of the changes that a decision may make.
+use Rattle.std.specs.Prelude.{Option, Some, None}
 use Prim.Native.Nat.{ℕ, ◌+◌, ◌≤◌, ◌<◌, ◌^◌}
 use native.Mathlib.Omega.{arith}
 use mathlib.Core.Path.{◌≡◌, refl, sym, ap, ◌∙◌}
@@ -17,8 +18,6 @@ use Rattle.table.specs.declared.Record.{Record}
 use Rattle.table.specs.declared.Gate.{Gate}
 use Rattle.table.specs.declared.Head.{Head}
 use Rattle.table.specs.Columns.{gate_of, used_head, columns_of}
-use Rattle.lists.specs.declared.Found.{Found}
-use Rattle.lists.specs.declared.Found.TheVariants.{At, Nothing}
 use Rattle.table.specs.Table.{Rows, records_of, find_record, rows_from, rows_with, Whole, SameLengths}
 use Rattle.table.specs.declared.accounts.Holding.{Holding}
 use Rattle.table.specs.Accounts.{no_account, balance_at, balance_of, holding_of, credited, debited, with_accounts, with_used, gate_balance}
@@ -49,52 +48,52 @@ module _ (b r : ℤ) (n : ℕ) (near : mag b ≤ 10000000000000000) (fits : mag 
   rest_back e = back r fits ∙ e ∙ ap (λ (z : ℤ). z -ℤ pos n) (near-back b near)
 
 -- ---- the balance of the account that was found, among balances that are lent
-module _ (f : Found) (z : ℤ) (l m : List ℤ) where
-  pub moved_none : f ≡ Nothing → m ≡ l → (h : Head) (names keys : List (List ℕ)) (n : ℕ) → gate_of (used_head h n) (columns_of names keys m) ≡ moved_at (gate_of h (columns_of names keys l)) f z n
+module _ (f : Option ℕ) (z : ℤ) (l m : List ℤ) where
+  pub moved_none : f ≡ None → m ≡ l → (h : Head) (names keys : List (List ℕ)) (n : ℕ) → gate_of (used_head h n) (columns_of names keys m) ≡ moved_at (gate_of h (columns_of names keys l)) f z n
   moved_none e q h names keys n = rw (e, q)
 
-  pub moved-there : (a : ℕ) → f ≡ At a → (y : ℤ) → y ≡ z → ((h : Head) (names keys : List (List ℕ)) → gate_of h (columns_of names keys m) ≡ gate_balance (gate_of h (columns_of names keys l)) a y)
+  pub moved-there : (a : ℕ) → f ≡ Some a → (y : ℤ) → y ≡ z → ((h : Head) (names keys : List (List ℕ)) → gate_of h (columns_of names keys m) ≡ gate_balance (gate_of h (columns_of names keys l)) a y)
       → (h : Head) (names keys : List (List ℕ)) (n : ℕ) → gate_of (used_head h n) (columns_of names keys m) ≡ moved_at (gate_of h (columns_of names keys l)) f z n
   moved-there a e y ey put h names keys n = rw (e, ← ey) (put (used_head h n) names keys)
 
-pub moved-place : (f : Found) (a n : ℕ) → f ≡ At a → Within f n → n ≤ 256 → a < 256
+pub moved-place : (f : Option ℕ) (a n : ℕ) → f ≡ Some a → Within f n → n ≤ 256 → a < 256
 moved-place f a n e w h = let l : a < n = w.at a e in omega arith
 
-pub within-most : (f : Found) (n : ℕ) → Within f n → n ≤ 256 → Within f 256
+pub within-most : (f : Option ℕ) (n : ℕ) → Within f n → n ≤ 256 → Within f 256
 within-most f n w h = record { at = λ a e. moved-place f a n e w h }
 
 -- a balance as it is, and so many records, leave the gate
-pub moved_same : (g : Gate) (f : Found) (z : ℤ) (n : ℕ) → g.used ≡ n → balance_of g f ≡ z → moved_at g f z n ≡ g
+pub moved_same : (g : Gate) (f : Option ℕ) (z : ℤ) (n : ℕ) → g.used ≡ n → balance_of g f ≡ z → moved_at g f z n ≡ g
 moved_same g f z n en eb = ap (moved_at g f z) (sym en) ∙ ap (λ (y : ℤ). moved_at g f y g.used) (sym eb) ∙ go f
   where
-    go : (f : Found) → moved_at g f (balance_of g f) g.used ≡ g
-    go Nothing = refl
-    go (At a) = ap (with_accounts g) (set-get_or g.accounts a no_account)
+    go : (f : Option ℕ) → moved_at g f (balance_of g f) g.used ≡ g
+    go None = refl
+    go (Some a) = ap (with_accounts g) (set-get_or g.accounts a no_account)
 
 -- moved by an amount, it is credited or debited
-pub moved-credit : (g : Gate) (f : Found) (b z : ℤ) (m n : ℕ) → balance_of g f ≡ b → z ≡ b +ℤ pos m → moved_at g f z n ≡ with_used (credited_at g f m) n
+pub moved-credit : (g : Gate) (f : Option ℕ) (b z : ℤ) (m n : ℕ) → balance_of g f ≡ b → z ≡ b +ℤ pos m → moved_at g f z n ≡ with_used (credited_at g f m) n
 unfolding credited
-moved-credit g Nothing b z m n eb ez = refl
-moved-credit g (At a) b z m n eb ez = ap (λ (y : ℤ). with_used (gate_balance g a y) n) (ez ∙ ap (λ (y : ℤ). y +ℤ pos m) (sym eb))
+moved-credit g None b z m n eb ez = refl
+moved-credit g (Some a) b z m n eb ez = ap (λ (y : ℤ). with_used (gate_balance g a y) n) (ez ∙ ap (λ (y : ℤ). y +ℤ pos m) (sym eb))
 
-pub moved-debit : (g : Gate) (f : Found) (b z : ℤ) (m n : ℕ) → g.used ≡ n → balance_of g f ≡ b → z ≡ b -ℤ pos m → moved_at g f z n ≡ debited_at g f m
+pub moved-debit : (g : Gate) (f : Option ℕ) (b z : ℤ) (m n : ℕ) → g.used ≡ n → balance_of g f ≡ b → z ≡ b -ℤ pos m → moved_at g f z n ≡ debited_at g f m
 unfolding debited
-moved-debit g Nothing b z m n en eb ez = ap (with_used g) (sym en)
-moved-debit g (At a) b z m n en eb ez =
+moved-debit g None b z m n en eb ez = ap (with_used g) (sym en)
+moved-debit g (Some a) b z m n en eb ez =
     ap (λ (y : ℤ). with_used (gate_balance g a y) n) (ez ∙ ap (λ (y : ℤ). y -ℤ pos m) (sym eb)) ∙ ap (with_used (gate_balance g a (balance_at g a -ℤ pos m))) (sym en)
 
 -- a debit keeps the number of records
-pub debit-used : (g : Gate) (f : Found) (n : ℕ) → (debited_at g f n).used ≡ g.used
+pub debit-used : (g : Gate) (f : Option ℕ) (n : ℕ) → (debited_at g f n).used ≡ g.used
 unfolding debited
-debit-used g Nothing n = refl
-debit-used g (At a) n = refl
+debit-used g None n = refl
+debit-used g (Some a) n = refl
 
 -- ---- the place that was found
-module _ (t : Rows) (used : ℕ) (whole : Whole t used) (f : Found) (within : Within f used) (r : Record) where
-  pub replaced : (i : ℕ) → f ≡ At i → (t' : Rows) → t' ≡ rows_with t i r → t' ≡ rows_from t (replaced_at (records_of t used) f r)
+module _ (t : Rows) (used : ℕ) (whole : Whole t used) (f : Option ℕ) (within : Within f used) (r : Record) where
+  pub replaced : (i : ℕ) → f ≡ Some i → (t' : Rows) → t' ≡ rows_with t i r → t' ≡ rows_from t (replaced_at (records_of t used) f r)
   replaced i e t' q = q ∙ rw e (sym (rows-set t used whole i r (within.at i e)))
 
-  pub nothing-replaced : f ≡ Nothing → (t' : Rows) → t' ≡ t → t' ≡ rows_from t (replaced_at (records_of t used) f r)
+  pub nothing-replaced : f ≡ None → (t' : Rows) → t' ≡ t → t' ≡ rows_from t (replaced_at (records_of t used) f r)
   nothing-replaced e t' q = q ∙ rw e (sym (rows-kept t used whole))
 
 -- ---- a record more
@@ -113,12 +112,12 @@ pub place-small : (n used : ℕ) → used < n → n ≤ 4096 → used < 4096
 place-small n used h l = omega arith
 
 -- the record that was found cancelled
-pub revoked-rows : (t : Rows) (used : ℕ) (f : Found) (r r' : Record) → r ≡ r' → (t' : Rows) → t' ≡ rows_from t (replaced_at (records_of t used) f r)
+pub revoked-rows : (t : Rows) (used : ℕ) (f : Option ℕ) (r r' : Record) → r ≡ r' → (t' : Rows) → t' ≡ rows_from t (replaced_at (records_of t used) f r)
     → t' ≡ rows_from t (replaced_at (records_of t used) f r')
 revoked-rows t used f r r' e t' q = q ∙ rw e
 
 -- ---- what was looked up for a plan
-module _ (g : Gate) (t : Rows) (fault : ℕ) (q : Instruction) (f : Found) (ef : f ≡ find_record q.details.receipt (records_of t g.used))
+module _ (g : Gate) (t : Rows) (fault : ℕ) (q : Instruction) (f : Option ℕ) (ef : f ≡ find_record q.details.receipt (records_of t g.used))
     (r : Record) (er : r ≡ record_found (records_of t g.used) f) (h : Holding) (eh : h ≡ holding_of g (account_of g q r)) where
   pub plan-by : (p : Plan) → p ≡ plan_with g (length t.nums) fault q f r → p ≡ plan_of g (records_of t g.used) (length t.nums) fault q
   unfolding plan_of
@@ -137,9 +136,9 @@ module _ (g : Gate) (t : Rows) (fault : ℕ) (q : Instruction) (f : Found) (ef :
   pub plan-near : Sound g → mag h.balance ≤ 10000000000000000
   plan-near s = rw eh (go (account_of g q r) (account-within g q r (account_of g q r) s refl))
     where
-      go : (x : Found) → Within x g.count → mag (balance_of g x) ≤ 10000000000000000
-      go Nothing w = omega arith
-      go (At a) w = omega (arith, s.balances a (w.at a refl))
+      go : (x : Option ℕ) → Within x g.count → mag (balance_of g x) ≤ 10000000000000000
+      go None w = omega arith
+      go (Some a) w = omega (arith, s.balances a (w.at a refl))
 
 -- ---- what a plan gives the change
 module _ (g : Gate) (t : Rows) (fault : ℕ) (q : Instruction) (p : Plan) (is : p ≡ plan_of g (records_of t g.used) (length t.nums) fault q) where
@@ -147,7 +146,7 @@ module _ (g : Gate) (t : Rows) (fault : ℕ) (q : Instruction) (p : Plan) (is : 
   unfolding plan_of plan_with view_of is_full
   plan-room h =
       let r : Record = record_found (records_of t g.used) (find_record q.details.receipt (records_of t g.used)) in
-      let f : Found = find_record q.details.receipt (records_of t g.used) in
+      let f : Option ℕ = find_record q.details.receipt (records_of t g.used) in
       let z : leb (length t.nums) g.used ≡ false =
       (append-of fault q.action (standing_of q f r) (view_of g (length t.nums) q r (account_of g q r)) (sym (ap (λ (x : Plan). x.decided.change) is) ∙ h)).room in
       leb-false (length t.nums) g.used z
@@ -165,7 +164,7 @@ module _ (g : Gate) (t : Rows) (fault : ℕ) (q : Instruction) (p : Plan) (is : 
   planned good = record { room = plan-room; found = plan-found good; amount = plan-amount good }
 
 -- the balance that a change leaves, moved
-pub made-moved : (t : Rows) (x : Changed) (g : Gate) (f : Found) (y z : ℤ) (n : ℕ) (subject : Record) (rows : Rows) → Made t x (moved_at g f z n) subject rows
+pub made-moved : (t : Rows) (x : Changed) (g : Gate) (f : Option ℕ) (y z : ℤ) (n : ℕ) (subject : Record) (rows : Rows) → Made t x (moved_at g f z n) subject rows
     → y ≡ z → (gate : Gate) → gate ≡ moved_at g f y n → Made t x gate subject rows
 made-moved t x g f y z n subject rows m e gate eg =
     record { gates = eg ∙ ap (λ (b : ℤ). moved_at g f b n) e ∙ m.gates; subjects = m.subjects; left = m.left }

@@ -1,12 +1,10 @@
 -- Document 01, "Gate": the three changes that a decision may make.
-use Rattle.std.specs.Prelude.{ℕ, ◌+◌, ◌≡◌, List, [], ◌∷◌, ◌++◌, ℤ, length, set}
+use Rattle.std.specs.Prelude.{ℕ, ◌+◌, ◌≡◌, List, [], ◌∷◌, ◌++◌, ℤ, length, set, Option, Some, None}
 use Rattle.dates.specs.Date.{empty_date}
 use Rattle.payments.specs.declared.Details.{Details}
 use Rattle.payments.specs.declared.Instruction.{Instruction}
 use Rattle.table.specs.declared.Record.{Record}
 use Rattle.table.specs.declared.Gate.{Gate}
-use Rattle.lists.specs.declared.Found.{Found}
-use Rattle.lists.specs.declared.Found.TheVariants.{At, Nothing}
 use Rattle.table.specs.Table.{done, cancelled, Rows, records_of, rows_from}
 use Rattle.table.specs.Accounts.{credited, debited, with_used, gate_balance}
 use Rattle.rules.specs.declared.decision.Change.{Change}
@@ -46,17 +44,17 @@ revoked clock r =
       cancel = clock;
     }
 
-abbrev pub credited_at : Gate → Found → ℕ → Gate
-credited_at g Nothing n = g
-credited_at g (At a) n = credited g a n
+abbrev pub credited_at : Gate → Option ℕ → ℕ → Gate
+credited_at g None n = g
+credited_at g (Some a) n = credited g a n
 
-abbrev pub debited_at : Gate → Found → ℕ → Gate
-debited_at g Nothing n = g
-debited_at g (At a) n = debited g a n
+abbrev pub debited_at : Gate → Option ℕ → ℕ → Gate
+debited_at g None n = g
+debited_at g (Some a) n = debited g a n
 
-abbrev pub replaced_at : List Record → Found → Record → List Record
-replaced_at rs Nothing r = rs
-replaced_at rs (At i) r = set rs i r
+abbrev pub replaced_at : List Record → Option ℕ → Record → List Record
+replaced_at rs None r = rs
+replaced_at rs (Some i) r = set rs i r
 
 -- the gate and the records after a change, and the record that the answer speaks of
 pub record Changed : Type 0 where
@@ -83,9 +81,9 @@ abbrev pub executed : Gate → List Record → List ℕ → Instruction → Plan
 executed g rs clock q p = changed p.decided.change g rs clock q p
 
 -- the gate with the balance z at the account that was found, and n records
-abbrev pub moved_at : Gate → Found → ℤ → ℕ → Gate
-moved_at g Nothing z n = with_used g n
-moved_at g (At a) z n = with_used (gate_balance g a z) n
+abbrev pub moved_at : Gate → Option ℕ → ℤ → ℕ → Gate
+moved_at g None z n = with_used g n
+moved_at g (Some a) z n = with_used (gate_balance g a z) n
 
 -- what a change leaves of the gate, the rows and the record that it speaks of
 pub record Made (t : Rows) (c : Changed) (gate : Gate) (subject : Record) (rows : Rows) : Type 0 where

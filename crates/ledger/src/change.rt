@@ -9,7 +9,6 @@ ghost use Rattle.validity.specs.Valid.{Ready, table_good};
 ghost use Rattle.planning.specs.Plan.{Within, Planned};
 ghost use Rattle.ledger.specs.Change.{make_record, revoked, replaced_at, executed, moved_at, Made, Executes};
 
-use lists::Found;
 use payments::{Details, Instruction};
 use planning::plan;
 use planning::plan::Plan;
@@ -63,12 +62,12 @@ pub fn revoke_record(clock: [u8; 19], r: Record) -> Record
 }
 
 // Puts the balance z at the account that was found.
-fn move_balance(balances: &mut [i64], f: Found, z: i64)
+fn move_balance(balances: &mut [i64], f: Option<usize>, z: i64)
     requires { (256 ≡ length balances.old) × Within f 256 }
     ensures { (h : Head) (names keys : List (List ℕ)) (n : ℕ) → gate_of (used_head h n) (columns_of names keys balances.new)
         ≡ moved_at (gate_of h (columns_of names keys balances.old)) f z n }
 {
-    if let Found::At(i) = f {
+    if let Some(i) = f {
         columns::put_balance(balances, i, z);
     }
 }
@@ -79,13 +78,13 @@ fn replace_at(
     numbers: &mut [[u8; 30]],
     dates: &mut [[[u8; 19]; 3]],
     used: usize,
-    f: Found,
+    f: Option<usize>,
     r: Record,
 )
     requires { Whole (lent nums.old numbers.old dates.old) used × Within f used }
     ensures { lent nums.new numbers.new dates.new ≡ rows_from (lent nums.old numbers.old dates.old) (replaced_at (records_of (lent nums.old numbers.old dates.old) used) f r) }
 {
-    if let Found::At(i) = f {
+    if let Some(i) = f {
         rows::store(nums, numbers, dates, i, r);
     }
 }
@@ -123,7 +122,7 @@ fn revoke(
     dates: &mut [[[u8; 19]; 3]],
     used: usize,
     clock: [u8; 19],
-    f: Found,
+    f: Option<usize>,
     r: Record,
     b: i64,
 ) -> Outcome

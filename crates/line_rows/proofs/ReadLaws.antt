@@ -1,4 +1,5 @@
 -- Laws of the lines of a text that are read into rows.
+use Rattle.std.specs.Prelude.{Option, Some, None}
 use Prim.Native.Nat.{ℕ, zero, suc, ◌+◌, ◌-◌, ◌≤◌, ◌<◌}
 use native.Mathlib.Numerals.{add-one}
 use native.Mathlib.Nat.{zero-add}
@@ -11,8 +12,6 @@ use lib.Dec.{ltb, leb}
 use borrow.Author.Tests.{not-true, not-false}
 use lib.ListN.{length, get_or, set, take, drop, replicate, length-set, drop_of_length-le}
 use lib.Seq.{length-take-le, drop-cons, append_snoc, set-set, get_or-set_same, get_or-set_other}
-use Rattle.texts.specs.declared.digits.Digits.{Digits}
-use Rattle.texts.specs.declared.digits.Digits.TheVariants.{Value, Malformed}
 use Rattle.fields.specs.declared.number.NumberRead.{NumberRead}
 use Rattle.dates.specs.declared.date.DateRead.{DateRead}
 use Rattle.fields.specs.Amount.{amount_read}
@@ -39,11 +38,11 @@ use Rattle.registry.proofs.CheckLaws.{line-left, behind, count-pass, good-pass, 
 use Rattle.line_rows.specs.Lines.{LineRows, line_at, line_nums, lines_with, lines_of, Read}
 
 -- ---- the amount of a line that was read
-of-small : (n : NumberRead) (k : Digits) (d : DateRead) (a r : Digits) → ((v : ℕ) → Value v ≡ a → v < 1000000000) → (line_of n k d a r).line.amount < 1000000000
-of-small n Malformed d a r h = omega arith
-of-small n (Value k) d Malformed r h = omega arith
-of-small n (Value k) d (Value a) Malformed h = omega arith
-of-small n (Value k) d (Value a) (Value r) h =
+of-small : (n : NumberRead) (k : Option ℕ) (d : DateRead) (a r : Option ℕ) → ((v : ℕ) → Some v ≡ a → v < 1000000000) → (line_of n k d a r).line.amount < 1000000000
+of-small n None d a r h = omega arith
+of-small n (Some k) d None r h = omega arith
+of-small n (Some k) d (Some a) None h = omega arith
+of-small n (Some k) d (Some a) (Some r) h =
     cond-elim (λ (x : LineRead). x.line.amount < 1000000000) (n.ok && d.ok) _ no_line (λ _. h a refl) (λ _. omega arith)
 
 line_small : (l : List ℕ) (x : LineRead) → x ≡ line_read l → x.line.amount < 1000000000

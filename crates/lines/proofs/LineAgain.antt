@@ -1,4 +1,5 @@
 -- A line is read back from what is written: no field holds a separator, and no line an end.
+use Rattle.std.specs.Prelude.{Some}
 use Prim.Native.Nat.{ℕ, ◌≤◌, ◌<◌}
 use native.Mathlib.Numerals.{add-one}
 use native.Mathlib.Omega.{arith}
@@ -9,7 +10,6 @@ use lib.Dec.{leb, eqb}
 use lib.ListN.{length}
 use lib.Seq.{take-append_seam, drop-append-add}
 use borrow.Author.Tests.{eq-eqb, ne_eqb, leb-true}
-use Rattle.texts.specs.declared.digits.Digits.TheVariants.{Value}
 use Rattle.fields.specs.declared.number.NumberRead.{NumberRead}
 use Rattle.texts.specs.Lists.{every, find}
 use Rattle.texts.specs.Digits.{is_digit, decimal}
@@ -93,7 +93,7 @@ module _ (x : Line) (good : is_line x ≡ true) where
       let fd = date-other 9 l x good in
       let fa = amount-other 9 l x good in
       sym (line-fields (n ++ (9 ∷ s₁)) s₁ s₂ s₃ n k x.date a r
-      number (Value x.kind) (record { ok = true; date = x.date }) (Value x.amount) (Value x.receipt) line
+      number (Some x.kind) (record { ok = true; date = x.date }) (Some x.amount) (Some x.receipt) line
       (sym (field-seam n s₁ fn)) (sym (number-again x.number h.number))
       (sym (after-seam n s₁ fn)) (sym (field-seam k s₂ fk)) (sym (kind-again x.kind h.kind))
       (sym (after-seam k s₂ fk)) (sym (field-seam x.date s₃ fd)) (sym (date-again x.date h.date))

@@ -1,4 +1,5 @@
 -- Laws of a line's fields, at each way out of its reader and of the test of a line.
+use Rattle.std.specs.Prelude.{Option, Some, None}
 use Prim.Native.Nat.{ℕ, ◌+◌, ◌-◌, ◌*◌, ◌^◌, ◌≤◌, ◌<◌}
 use native.Mathlib.Numerals.{add-one}
 use native.Mathlib.Omega.{arith}
@@ -17,8 +18,6 @@ use mathlib.Core.Path.{◌≡◌, refl, sym, ap, ◌∙◌}
 use mathlib.Core.List.{List, ◌∷◌, ◌++◌}
 use mathlib.Core.Bool.{Bool, true, false, cond, not, ◌&&◌, and-false}
 use borrow.Author.Tests.{ne_eqb, leb-true, not-true, not-false}
-use Rattle.texts.specs.declared.digits.Digits.{Digits}
-use Rattle.texts.specs.declared.digits.Digits.TheVariants.{Value, Malformed}
 use Rattle.fields.specs.declared.number.NumberRead.{NumberRead}
 use Rattle.dates.specs.declared.date.DateRead.{DateRead}
 use Rattle.fields.specs.Amount.{is_amount, amount_read}
@@ -26,8 +25,6 @@ use Rattle.fields.specs.Codes.{is_receipt, receipt_read, is_kind, kind_read}
 use Rattle.fields.specs.Number.{is_number, is_number_text, number_of, number_read}
 use Rattle.fields.proofs.NumberLaws.{number_short}
 use Rattle.days.specs.declared.calendar.Day.{Day}
-use Rattle.days.specs.declared.calendar.DayRead.{DayRead}
-use Rattle.days.specs.declared.calendar.DayRead.TheVariants.{Good, NoDate}
 use Rattle.days.specs.Calendar.{on_day}
 use Rattle.dates.specs.Date.{date_day, found, is_written, date_read}
 use Rattle.dates.proofs.DateLaws.{on-written, written-parts, date-bytes}
@@ -56,9 +53,9 @@ module _ (s s₁ : List ℕ) (p q : ℕ) (tab : p ≡ find 9 s) (e : s₁ ≡ dr
   date-fits = omega (arith, tabs-within)
 
 -- ---- where the date ends
-none_written : (x : DayRead) → found x ≡ false → x ≡ NoDate
-none_written (Good y) e = no-claim (sym e)
-none_written NoDate e = refl
+none_written : (x : Option Day) → found x ≡ false → x ≡ None
+none_written (Some y) e = no-claim (sym e)
+none_written None e = refl
 
 untabbed : (b : ℕ) → is_digit b ≡ true → not (eqb b 9) ≡ true
 untabbed b h = ap not (ne_eqb b 9 (λ e. omega (arith, e, leb-true 48 b (and_left (leb 48 b) (leb b 57) h))))
@@ -97,7 +94,7 @@ pub end_fits : (s : List ℕ) (p : ℕ) → EndsDate s p → length s * 1 < 2 ^ 
 end_fits s p ends h = omega (arith, ends.2)
 
 -- ---- a line of five fields
-pub line-fields : (s s₁ s₂ s₃ f₁ f₂ f₃ f₄ f₅ : List ℕ) (n : NumberRead) (k : Digits) (d : DateRead) (a r : Digits) (x : LineRead)
+pub line-fields : (s s₁ s₂ s₃ f₁ f₂ f₃ f₄ f₅ : List ℕ) (n : NumberRead) (k : Option ℕ) (d : DateRead) (a r : Option ℕ) (x : LineRead)
     → f₁ ≡ field s → n ≡ number_read f₁ → s₁ ≡ after_field s → f₂ ≡ field s₁ → k ≡ kind_read f₂ → s₂ ≡ after_field s₁ → f₃ ≡ field s₂ → d ≡ date_read f₃
     → s₃ ≡ after_field s₂ → f₄ ≡ field s₃ → a ≡ amount_read f₄ → f₅ ≡ after_field s₃ → r ≡ receipt_read f₅ → x ≡ line_of n k d a r → x ≡ line_read s
 unfolding line_read
@@ -105,22 +102,22 @@ line-fields s s₁ s₂ s₃ f₁ f₂ f₃ f₄ f₅ n k d a r x g₁ en e₁ g
     e ∙ rw (en, ek, ed, ea, er, g₁, g₂, g₃, g₄, g₅, e₃, e₂, e₁)
 
 -- a field that is malformed
-of_none : (n : NumberRead) (k : Digits) (d : DateRead) (a r : Digits) → n.ok ≡ false → line_of n k d a r ≡ no_line
-of_none n Malformed d a r e = refl
-of_none n (Value k) d Malformed r e = refl
-of_none n (Value k) d (Value a) Malformed e = refl
-of_none n (Value k) d (Value a) (Value r) e = rw e
+of_none : (n : NumberRead) (k : Option ℕ) (d : DateRead) (a r : Option ℕ) → n.ok ≡ false → line_of n k d a r ≡ no_line
+of_none n None d a r e = refl
+of_none n (Some k) d None r e = refl
+of_none n (Some k) d (Some a) None e = refl
+of_none n (Some k) d (Some a) (Some r) e = rw e
 
 -- ---- a line of the day
 module _ (day : Day) where
   -- a date that is not on the day
-  of-off : (n : NumberRead) (k : Digits) (f : List ℕ) (a r : Digits) → on_day day (date_day f) ≡ false → line_kept day (line_of n k (date_read f) a r) ≡ no_line
-  of-off n Malformed f a r o = refl
-  of-off n (Value k) f Malformed r o = refl
-  of-off n (Value k) f (Value a) Malformed o = refl
-  of-off n (Value k) f (Value a) (Value r) o = go n.ok refl (is_written f) refl
+  of-off : (n : NumberRead) (k : Option ℕ) (f : List ℕ) (a r : Option ℕ) → on_day day (date_day f) ≡ false → line_kept day (line_of n k (date_read f) a r) ≡ no_line
+  of-off n None f a r o = refl
+  of-off n (Some k) f None r o = refl
+  of-off n (Some k) f (Some a) None o = refl
+  of-off n (Some k) f (Some a) (Some r) o = go n.ok refl (is_written f) refl
     where
-      go : (p : Bool) → n.ok ≡ p → (q : Bool) → is_written f ≡ q → line_kept day (line_of n (Value k) (date_read f) (Value a) (Value r)) ≡ no_line
+      go : (p : Bool) → n.ok ≡ p → (q : Bool) → is_written f ≡ q → line_kept day (line_of n (Some k) (date_read f) (Some a) (Some r)) ≡ no_line
       go false en q ew = rw en
       go true en false ew = unfold date_read in rw (en, ew)
       go true en true ew = unfold date_read in rw (en, ew, o)
@@ -137,7 +134,7 @@ module _ (day : Day) where
           let s₁ = after_field s in
           let off : on_day day (date_day (field s)) ≡ false = ap (on_day day) (sym (ap date_day ef ∙ ends.0)) ∙ sym judged ∙ not-true t h in
           unpaid x none
-          (λ name k. sym (of-off (record { ok = true; number = number_of name }) (Value k) (field s) (amount_read (field s₁)) (receipt_read (after_field s₁)) off))
+          (λ name k. sym (of-off (record { ok = true; number = number_of name }) (Some k) (field s) (amount_read (field s₁)) (receipt_read (after_field s₁)) off))
 
       module _ (held : not t ≡ false) where
         on-day : on_day day (date_day f) ≡ true
@@ -153,33 +150,33 @@ module _ (day : Day) where
         nineteen : p ≡ 19
         nineteen = sym (length-take-le p s ends.2) ∙ ap length (sym ef) ∙ (written-parts f written).size
 
-        module _ (s₁ : List ℕ) (e₁ : s₁ ≡ drop (p + 1) s) (q : ℕ) (tab : q ≡ find 9 s₁) (f₁ : List ℕ) (g₁ : f₁ ≡ take q s₁) (a : Digits) (ea : a ≡ amount_read f₁) where
+        module _ (s₁ : List ℕ) (e₁ : s₁ ≡ drop (p + 1) s) (q : ℕ) (tab : q ≡ find 9 s₁) (f₁ : List ℕ) (g₁ : f₁ ≡ take q s₁) (a : Option ℕ) (ea : a ≡ amount_read f₁) where
           behind : s₁ ≡ after_field s
           behind = e₁ ∙ rw (date-ends, add-one)
 
           amount-is : a ≡ amount_read (field (after_field s))
           amount-is = ea ∙ ap amount_read (g₁ ∙ rw (tab, behind))
 
-          pub paid-no-amount : a ≡ Malformed → (x : Paid) → x.ok ≡ false → PaidIn day s x
+          pub paid-no-amount : a ≡ None → (x : Paid) → x.ok ≡ false → PaidIn day s x
           unfolding line_with
-          paid-no-amount m x none = let z : amount_read (field (after_field s)) ≡ Malformed = sym amount-is ∙ m in unpaid x none (λ name k. rw z)
+          paid-no-amount m x none = let z : amount_read (field (after_field s)) ≡ None = sym amount-is ∙ m in unpaid x none (λ name k. rw z)
 
-          module _ (w : ℕ) (aw : a ≡ Value w) (f₂ : List ℕ) (g₂ : f₂ ≡ drop (q + 1) s₁) (r : Digits) (er : r ≡ receipt_read f₂) where
+          module _ (w : ℕ) (aw : a ≡ Some w) (f₂ : List ℕ) (g₂ : f₂ ≡ drop (q + 1) s₁) (r : Option ℕ) (er : r ≡ receipt_read f₂) where
             receipt-is : r ≡ receipt_read (after_field (after_field s))
             receipt-is = er ∙ ap receipt_read (g₂ ∙ rw (tab, add-one, behind))
 
-            pub paid-no-receipt : r ≡ Malformed → (x : Paid) → x.ok ≡ false → PaidIn day s x
+            pub paid-no-receipt : r ≡ None → (x : Paid) → x.ok ≡ false → PaidIn day s x
             unfolding line_with
             paid-no-receipt m x none =
-                let za : amount_read (field (after_field s)) ≡ Value w = sym amount-is ∙ aw in
-                let zr : receipt_read (after_field (after_field s)) ≡ Malformed = sym receipt-is ∙ m in
+                let za : amount_read (field (after_field s)) ≡ Some w = sym amount-is ∙ aw in
+                let zr : receipt_read (after_field (after_field s)) ≡ None = sym receipt-is ∙ m in
                 unpaid x none (λ name k. rw (za, zr))
 
-            pub paid-good : (u : ℕ) → r ≡ Value u → PaidIn day s (record { ok = true; amount = w; receipt = u })
+            pub paid-good : (u : ℕ) → r ≡ Some u → PaidIn day s (record { ok = true; amount = w; receipt = u })
             unfolding line_with date_read
             paid-good u ru =
-                let za : amount_read (field (after_field s)) ≡ Value w = sym amount-is ∙ aw in
-                let zr : receipt_read (after_field (after_field s)) ≡ Value u = sym receipt-is ∙ ru in
+                let za : amount_read (field (after_field s)) ≡ Some w = sym amount-is ∙ aw in
+                let zr : receipt_read (after_field (after_field s)) ≡ Some u = sym receipt-is ∙ ru in
                 let date : take 19 s ≡ f = rw (← nineteen) (sym ef) in
                 let g : field s ≡ f = rw (← date-ends) (sym ef) in
                 record { line = λ name k. rw (za, zr, date, g, written, on-day); room = λ _. omega (arith, nineteen, ends.2) }
@@ -204,22 +201,22 @@ module _ (day : Day) where
           unfound x none
           (rw (of_none (number_read (field s)) (kind_read (field s₁)) (date_read (field s₂)) (amount_read (field s₃)) (receipt_read (after_field s₃)) o))
 
-      module _ (s₁ : List ℕ) (e₁ : s₁ ≡ drop (p + 1) s) (q : ℕ) (tab₁ : q ≡ find 9 s₁) (f₁ : List ℕ) (g₁ : f₁ ≡ take q s₁) (k : Digits) (ek : k ≡ kind_read f₁) where
+      module _ (s₁ : List ℕ) (e₁ : s₁ ≡ drop (p + 1) s) (q : ℕ) (tab₁ : q ≡ find 9 s₁) (f₁ : List ℕ) (g₁ : f₁ ≡ take q s₁) (k : Option ℕ) (ek : k ≡ kind_read f₁) where
         behind-number : s₁ ≡ after_field s
         behind-number = e₁ ∙ rw (tab, add-one)
 
         kind-is : k ≡ kind_read (field (after_field s))
         kind-is = ek ∙ ap kind_read (g₁ ∙ rw (tab₁, behind-number))
 
-        pub found-no-kind : k ≡ Malformed → (x : Found) → x.ok ≡ false → FoundIn day s x
+        pub found-no-kind : k ≡ None → (x : Found) → x.ok ≡ false → FoundIn day s x
         unfolding line_read line_read_on
-        found-no-kind m x none = let z : kind_read (field (after_field s)) ≡ Malformed = sym kind-is ∙ m in unfound x none (rw z)
+        found-no-kind m x none = let z : kind_read (field (after_field s)) ≡ None = sym kind-is ∙ m in unfound x none (rw z)
 
-        module _ (held : not t ≡ false) (v : ℕ) (kv : k ≡ Value v) (s₂ : List ℕ) (e₂ : s₂ ≡ drop (q + 1) s₁) (y : Paid) (paid : PaidIn day s₂ y) where
+        module _ (held : not t ≡ false) (v : ℕ) (kv : k ≡ Some v) (s₂ : List ℕ) (e₂ : s₂ ≡ drop (q + 1) s₁) (y : Paid) (paid : PaidIn day s₂ y) where
           read-with : line_with day f v s₂ ≡ line_read_on day s
           unfolding line_read line_read_on line_with number_read
           read-with =
-              let zk : kind_read (field (after_field s)) ≡ Value v = sym kind-is ∙ kv in
+              let zk : kind_read (field (after_field s)) ≡ Some v = sym kind-is ∙ kv in
               let zn : is_number_text (field s) ≡ true = rw (← first_field, ← judged) (not-false t held) in
               let zs : s₂ ≡ after_field (after_field s) = e₂ ∙ rw (tab₁, add-one, behind-number) in
               rw (zk, zn, zs, first_field)

@@ -1,7 +1,5 @@
 -- Document 01, "Registry": one line of a registry.
-use Rattle.std.specs.Prelude.{ℕ, suc, List, [], ◌∷◌, ◌++◌, Bool, true, false, cond, ◌&&◌, take, drop, replicate}
-use Rattle.texts.specs.declared.digits.Digits.{Digits}
-use Rattle.texts.specs.declared.digits.Digits.TheVariants.{Value, Malformed}
+use Rattle.std.specs.Prelude.{ℕ, suc, List, [], ◌∷◌, ◌++◌, Bool, true, false, cond, ◌&&◌, take, drop, replicate, Option, Some, None}
 use Rattle.fields.specs.declared.number.NumberRead.{NumberRead}
 use Rattle.dates.specs.declared.date.DateRead.{DateRead}
 use Rattle.texts.specs.Lists.{find}
@@ -32,11 +30,11 @@ no_line =
     }
 
 -- all five fields are there and well formed
-abbrev pub line_of : NumberRead → Digits → DateRead → Digits → Digits → LineRead
-line_of n Malformed d a r = no_line
-line_of n (Value k) d Malformed r = no_line
-line_of n (Value k) d (Value a) Malformed = no_line
-line_of n (Value k) d (Value a) (Value r) =
+abbrev pub line_of : NumberRead → Option ℕ → DateRead → Option ℕ → Option ℕ → LineRead
+line_of n None d a r = no_line
+line_of n (Some k) d None r = no_line
+line_of n (Some k) d (Some a) None = no_line
+line_of n (Some k) d (Some a) (Some r) =
     cond (n.ok && d.ok) (record { ok = true; line = record { number = n.number; kind = k; date = d.date; amount = a; receipt = r } }) no_line
 
 -- number, type, date, amount, receipt; an absent field is empty, and no empty field is well formed

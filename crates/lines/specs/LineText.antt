@@ -1,6 +1,5 @@
 -- How the code puts a line together and takes it apart. Cited by inner contracts only: it needs no belief.
-use Rattle.std.specs.Prelude.{ℕ, ◌+◌, ◌≤◌, ◌≡◌, List, ◌∷◌, ◌++◌, true, cond, ◌&&◌, length, take, drop, replicate}
-use Rattle.texts.specs.declared.digits.Digits.TheVariants.{Value}
+use Rattle.std.specs.Prelude.{ℕ, ◌+◌, ◌≤◌, ◌≡◌, List, ◌∷◌, ◌++◌, true, cond, ◌&&◌, length, take, drop, replicate, Some}
 use Rattle.texts.specs.Lists.{find}
 use Rattle.texts.specs.Digits.{decimal}
 use Rattle.fields.specs.Number.{number_text, number_of}
@@ -29,7 +28,7 @@ line_read_on day s = line_kept day (line_read s)
 unfoldable pub line_with : Day → List ℕ → ℕ → List ℕ → LineRead
 line_with day name k s =
     line_kept day
-    (line_of (record { ok = true; number = number_of name }) (Value k) (date_read (field s)) (amount_read (field (after_field s))) (receipt_read (after_field (after_field s))))
+    (line_of (record { ok = true; number = number_of name }) (Some k) (date_read (field s)) (amount_read (field (after_field s))) (receipt_read (after_field (after_field s))))
 
 -- the line of a number's text and a type, and of what is paid in the text of date, amount and receipt
 abbrev pub line_paid : List ℕ → ℕ → List ℕ → Paid → LineRead

@@ -8,7 +8,6 @@ use dates::date;
 use days::calendar::Day;
 use fields::number::Number;
 use fields::{amount, codes, number};
-use texts::digits::Digits;
 use texts::{digits, out, scan};
 
 #[derive(Clone, Copy)]
@@ -88,10 +87,10 @@ fn read_paid(day: Day, s: &[u8]) -> Paid
     }
     let s1 = scan::bytes_from(s, p + 1);
     let q = scan::find_byte(s1, b'\t');
-    let Digits::Value(amount) = amount::read_amount(scan::first_bytes(s1, q)) else {
+    let Some(amount) = amount::read_amount(scan::first_bytes(s1, q)) else {
         return not_paid();
     };
-    let Digits::Value(receipt) = codes::read_receipt(scan::bytes_from(s1, q + 1)) else {
+    let Some(receipt) = codes::read_receipt(scan::bytes_from(s1, q + 1)) else {
         return not_paid();
     };
     Paid {
@@ -111,7 +110,7 @@ pub fn find_line(day: Day, s: &[u8]) -> Found
     }
     let s1 = scan::bytes_from(s, p + 1);
     let q = scan::find_byte(s1, b'\t');
-    let Digits::Value(kind) = codes::read_kind(scan::first_bytes(s1, q)) else {
+    let Some(kind) = codes::read_kind(scan::first_bytes(s1, q)) else {
         return no_line();
     };
     let paid = read_paid(day, scan::bytes_from(s1, q + 1));

@@ -1,4 +1,5 @@
 -- Laws of tables of a function's values, and of searches, at any element type.
+use Rattle.std.specs.Prelude.{Option, Some, None}
 use mathlib.Core.Path.{◌≡◌, refl, sym, ap, ◌∙◌}
 use mathlib.Core.Logic.{◌≢◌}
 use mathlib.Core.Bool.{Bool, true, false, cond, ◌&&◌}
@@ -10,8 +11,6 @@ use native.Mathlib.Decide.{dec_lt, ℕ_discrete}
 use native.Mathlib.Omega.{arith}
 use lib.ListN.{length, take, drop, get_or, set, length-append, length-set, drop_of_length-le, get_or-append, length-map, length-drop}
 use lib.Seq.{append_snoc, set_at, length-take-le, take_all, take-suc, drop-cons, get_or_at, ext_get_or, get_or-set_same, get_or-set_other}
-use Rattle.lists.specs.declared.Found.{Found}
-use Rattle.lists.specs.declared.Found.TheVariants.{At, Nothing}
 use Rattle.lists.specs.Lists.{tab, first_from, is_found, all_from}
 use Rattle.texts.proofs.Tests.{and_left, and_right, no-claim}
 
@@ -95,132 +94,132 @@ get_d-other (x ∷ l) (suc i) y z h = get_d-other l i y z (omega arith)
 
 -- ---- the first element that fits: a loop that has passed i elements
 module _ {A : Type 0} (p : A → Bool) (i : ℕ) (l : List A) (z : A) where
-  search-turn : i < length l → first_from p i (drop i l) ≡ cond (p (get_or l i z)) (At i) (first_from p (i + 1) (drop (i + 1) l))
+  search-turn : i < length l → first_from p i (drop i l) ≡ cond (p (get_or l i z)) (Some i) (first_from p (i + 1) (drop (i + 1) l))
   unfolding first_from
   search-turn h =
       ap (first_from p i) (drop-cons l i z h)
-      ∙ ap (λ (k : ℕ). cond (p (get_or l i z)) (At i) (first_from p (i + 1) (drop k l))) (sym (add-one i))
+      ∙ ap (λ (k : ℕ). cond (p (get_or l i z)) (Some i) (first_from p (i + 1) (drop k l))) (sym (add-one i))
 
-  pub search-hit : i < length l → p (get_or l i z) ≡ true → first_from p i (drop i l) ≡ At i
+  pub search-hit : i < length l → p (get_or l i z) ≡ true → first_from p i (drop i l) ≡ Some i
   search-hit h e = search-turn h ∙ rw e
 
   pub search-miss : i < length l → p (get_or l i z) ≡ false → first_from p i (drop i l) ≡ first_from p (i + 1) (drop (i + 1) l)
   search-miss h e = search-turn h ∙ rw e
 
-  pub search-end : length l ≤ i → first_from p i (drop i l) ≡ Nothing
+  pub search-end : length l ≤ i → first_from p i (drop i l) ≡ None
   unfolding first_from
   search-end h = rw (drop_of_length-le l h)
 
 -- ---- what a search gives
 -- nothing is no place
-pub nowhere : {k : ℕ} {A : Type 0} → Nothing ≡ At k → A
+pub nowhere : {k : ℕ} {A : Type 0} → None ≡ Some k → A
 nowhere q = let z : ◌≡◌ {A = ℕ} 0 1 = cc in absurd (omega arith)
 
-pub place : {i k : ℕ} → At i ≡ At k → i ≡ k
+pub place : {i k : ℕ} → Some i ≡ Some k → i ≡ k
 place q = cc
 
-pub found_at : (f : Found) → is_found f ≡ true → (a : ℕ) × (f ≡ At a)
-found_at (At a) h = (a, refl)
-found_at Nothing h = no-claim h
+pub found_at : (f : Option ℕ) → is_found f ≡ true → (a : ℕ) × (f ≡ Some a)
+found_at (Some a) h = (a, refl)
+found_at None h = no-claim h
 
-pub is-nothing : (f : Found) → is_found f ≡ false → f ≡ Nothing
-is-nothing Nothing h = refl
-is-nothing (At a) h = no-claim (sym h)
+pub is-nothing : (f : Option ℕ) → is_found f ≡ false → f ≡ None
+is-nothing None h = refl
+is-nothing (Some a) h = no-claim (sym h)
 
 module _ {A : Type 0} (p : A → Bool) where
   -- what a search finds is within the list
-  pub search-within : (i : ℕ) (l : List A) (k : ℕ) → first_from p i l ≡ At k → k < i + length l
+  pub search-within : (i : ℕ) (l : List A) (k : ℕ) → first_from p i l ≡ Some k → k < i + length l
   unfolding first_from
   search-within i [] k e = nowhere e
   search-within i (y ∷ ys) k e = go (p y) (λ q. search-within (i + 1) ys k q) e
     where
-      go : (b : Bool) → (first_from p (i + 1) ys ≡ At k → k < i + 1 + length ys) → cond b (At i) (first_from p (i + 1) ys) ≡ At k → k < i + suc (length ys)
+      go : (b : Bool) → (first_from p (i + 1) ys ≡ Some k → k < i + 1 + length ys) → cond b (Some i) (first_from p (i + 1) ys) ≡ Some k → k < i + suc (length ys)
       go true up q = omega (arith, place q)
       go false up q = omega (arith, up q)
 
-  pub search-from : (i : ℕ) (l : List A) (k : ℕ) → first_from p i l ≡ At k → i ≤ k
+  pub search-from : (i : ℕ) (l : List A) (k : ℕ) → first_from p i l ≡ Some k → i ≤ k
   unfolding first_from
   search-from i [] k e = nowhere e
   search-from i (y ∷ ys) k e = go (p y) (λ q. search-from (i + 1) ys k q) e
     where
-      go : (b : Bool) → (first_from p (i + 1) ys ≡ At k → i + 1 ≤ k) → cond b (At i) (first_from p (i + 1) ys) ≡ At k → i ≤ k
+      go : (b : Bool) → (first_from p (i + 1) ys ≡ Some k → i + 1 ≤ k) → cond b (Some i) (first_from p (i + 1) ys) ≡ Some k → i ≤ k
       go true up q = omega (arith, place q)
       go false up q = omega (arith, up q)
 
-  fits-from : (i : ℕ) (l : List A) (j : ℕ) (z : A) → first_from p i l ≡ At (i + j) → p (get_or l j z) ≡ true
+  fits-from : (i : ℕ) (l : List A) (j : ℕ) (z : A) → first_from p i l ≡ Some (i + j) → p (get_or l j z) ≡ true
   unfolding first_from
   fits-from i [] j z e = nowhere e
   fits-from i (y ∷ ys) zero z e = go (p y) refl e
     where
-      go : (b : Bool) → p y ≡ b → cond b (At i) (first_from p (i + 1) ys) ≡ At (i + 0) → p y ≡ true
+      go : (b : Bool) → p y ≡ b → cond b (Some i) (first_from p (i + 1) ys) ≡ Some (i + 0) → p y ≡ true
       go true h q = h
       go false h q = absurd (omega (arith, search-from (i + 1) ys (i + 0) q))
   fits-from i (y ∷ ys) (suc j) z e = go (p y) (λ q. fits-from (i + 1) ys j z q) e
     where
-      go : (b : Bool) → (first_from p (i + 1) ys ≡ At (i + 1 + j) → p (get_or ys j z) ≡ true) → cond b (At i) (first_from p (i + 1) ys) ≡ At (i + suc j) → p (get_or ys j z) ≡ true
+      go : (b : Bool) → (first_from p (i + 1) ys ≡ Some (i + 1 + j) → p (get_or ys j z) ≡ true) → cond b (Some i) (first_from p (i + 1) ys) ≡ Some (i + suc j) → p (get_or ys j z) ≡ true
       go true up q = absurd (omega (arith, place q))
-      go false up q = let s : i + suc j ≡ i + 1 + j = omega arith in up (q ∙ ap At s)
+      go false up q = let s : i + suc j ≡ i + 1 + j = omega arith in up (q ∙ ap Some s)
 
-  none_from : (i : ℕ) (l : List A) (z : A) → first_from p i l ≡ Nothing → (j : ℕ) → j < length l → p (get_or l j z) ≡ false
+  none_from : (i : ℕ) (l : List A) (z : A) → first_from p i l ≡ None → (j : ℕ) → j < length l → p (get_or l j z) ≡ false
   unfolding first_from
   none_from i [] z e j h = absurd (omega arith)
   none_from i (y ∷ ys) z e zero h = go (p y) refl e
     where
-      go : (b : Bool) → p y ≡ b → cond b (At i) (first_from p (i + 1) ys) ≡ Nothing → p y ≡ false
+      go : (b : Bool) → p y ≡ b → cond b (Some i) (first_from p (i + 1) ys) ≡ None → p y ≡ false
       go true s q = nowhere (sym q)
       go false s q = s
   none_from i (y ∷ ys) z e (suc j) h = go (p y) (λ q. none_from (i + 1) ys z q j (omega arith)) e
     where
-      go : (b : Bool) → (first_from p (i + 1) ys ≡ Nothing → p (get_or ys j z) ≡ false) → cond b (At i) (first_from p (i + 1) ys) ≡ Nothing → p (get_or ys j z) ≡ false
+      go : (b : Bool) → (first_from p (i + 1) ys ≡ None → p (get_or ys j z) ≡ false) → cond b (Some i) (first_from p (i + 1) ys) ≡ None → p (get_or ys j z) ≡ false
       go true up q = nowhere (sym q)
       go false up q = up q
 
   module _ (l : List A) (z : A) where
     -- what is found fits, nothing is found where nothing fits, and something where something does
-    pub found-fits : {k : ℕ} → first_from p 0 l ≡ At k → p (get_or l k z) ≡ true
+    pub found-fits : {k : ℕ} → first_from p 0 l ≡ Some k → p (get_or l k z) ≡ true
     found-fits {k} e = fits-from 0 l k z (rw zero-add e)
 
-    pub found_none : first_from p 0 l ≡ Nothing → (i : ℕ) → i < length l → p (get_or l i z) ≡ false
+    pub found_none : first_from p 0 l ≡ None → (i : ℕ) → i < length l → p (get_or l i z) ≡ false
     found_none e = none_from 0 l z e
 
     pub found_some : (i : ℕ) → i < length l → p (get_or l i z) ≡ true → is_found (first_from p 0 l) ≡ true
     found_some i h y = go (first_from p 0 l) refl
       where
-        go : (f : Found) → first_from p 0 l ≡ f → is_found f ≡ true
-        go (At k) e = refl
-        go Nothing e = let q : true ≡ false = sym y ∙ found_none e i h in sym q
+        go : (f : Option ℕ) → first_from p 0 l ≡ f → is_found f ≡ true
+        go (Some k) e = refl
+        go None e = let q : true ≡ false = sym y ∙ found_none e i h in sym q
 
   -- what is found is the first that fits
-  pub search-least : (i : ℕ) (l : List A) (z : A) (k : ℕ) → first_from p i l ≡ At k → (j : ℕ) → j < length l → p (get_or l j z) ≡ true → k ≤ i + j
+  pub search-least : (i : ℕ) (l : List A) (z : A) (k : ℕ) → first_from p i l ≡ Some k → (j : ℕ) → j < length l → p (get_or l j z) ≡ true → k ≤ i + j
   unfolding first_from
   search-least i [] z k e j h y = absurd (omega arith)
   search-least i (x ∷ xs) z k e j h y = go (p x) refl (λ q n b t. search-least (i + 1) xs z k q n b t) e j h y
     where
-      go : (b : Bool) → p x ≡ b → (first_from p (i + 1) xs ≡ At k → (n : ℕ) → n < length xs → p (get_or xs n z) ≡ true → k ≤ i + 1 + n)
-          → cond b (At i) (first_from p (i + 1) xs) ≡ At k → (j : ℕ) → j < suc (length xs) → p (get_or (x ∷ xs) j z) ≡ true → k ≤ i + j
+      go : (b : Bool) → p x ≡ b → (first_from p (i + 1) xs ≡ Some k → (n : ℕ) → n < length xs → p (get_or xs n z) ≡ true → k ≤ i + 1 + n)
+          → cond b (Some i) (first_from p (i + 1) xs) ≡ Some k → (j : ℕ) → j < suc (length xs) → p (get_or (x ∷ xs) j z) ≡ true → k ≤ i + j
       go true s up q j h y = omega (arith, place q)
       go false s up q zero h y = no-claim (sym s ∙ y)
       go false s up q (suc j) h y = omega (arith, up q j (omega arith) y)
 
   -- elements behind those searched: what was found stays, and what was not may be the one more
-  pub search-more : (i : ℕ) (l m : List A) (k : ℕ) → first_from p i l ≡ At k → first_from p i (l ++ m) ≡ At k
+  pub search-more : (i : ℕ) (l m : List A) (k : ℕ) → first_from p i l ≡ Some k → first_from p i (l ++ m) ≡ Some k
   unfolding first_from
   search-more i [] m k e = nowhere e
   search-more i (y ∷ ys) m k e = go (p y) (λ q. search-more (i + 1) ys m k q) e
     where
-      go : (b : Bool) → (first_from p (i + 1) ys ≡ At k → first_from p (i + 1) (ys ++ m) ≡ At k) → cond b (At i) (first_from p (i + 1) ys) ≡ At k → cond b (At i) (first_from p (i + 1) (ys ++ m)) ≡ At k
+      go : (b : Bool) → (first_from p (i + 1) ys ≡ Some k → first_from p (i + 1) (ys ++ m) ≡ Some k) → cond b (Some i) (first_from p (i + 1) ys) ≡ Some k → cond b (Some i) (first_from p (i + 1) (ys ++ m)) ≡ Some k
       go true up q = q
       go false up q = up q
 
-  pub search-last : (i : ℕ) (l : List A) (x : A) → first_from p i l ≡ Nothing → p x ≡ true → first_from p i (l ++ (x ∷ [])) ≡ At (i + length l)
+  pub search-last : (i : ℕ) (l : List A) (x : A) → first_from p i l ≡ None → p x ≡ true → first_from p i (l ++ (x ∷ [])) ≡ Some (i + length l)
   unfolding first_from
-  search-last i [] x e h = rw h (ap At (sym (add-zero i)))
+  search-last i [] x e h = rw h (ap Some (sym (add-zero i)))
   search-last i (y ∷ ys) x e h = go (p y) (λ q. search-last (i + 1) ys x q h) e
     where
-      go : (b : Bool) → (first_from p (i + 1) ys ≡ Nothing → first_from p (i + 1) (ys ++ (x ∷ [])) ≡ At (i + 1 + length ys))
-          → cond b (At i) (first_from p (i + 1) ys) ≡ Nothing → cond b (At i) (first_from p (i + 1) (ys ++ (x ∷ []))) ≡ At (i + suc (length ys))
+      go : (b : Bool) → (first_from p (i + 1) ys ≡ None → first_from p (i + 1) (ys ++ (x ∷ [])) ≡ Some (i + 1 + length ys))
+          → cond b (Some i) (first_from p (i + 1) ys) ≡ None → cond b (Some i) (first_from p (i + 1) (ys ++ (x ∷ []))) ≡ Some (i + suc (length ys))
       go true up q = nowhere (sym q)
-      go false up q = up q ∙ ap At (omega arith)
+      go false up q = up q ∙ ap Some (omega arith)
 
 -- ---- a test of every element: a loop that has passed i elements
 module _ {A : Type 0} (p : ℕ → A → Bool) (i : ℕ) (l : List A) (z : A) where

@@ -7,19 +7,13 @@ ghost use Rattle.lists.specs.Lent.{lent_well, Lent};
 // How many places a table or a book has at most.
 pub const PLACES_MOST: usize = 4096;
 
-#[derive(Clone, Copy)]
-pub enum Found {
-    At(usize),
-    Nothing,
-}
-
 // Whether something was found.
-pub fn is_found(f: Found) -> bool
+pub fn is_found(f: Option<usize>) -> bool
     ensures { result ≡ is_found f }
 {
     match f {
-        Found::At(_) => true,
-        Found::Nothing => false,
+        Some(_) => true,
+        None => false,
     }
 }
 

@@ -1,7 +1,5 @@
 -- The load program's input: START DATE REASON STEPS on its first line, then NUMBER TYPE, a line for each account.
-use Rattle.std.specs.Prelude.{ℕ, List, Bool, true, false, ◌&&◌, eqb}
-use Rattle.texts.specs.declared.digits.Digits.{Digits}
-use Rattle.texts.specs.declared.digits.Digits.TheVariants.{Value, Malformed}
+use Rattle.std.specs.Prelude.{ℕ, List, Bool, true, false, ◌&&◌, eqb, Option, Some, None}
 use Rattle.texts.specs.Digits.{digits_read}
 use Rattle.fields.specs.Codes.{kind_read, reason_read}
 use Rattle.fields.specs.Number.{number_read}
@@ -11,13 +9,13 @@ use Rattle.load.specs.declared.order.AccountLine.{AccountLine}
 use Rattle.load.specs.declared.order.Order.{Order}
 
 -- a digit field: whether it holds a value, and the value, or 0
-abbrev pub holds : Digits → Bool
-holds Malformed = false
-holds (Value v) = true
+abbrev pub holds : Option ℕ → Bool
+holds None = false
+holds (Some v) = true
 
-abbrev pub value_or0 : Digits → ℕ
-value_or0 Malformed = 0
-value_or0 (Value v) = v
+abbrev pub value_or0 : Option ℕ → ℕ
+value_or0 None = 0
+value_or0 (Some v) = v
 
 -- start and steps are 64-bit numbers
 unfoldable pub order_read : List ℕ → Order

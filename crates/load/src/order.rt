@@ -6,7 +6,6 @@ use dates::date;
 use fields::number::Number;
 use fields::{codes, number};
 use texts::digits;
-use texts::digits::Digits;
 
 // The first line: what is asked for, if it is well formed.
 #[derive(Clone, Copy)]
@@ -27,22 +26,22 @@ pub struct AccountLine {
 }
 
 // Whether a digit field holds a value.
-fn holds(d: Digits) -> bool
+fn holds(d: Option<u64>) -> bool
     ensures { result ≡ holds d }
 {
     match d {
-        Digits::Value(_) => true,
-        Digits::Malformed => false,
+        Some(_) => true,
+        None => false,
     }
 }
 
 // The value of a digit field, or 0.
-fn value_or_0(d: Digits) -> u64
+fn value_or_0(d: Option<u64>) -> u64
     ensures { result ≡ value_or0 d }
 {
     match d {
-        Digits::Value(v) => v,
-        Digits::Malformed => 0,
+        Some(v) => v,
+        None => 0,
     }
 }
 

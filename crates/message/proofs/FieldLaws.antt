@@ -1,4 +1,5 @@
 -- Laws of the fields of a request.
+use Rattle.std.specs.Prelude.{Option, Some, None}
 use Prim.Native.Nat.{ℕ, suc, ◌+◌, ◌*◌, ◌≤◌, ◌<◌}
 use native.Mathlib.Omega.{arith}
 use mathlib.Core.Path.{◌≡◌, refl, sym, ap, ◌∙◌}
@@ -8,8 +9,6 @@ use lib.Dec.{leb, eqb}
 use lib.ListN.{length, get_or, take, drop, length-drop}
 use lib.Seq.{length-take-le}
 use borrow.Author.Tests.{not-true, not-false, leb-true, leb-false, eqb-true, eqb-false}
-use Rattle.texts.specs.declared.digits.Digits.{Digits}
-use Rattle.texts.specs.declared.digits.Digits.TheVariants.{Value, Malformed}
 use Rattle.texts.specs.Digits.{digits_read, range_read}
 use Rattle.fields.specs.Amount.{kopecks_after, kopecks_from, amount_of, amount_read}
 use Rattle.fields.specs.Codes.{receipt_read, kind_read, reason_read}
@@ -27,7 +26,6 @@ use Rattle.texts.proofs.ScanLaws.{find-le, lengths_differ}
 use Rattle.coding.specs.Url.{hex_value, decoded, decoded_within}
 use Rattle.payments.specs.declared.Action.{Action}
 use Rattle.payments.specs.declared.Action.TheVariants.{Check, Payment, Status, Cancel}
-use Rattle.parameters.specs.declared.action.ActionRead.TheVariants.{Unknown}
 use Rattle.parameters.specs.Names.{action_word, action_of, has_account, has_date}
 use Rattle.parameters.specs.Slots.{Slot, Absent, Holds}
 use Rattle.parameters.specs.SlotWalk.{clipped_text}
@@ -79,7 +77,7 @@ module _ {A : Type 0} (used : Bool) (fixed absent : A) (read : List ℕ → A) (
   field-read none empty h z b eb r q = rw (← is, not-false u h) (held-read absent read none empty z b eb r q)
 
 -- ---- no reader takes more than 32 bytes
-digits_long : (most : ℕ) → most ≤ 32 → (w : List ℕ) → 32 < length w → digits_read most w ≡ Malformed
+digits_long : (most : ℕ) → most ≤ 32 → (w : List ℕ) → 32 < length w → digits_read most w ≡ None
 digits_long most m w h = sym (read-long most w (omega arith))
 
 range-long : (most low high : ℕ) → most ≤ 32 → (w : List ℕ) → 32 < length w → range_read most low high w ≡ range_read most low high []
@@ -109,14 +107,14 @@ action-none w h = rw (← differs (action_word Check) (omega arith), ← differs
     differs x l = lengths_differ w x (λ e. omega arith)
 
 -- an amount's whole part has at most 7 bytes, and what stands from the point on at most 3
-kopecks-long : (t : List ℕ) → 3 < length t → kopecks_from t ≡ Malformed
+kopecks-long : (t : List ℕ) → 3 < length t → kopecks_from t ≡ None
 unfolding kopecks_after
 kopecks-long [] h = absurd (omega arith)
 kopecks-long (p ∷ f) h = rw (← read-long 2 f (omega arith))
 
-amount-part-bad : (w : Digits) → amount_of w Malformed ≡ Malformed
-amount-part-bad Malformed = refl
-amount-part-bad (Value x) = refl
+amount-part-bad : (w : Option ℕ) → amount_of w None ≡ None
+amount-part-bad None = refl
+amount-part-bad (Some x) = refl
 
 amount-none : (w : List ℕ) → 32 < length w → amount_read w ≡ amount_read []
 unfolding amount_read digits_read find
@@ -125,7 +123,7 @@ amount-none w h = go (leb (find 46 w) 7) refl
     size : length (take (find 46 w) w) ≡ find 46 w
     size = length-take-le (find 46 w) w (find-le 46 w)
 
-    go : (t : Bool) → leb (find 46 w) 7 ≡ t → amount_read w ≡ Malformed
+    go : (t : Bool) → leb (find 46 w) 7 ≡ t → amount_read w ≡ None
     go true t =
         let l : find 46 w ≤ 7 = leb-true (find 46 w) 7 t in
         let k : 3 < length (drop (find 46 w) w) = rw length-drop (omega arith) in
@@ -227,17 +225,17 @@ ok-true true code e = refl
 ok-true false code e = absurd (omega arith)
 
 -- ---- the readers together
-pub read_at : (k k' : Reader) (s : List ℕ) (r : Digits) → k ≡ k' → r ≡ read_by k' s → r ≡ read_by k s
+pub read_at : (k k' : Reader) (s : List ℕ) (r : Option ℕ) → k ≡ k' → r ≡ read_by k' s → r ≡ read_by k s
 read_at k k' s r e q = q ∙ rw e
 
-pub digits-empty : (k : Reader) → read_by k [] ≡ Malformed
+pub digits-empty : (k : Reader) → read_by k [] ≡ None
 unfolding read_by range_read digits_read amount_read find
 digits-empty Receipt = refl
 digits-empty Kind = refl
 digits-empty Amount = refl
 digits-empty Reason = refl
 
-pub action-empty : action_of [] ≡ Unknown
+pub action-empty : action_of [] ≡ None
 unfolding action_of action_word eq_list
 action-empty = refl
 

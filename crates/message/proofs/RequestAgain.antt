@@ -1,4 +1,5 @@
 -- A request that is written from well formed fields reads back as those fields, and is short.
+use Rattle.std.specs.Prelude.{Some, None}
 use Prim.Native.Nat.{ℕ, ◌^◌, ◌≤◌, ◌<◌}
 use native.Mathlib.Nat.{le_trans}
 use native.Mathlib.Omega.{arith}
@@ -7,7 +8,6 @@ use mathlib.Core.List.{List, [], ◌∷◌, append-nil}
 use mathlib.Core.Bool.{Bool, true, false, not, ◌&&◌, ◌||◌}
 use lib.ListN.{length}
 use borrow.Author.Tests.{lt-ltb, le-leb}
-use Rattle.texts.specs.declared.digits.Digits.TheVariants.{Value, Malformed}
 use Rattle.fields.specs.declared.number.Number.{Number}
 use Rattle.texts.specs.Lists.{every, eq_list}
 use Rattle.texts.specs.Digits.{is_digit, within, decimal}
@@ -27,7 +27,6 @@ use Rattle.coding.specs.Url.{is_plain, is_byte}
 use Rattle.coding.proofs.CodedLaws.{plain-marks, digit-plain, coded-plain, coded-length}
 use Rattle.payments.specs.declared.Action.{Action}
 use Rattle.payments.specs.declared.Action.TheVariants.{Check, Payment, Status, Cancel}
-use Rattle.parameters.specs.declared.action.ActionRead.TheVariants.{Known, Unknown}
 use Rattle.message.specs.declared.request.Asked.{Asked}
 use Rattle.parameters.specs.Names.{action_name, number_name, kind_name, amount_name, receipt_name, date_name, reason_name, name_index, action_word, action_of, has_account, has_receipt, has_date, has_reason}
 use Rattle.parameters.specs.Slots.{Slot, Values, gathered}
@@ -53,7 +52,7 @@ word-length Payment = omega arith
 word-length Status = omega arith
 word-length Cancel = omega arith
 
-word-known : (a : Action) → action_of (action_word a) ≡ Known a
+word-known : (a : Action) → action_of (action_word a) ≡ Some a
 unfolding action_of action_word eq_list
 word-known Check = refl
 word-known Payment = refl
@@ -105,8 +104,8 @@ asked-parts q h =
 
 -- fields that are all read leave no fault
 fields-again : (a : Action) (t : List Slot) (r k m y : ℕ) (n : Number) (d : List ℕ)
-    → receipt_field a t ≡ Value r → number_field a t ≡ record { ok = true; number = n } → kind_field a t ≡ Value k
-    → amount_field a t ≡ Value m → date_field a t ≡ record { ok = true; date = d } → reason_field a t ≡ Value y
+    → receipt_field a t ≡ Some r → number_field a t ≡ record { ok = true; number = n } → kind_field a t ≡ Some k
+    → amount_field a t ≡ Some m → date_field a t ≡ record { ok = true; date = d } → reason_field a t ≡ Some y
     → fields_read a t ≡ record { fault = 0; asked = record { action = a; number = n; kind = k; amount = m; receipt = r; date = d; reason = y } }
 unfolding field_fault first_fault fields_read asked_of
 fields-again a t r k m y n d er en ek em ed ey = rw (er, en, ek, em, ed, ey)
@@ -167,18 +166,18 @@ module _ (q : Asked) (dated : length q.date ≡ 19) (good : is_asked q ≡ true)
   unfolding request_read slots_for asked_again
   request-again =
       let l : length (request_bytes q) ≤ 2048 = omega (arith, request-length) in
-      let a : held Unknown action_of (entry_slot of_action) ≡ Known q.action = unfold field_of in field-again Known q.action Check Unknown action_of of_action (λ _. word-known q.action) in
+      let a : held None action_of (entry_slot of_action) ≡ Some q.action = unfold field_of in field-again Some q.action Check None action_of of_action (λ _. word-known q.action) in
       rw (le-leb _ _ l, gathered-is, a)
       (fields-again q.action (slots_for entries) _ _ _ _ _ _
-      (field-again Value q.receipt 0 Malformed receipt_read of_receipt (λ e. receipt-again q.receipt (parts.receipt e)))
+      (field-again Some q.receipt 0 None receipt_read of_receipt (λ e. receipt-again q.receipt (parts.receipt e)))
       (field-again (λ n. record { ok = true; number = n }) (number_of (number_text q.number)) unused_number no_number number_read of_number
       (λ e. number-again q.number (parts.number e)))
-      (field-again Value q.kind 0 (Value 1) kind_read of_kind (λ e. kind-again q.kind (parts.kind e)))
-      (field-again Value q.amount 0 Malformed amount_read of_amount (λ e. amount-read (parts.amount e)))
+      (field-again Some q.kind 0 (Some 1) kind_read of_kind (λ e. kind-again q.kind (parts.kind e)))
+      (field-again Some q.amount 0 None amount_read of_amount (λ e. amount-read (parts.amount e)))
       (field-again (λ d. record { ok = true; date = d }) q.date empty_date no_date date_read of_date (λ e. date-again q.date (parts.date e)))
-      (field-again Value q.reason 0 Malformed reason_read of_reason (λ e. reason-again q.reason (parts.reason e))))
+      (field-again Some q.reason 0 None reason_read of_reason (λ e. reason-again q.reason (parts.reason e))))
     where
-      amount-read : is_amount q.amount ≡ true → amount_read (amount_bytes q.amount) ≡ Value q.amount
+      amount-read : is_amount q.amount ≡ true → amount_read (amount_bytes q.amount) ≡ Some q.amount
       amount-read w =
           let low : 1 ≤ q.amount = within_low 1 999999999 q.amount w in
           let high : q.amount ≤ 999999999 = within-high 1 999999999 q.amount w in

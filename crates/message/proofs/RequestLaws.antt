@@ -1,4 +1,5 @@
 -- Laws of a request, at each way out of its reader.
+use Rattle.std.specs.Prelude.{Option, Some, None}
 use Prim.Native.Nat.{ℕ, ◌≤◌, ◌<◌}
 use native.Mathlib.Omega.{arith}
 use mathlib.Core.Path.{◌≡◌, refl, sym, ap, ◌∙◌}
@@ -7,13 +8,9 @@ use mathlib.Core.Bool.{Bool, true, false, cond, not}
 use lib.Dec.{eqb}
 use lib.ListN.{length, get_or, replicate}
 use borrow.Author.Tests.{not-true, not-false, le-leb, lt-leb, eq-eqb, ne_eqb, eqb-true}
-use Rattle.texts.specs.declared.digits.Digits.{Digits}
-use Rattle.texts.specs.declared.digits.Digits.TheVariants.{Value, Malformed}
 use Rattle.fields.specs.declared.number.Number.{Number}
 use Rattle.payments.specs.declared.Action.{Action}
 use Rattle.payments.specs.declared.Action.TheVariants.{Check}
-use Rattle.parameters.specs.declared.action.ActionRead.{ActionRead}
-use Rattle.parameters.specs.declared.action.ActionRead.TheVariants.{Known, Unknown}
 use Rattle.message.specs.declared.request.Figures.{Figures}
 use Rattle.message.specs.declared.request.RequestRead.{RequestRead}
 use Rattle.fields.specs.Codes.{kind_read}
@@ -33,38 +30,38 @@ unfolding refused
 refused-is f a r q = q
 
 -- ---- the digit fields, as their one function reads them
-module _ (a : Action) (t : List Slot) (u : Bool) (r : Digits) where
-  pub is-receipt : u ≡ has_receipt a → r ≡ field_of u (Value 0) Malformed (read_by Receipt) (get_or t 4 Absent) → r ≡ receipt_field a t
+module _ (a : Action) (t : List Slot) (u : Bool) (r : Option ℕ) where
+  pub is-receipt : u ≡ has_receipt a → r ≡ field_of u (Some 0) None (read_by Receipt) (get_or t 4 Absent) → r ≡ receipt_field a t
   unfolding read_by
   is-receipt e q = q ∙ rw e
 
-  pub is-amount : u ≡ has_account a → r ≡ field_of u (Value 0) Malformed (read_by Amount) (get_or t 3 Absent) → r ≡ amount_field a t
+  pub is-amount : u ≡ has_account a → r ≡ field_of u (Some 0) None (read_by Amount) (get_or t 3 Absent) → r ≡ amount_field a t
   unfolding read_by
   is-amount e q = q ∙ rw e
 
-  pub is-reason : u ≡ has_reason a → r ≡ field_of u (Value 0) Malformed (read_by Reason) (get_or t 6 Absent) → r ≡ reason_field a t
+  pub is-reason : u ≡ has_reason a → r ≡ field_of u (Some 0) None (read_by Reason) (get_or t 6 Absent) → r ≡ reason_field a t
   unfolding read_by
   is-reason e q = q ∙ rw e
 
 -- an absent type is 1
-module _ (a : Action) (s : List ℕ) (t : List (List ℕ)) (sizes : 7 ≡ length t) (u : Bool) (has : u ≡ has_account a) (g : Bool) (given : g ≡ is_given t 2) (r : Digits) where
-  pub kind-given : g ≡ true → r ≡ field_of u (Value 0) Malformed (read_by Kind) (get_or (slots_in s t) 2 Absent) → r ≡ kind_field a (slots_in s t)
+module _ (a : Action) (s : List ℕ) (t : List (List ℕ)) (sizes : 7 ≡ length t) (u : Bool) (has : u ≡ has_account a) (g : Bool) (given : g ≡ is_given t 2) (r : Option ℕ) where
+  pub kind-given : g ≡ true → r ≡ field_of u (Some 0) None (read_by Kind) (get_or (slots_in s t) 2 Absent) → r ≡ kind_field a (slots_in s t)
   unfolding read_by field_of held
   kind-given h q =
       q ∙ rw has (go (get_or (slots_in s t) 2 Absent) (is-given s t 2 (omega arith) sizes (sym given ∙ h)))
     where
-      go : (z : Slot) → (z ≡ Absent → ⊥) → field_of (has_account a) (Value 0) Malformed kind_read z ≡ field_of (has_account a) (Value 0) (Value 1) kind_read z
+      go : (z : Slot) → (z ≡ Absent → ⊥) → field_of (has_account a) (Some 0) None kind_read z ≡ field_of (has_account a) (Some 0) (Some 1) kind_read z
       go Absent n = absurd (n refl)
       go (Holds v) n = refl
 
-  absent-kind : g ≡ false → kind_field a (slots_in s t) ≡ cond u (Value 1) (Value 0)
+  absent-kind : g ≡ false → kind_field a (slots_in s t) ≡ cond u (Some 1) (Some 0)
   unfolding field_of held
   absent-kind h = rw (not-given s t 2 (omega arith) sizes (sym given ∙ h), ← has)
 
-  pub kind-absent : g ≡ false → u ≡ true → r ≡ Value 1 → r ≡ kind_field a (slots_in s t)
+  pub kind-absent : g ≡ false → u ≡ true → r ≡ Some 1 → r ≡ kind_field a (slots_in s t)
   kind-absent h y q = q ∙ sym (absent-kind h ∙ rw y)
 
-  pub kind-lacks : g ≡ false → u ≡ false → r ≡ Value 0 → r ≡ kind_field a (slots_in s t)
+  pub kind-lacks : g ≡ false → u ≡ false → r ≡ Some 0 → r ≡ kind_field a (slots_in s t)
   kind-lacks h n q = q ∙ sym (absent-kind h ∙ rw n)
 
 -- ---- the figures in their order: the first field that is malformed decides
@@ -75,22 +72,22 @@ module _ (a : Action) (t : List Slot) (r : Figures) where
     unfolding later_figures
     later-fails n e z q = q ∙ rw (e, z)
 
-    module _ (am : Digits) (ea : am ≡ amount_field a t) where
-      pub no-amount : am ≡ Malformed → r ≡ faulty 3 → r ≡ later_figures a t receipt kind
+    module _ (am : Option ℕ) (ea : am ≡ amount_field a t) where
+      pub no-amount : am ≡ None → r ≡ faulty 3 → r ≡ later_figures a t receipt kind
       unfolding later_fault first_fault
       no-amount b q = later-fails 3 (rw (← ea, b)) refl q
 
-      module _ (m : ℕ) (va : am ≡ Value m) (dg : Bool) (ed : dg ≡ (date_field a t).ok) where
+      module _ (m : ℕ) (va : am ≡ Some m) (dg : Bool) (ed : dg ≡ (date_field a t).ok) where
         pub no-date : not dg ≡ true → r ≡ faulty 5 → r ≡ later_figures a t receipt kind
         unfolding later_fault first_fault
         no-date b q = later-fails 5 (rw (← ea, va, ← ed, not-true dg b)) refl q
 
-        module _ (od : not dg ≡ false) (rs : Digits) (er : rs ≡ reason_field a t) where
-          pub no-reason : rs ≡ Malformed → r ≡ faulty 32 → r ≡ later_figures a t receipt kind
+        module _ (od : not dg ≡ false) (rs : Option ℕ) (er : rs ≡ reason_field a t) where
+          pub no-reason : rs ≡ None → r ≡ faulty 32 → r ≡ later_figures a t receipt kind
           unfolding later_fault first_fault
           no-reason b q = later-fails 32 (rw (← ea, va, ← ed, not-false dg od, ← er, b)) refl q
 
-          pub all-later : (y : ℕ) → rs ≡ Value y → r ≡ record { fault = 0; receipt = receipt; kind = kind; amount = m; reason = y } → r ≡ later_figures a t receipt kind
+          pub all-later : (y : ℕ) → rs ≡ Some y → r ≡ record { fault = 0; receipt = receipt; kind = kind; amount = m; reason = y } → r ≡ later_figures a t receipt kind
           unfolding later_fault first_fault later_figures
           all-later y vr q = q ∙ rw (← ea, va, ← ed, not-false dg od, ← er, vr)
 
@@ -99,22 +96,22 @@ module _ (a : Action) (t : List Slot) (r : Figures) where
   unfolding figures_of
   fails n e z q = q ∙ rw (e, z)
 
-  module _ (rc : Digits) (ec : rc ≡ receipt_field a t) where
-    pub no-receipt : rc ≡ Malformed → r ≡ faulty 4 → r ≡ figures_of a t
+  module _ (rc : Option ℕ) (ec : rc ≡ receipt_field a t) where
+    pub no-receipt : rc ≡ None → r ≡ faulty 4 → r ≡ figures_of a t
     unfolding field_fault first_fault
     no-receipt b q = fails 4 (rw (← ec, b)) refl q
 
-    module _ (x : ℕ) (vc : rc ≡ Value x) (ng : Bool) (en : ng ≡ (number_field a t).ok) where
+    module _ (x : ℕ) (vc : rc ≡ Some x) (ng : Bool) (en : ng ≡ (number_field a t).ok) where
       pub no-number : not ng ≡ true → r ≡ faulty 2 → r ≡ figures_of a t
       unfolding field_fault first_fault
       no-number b q = fails 2 (rw (← ec, vc, ← en, not-true ng b)) refl q
 
-      module _ (on : not ng ≡ false) (kd : Digits) (ek : kd ≡ kind_field a t) where
-        pub no_kind : kd ≡ Malformed → r ≡ faulty 2 → r ≡ figures_of a t
+      module _ (on : not ng ≡ false) (kd : Option ℕ) (ek : kd ≡ kind_field a t) where
+        pub no_kind : kd ≡ None → r ≡ faulty 2 → r ≡ figures_of a t
         unfolding field_fault first_fault
         no_kind b q = fails 2 (rw (← ec, vc, ← en, not-false ng on, ← ek, b)) refl q
 
-        pub then-later : (k : ℕ) → kd ≡ Value k → r ≡ later_figures a t x k → r ≡ figures_of a t
+        pub then-later : (k : ℕ) → kd ≡ Some k → r ≡ later_figures a t x k → r ≡ figures_of a t
         unfolding field_fault first_fault later_fault figures_of later_figures
         then-later k vk q = q ∙ rw (← ec, vc, ← en, not-false ng on, ← ek, vk)
 
@@ -188,11 +185,11 @@ module _ (s : List ℕ) (r : RequestRead) where
     unfolding request_read scanned
     is-broken b q = q ∙ rw (le-leb _ _ short, ← whole, not-true g b)
 
-    module _ (good : not g ≡ false) (x : ActionRead) (ex : x ≡ held Unknown action_of (get_or (slots_in s t) 0 Absent)) where
-      pub no-action : x ≡ Unknown → r ≡ refused 1 Check → r ≡ request_read s
+    module _ (good : not g ≡ false) (x : Option Action) (ex : x ≡ held None action_of (get_or (slots_in s t) 0 Absent)) where
+      pub no-action : x ≡ None → r ≡ refused 1 Check → r ≡ request_read s
       unfolding request_read scanned
       no-action b q = q ∙ rw (le-leb _ _ short, ← whole, not-false g good, ← ex, b)
 
-      pub by-action : (a : Action) → x ≡ Known a → r ≡ fields_read a (slots_in s t) → r ≡ request_read s
+      pub by-action : (a : Action) → x ≡ Some a → r ≡ fields_read a (slots_in s t) → r ≡ request_read s
       unfolding request_read scanned
       by-action a b q = q ∙ rw (le-leb _ _ short, ← whole, not-false g good, ← ex, b)

@@ -1,4 +1,5 @@
 -- What a request that was read without fault holds: each field that the action has is in its range, and the date has its length.
+use Rattle.std.specs.Prelude.{Option, Some, None}
 use Prim.Native.Nat.{ℕ, suc}
 use native.Mathlib.Omega.{arith}
 use mathlib.Core.Path.{◌≡◌, refl}
@@ -7,8 +8,6 @@ use mathlib.Core.List.{List}
 use lib.Dec.{eqb, leb}
 use lib.ListN.{length, get_or}
 use borrow.Author.Tests.{eqb-true, eqb-false}
-use Rattle.texts.specs.declared.digits.Digits.{Digits}
-use Rattle.texts.specs.declared.digits.Digits.TheVariants.{Value, Malformed}
 use Rattle.fields.specs.declared.number.NumberRead.{NumberRead}
 use Rattle.dates.specs.declared.date.DateRead.{DateRead}
 use Rattle.texts.specs.Digits.{fault_of}
@@ -24,8 +23,6 @@ use Rattle.dates.proofs.DateLaws.{written-parts}
 use Rattle.coding.specs.Url.{decoded}
 use Rattle.payments.specs.declared.Action.{Action}
 use Rattle.payments.specs.declared.Action.TheVariants.{Check}
-use Rattle.parameters.specs.declared.action.ActionRead.{ActionRead}
-use Rattle.parameters.specs.declared.action.ActionRead.TheVariants.{Known, Unknown}
 use Rattle.message.specs.declared.request.Asked.{Asked}
 use Rattle.message.specs.declared.request.RequestRead.{RequestRead}
 use Rattle.parameters.specs.Names.{action_of, has_account, has_receipt, has_date, has_reason}
@@ -46,22 +43,22 @@ pub record AskedGood (q : Asked) : Type 0 where
 
 -- ---- digit fields
 module _ (good : ℕ → Bool) (code : ℕ) where
-  digits-good : (d : Digits) → fault_of (suc code) d ≡ 0 → ((v : ℕ) → Value v ≡ d → good v ≡ true) → good (value_in d) ≡ true
-  digits-good Malformed e f = absurd (omega arith)
-  digits-good (Value v) e f = f v refl
+  digits-good : (d : Option ℕ) → fault_of (suc code) d ≡ 0 → ((v : ℕ) → Some v ≡ d → good v ≡ true) → good (value_in d) ≡ true
+  digits-good None e f = absurd (omega arith)
+  digits-good (Some v) e f = f v refl
 
-  field-good : (absent : Digits) (read : List ℕ → Digits) → ((v : ℕ) → Value v ≡ absent → good v ≡ true) → ((s : List ℕ) (v : ℕ) → Value v ≡ read s → good v ≡ true)
-      → (used : Bool) (k : Slot) → fault_of (suc code) (field_of used (Value 0) absent read k) ≡ 0 → used ≡ true
-      → good (value_in (field_of used (Value 0) absent read k)) ≡ true
+  field-good : (absent : Option ℕ) (read : List ℕ → Option ℕ) → ((v : ℕ) → Some v ≡ absent → good v ≡ true) → ((s : List ℕ) (v : ℕ) → Some v ≡ read s → good v ≡ true)
+      → (used : Bool) (k : Slot) → fault_of (suc code) (field_of used (Some 0) absent read k) ≡ 0 → used ≡ true
+      → good (value_in (field_of used (Some 0) absent read k)) ≡ true
   unfolding field_of held
   field-good absent read fa fr false k e u = let z : ◌≡◌ {A = ℕ} 0 1 = cc in absurd (omega arith)
   field-good absent read fa fr true Absent e u = digits-good absent e fa
   field-good absent read fa fr true (Holds v) e u = digits-good (read (decoded v)) e (fr (decoded v))
 
-no_value : {A : Type 0} (v : ℕ) → Value v ≡ Malformed → A
+no_value : {A : Type 0} (v : ℕ) → Some v ≡ None → A
 no_value v e = let z : ◌≡◌ {A = ℕ} 0 1 = cc in absurd (omega arith)
 
-one-kind : (v : ℕ) → Value v ≡ Value 1 → is_kind v ≡ true
+one-kind : (v : ℕ) → Some v ≡ Some 1 → is_kind v ≡ true
 one-kind v e = let z : v ≡ 1 = cc in rw z
 
 -- ---- numbers and dates
@@ -114,12 +111,12 @@ fields-good a t h =
     let date = fault-none _ _ amount.1 in
     let reason = fault-none _ _ date.1 in
     record {
-      receipt = field-good is_receipt 3 Malformed receipt_read (λ v e. no_value v e) (range-within 15 1 999999999999999) (has_receipt a) (get_or t 4 Absent) receipt.0;
+      receipt = field-good is_receipt 3 None receipt_read (λ v e. no_value v e) (range-within 15 1 999999999999999) (has_receipt a) (get_or t 4 Absent) receipt.0;
       number = number-good (has_account a) (get_or t 1 Absent) (ok-true _ 1 number.0);
-      kind = field-good is_kind 1 (Value 1) kind_read one-kind (range-within 3 0 999) (has_account a) (get_or t 2 Absent) kind.0;
-      amount = field-good is_amount 2 Malformed amount_read (λ v e. no_value v e) amount-within (has_account a) (get_or t 3 Absent) amount.0;
+      kind = field-good is_kind 1 (Some 1) kind_read one-kind (range-within 3 0 999) (has_account a) (get_or t 2 Absent) kind.0;
+      amount = field-good is_amount 2 None amount_read (λ v e. no_value v e) amount-within (has_account a) (get_or t 3 Absent) amount.0;
       date = date-good (has_date a) (get_or t 5 Absent) (ok-true _ 4 date.0);
-      reason = field-good is_reason 31 Malformed reason_read (λ v e. no_value v e) (range-within 1 1 5) (has_reason a) (get_or t 6 Absent) reason.0;
+      reason = field-good is_reason 31 None reason_read (λ v e. no_value v e) (range-within 1 1 5) (has_reason a) (get_or t 6 Absent) reason.0;
       dated = date-sized (has_date a) (get_or t 5 Absent);
     }
 
@@ -134,11 +131,11 @@ refused-good f a n e = absurd (n e)
 values-good : (x : Gathered) → ReadGood (values_read x)
 unfolding fields_read
 values-good Broken = refused-good 31 Check (λ e. omega arith)
-values-good (Values s) = go (held Unknown action_of (get_or s 0 Absent))
+values-good (Values s) = go (held None action_of (get_or s 0 Absent))
   where
-    go : (a : ActionRead) → ReadGood (action_read a s)
-    go Unknown = refused-good 1 Check (λ e. omega arith)
-    go (Known a) =
+    go : (a : Option Action) → ReadGood (action_read a s)
+    go None = refused-good 1 Check (λ e. omega arith)
+    go (Some a) =
         cond-elim ReadGood (eqb (field_fault a s) 0) (record { fault = 0; asked = asked_of a s }) (refused (field_fault a s) a)
         (λ h _. fields-good a s (eqb-true (field_fault a s) 0 h))
         (λ h. refused-good (field_fault a s) a (eqb-false (field_fault a s) 0 h))

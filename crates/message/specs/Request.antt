@@ -1,7 +1,5 @@
 -- Document 01, "Requests" and the checks under "Gate": what a request asks, or its first fault.
-use Rattle.std.specs.Prelude.{ℕ, List, [], ◌∷◌, Bool, true, cond, length, get_or, replicate, leb, eqb}
-use Rattle.texts.specs.declared.digits.Digits.{Digits}
-use Rattle.texts.specs.declared.digits.Digits.TheVariants.{Value, Malformed}
+use Rattle.std.specs.Prelude.{ℕ, List, [], ◌∷◌, Bool, true, cond, length, get_or, replicate, leb, eqb, Option, Some, None}
 use Rattle.fields.specs.declared.number.Number.{Number}
 use Rattle.fields.specs.declared.number.NumberRead.{NumberRead}
 use Rattle.dates.specs.declared.date.DateRead.{DateRead}
@@ -12,8 +10,6 @@ use Rattle.dates.specs.Date.{empty_date, no_date, date_read, date_fault}
 use Rattle.coding.specs.Url.{decoded}
 use Rattle.payments.specs.declared.Action.{Action}
 use Rattle.payments.specs.declared.Action.TheVariants.{Check}
-use Rattle.parameters.specs.declared.action.ActionRead.{ActionRead}
-use Rattle.parameters.specs.declared.action.ActionRead.TheVariants.{Known, Unknown}
 use Rattle.message.specs.declared.request.Asked.{Asked}
 use Rattle.message.specs.declared.request.RequestRead.{RequestRead}
 use Rattle.parameters.specs.Names.{action_place, number_place, kind_place, amount_place, receipt_place, date_place, reason_place, action_of, has_account, has_receipt, has_date, has_reason}
@@ -32,29 +28,29 @@ field_of used fixed absent read k = cond used (held absent read k) fixed
 abbrev pub unused_number : Number
 unused_number = record { bytes = replicate 30 0; len = 0 }
 
-abbrev pub receipt_field : Action → List Slot → Digits
-receipt_field a t = field_of (has_receipt a) (Value 0) Malformed receipt_read (get_or t receipt_place Absent)
+abbrev pub receipt_field : Action → List Slot → Option ℕ
+receipt_field a t = field_of (has_receipt a) (Some 0) None receipt_read (get_or t receipt_place Absent)
 
 abbrev pub number_field : Action → List Slot → NumberRead
 number_field a t = field_of (has_account a) (record { ok = true; number = unused_number }) no_number number_read (get_or t number_place Absent)
 
 -- an absent type is 1
-abbrev pub kind_field : Action → List Slot → Digits
-kind_field a t = field_of (has_account a) (Value 0) (Value 1) kind_read (get_or t kind_place Absent)
+abbrev pub kind_field : Action → List Slot → Option ℕ
+kind_field a t = field_of (has_account a) (Some 0) (Some 1) kind_read (get_or t kind_place Absent)
 
-abbrev pub amount_field : Action → List Slot → Digits
-amount_field a t = field_of (has_account a) (Value 0) Malformed amount_read (get_or t amount_place Absent)
+abbrev pub amount_field : Action → List Slot → Option ℕ
+amount_field a t = field_of (has_account a) (Some 0) None amount_read (get_or t amount_place Absent)
 
 abbrev pub date_field : Action → List Slot → DateRead
 date_field a t = field_of (has_date a) (record { ok = true; date = empty_date }) no_date date_read (get_or t date_place Absent)
 
-abbrev pub reason_field : Action → List Slot → Digits
-reason_field a t = field_of (has_reason a) (Value 0) Malformed reason_read (get_or t reason_place Absent)
+abbrev pub reason_field : Action → List Slot → Option ℕ
+reason_field a t = field_of (has_reason a) (Some 0) None reason_read (get_or t reason_place Absent)
 
 -- ---- the request
-abbrev pub value_in : Digits → ℕ
-value_in Malformed = 0
-value_in (Value v) = v
+abbrev pub value_in : Option ℕ → ℕ
+value_in None = 0
+value_in (Some v) = v
 
 -- nothing is asked: every field at its fixed value. With 31 and 1 no action is known, and Check stands there.
 unfoldable pub refused : ℕ → Action → RequestRead
@@ -96,13 +92,13 @@ unfoldable pub fields_read : Action → List Slot → RequestRead
 fields_read a t = cond (eqb (field_fault a t) 0) (record { fault = 0; asked = asked_of a t }) (refused (field_fault a t) a)
 
 -- without one of the four actions it is 1
-abbrev pub action_read : ActionRead → List Slot → RequestRead
-action_read Unknown t = refused 1 Check
-action_read (Known a) t = fields_read a t
+abbrev pub action_read : Option Action → List Slot → RequestRead
+action_read None t = refused 1 Check
+action_read (Some a) t = fields_read a t
 
 abbrev pub values_read : Gathered → RequestRead
 values_read Broken = refused 31 Check
-values_read (Values t) = action_read (held Unknown action_of (get_or t action_place Absent)) t
+values_read (Values t) = action_read (held None action_of (get_or t action_place Absent)) t
 
 -- over 2,048 bytes it is 31, whatever they are
 unfoldable pub request_read : List ℕ → RequestRead

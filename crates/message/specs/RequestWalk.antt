@@ -1,10 +1,9 @@
 -- How the code reads the fields of a request: its figures in two halves. Cited by inner contracts only: it needs no belief.
-use Rattle.std.specs.Prelude.{ℕ, List, [], ◌∷◌, cond, eqb}
+use Rattle.std.specs.Prelude.{ℕ, List, [], ◌∷◌, cond, eqb, Option}
 use Rattle.payments.specs.declared.Action.{Action}
 use Rattle.message.specs.declared.request.Figures.{Figures}
 use Rattle.message.specs.declared.request.Reader.{Reader}
 use Rattle.message.specs.declared.request.Reader.TheVariants.{Receipt, Kind, Amount, Reason}
-use Rattle.texts.specs.declared.digits.Digits.{Digits}
 use Rattle.fields.specs.Amount.{amount_read, amount_fault}
 use Rattle.dates.specs.Date.{date_fault}
 use Rattle.fields.specs.Codes.{receipt_read, kind_read, reason_read, reason_fault}
@@ -12,7 +11,7 @@ use Rattle.parameters.specs.Slots.{Slot}
 use Rattle.message.specs.Request.{receipt_field, kind_field, amount_field, date_field, reason_field, value_in, first_fault, field_fault}
 
 -- the four readers of digit fields
-unfoldable pub read_by : Reader → List ℕ → Digits
+unfoldable pub read_by : Reader → List ℕ → Option ℕ
 read_by Receipt s = receipt_read s
 read_by Kind s = kind_read s
 read_by Amount s = amount_read s

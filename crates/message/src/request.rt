@@ -1,7 +1,5 @@
 // Requests: what they ask, or their first fault.
 ghost use Rattle.std.specs.Prelude.{◌≡◌, true, ◌<◌, length, get_or};
-ghost use Rattle.texts.specs.declared.digits.Digits.TheVariants.{Value, Malformed};
-ghost use Rattle.parameters.specs.declared.action.ActionRead.TheVariants.{Unknown};
 ghost use Rattle.parameters.specs.Names.{action_of};
 ghost use Rattle.parameters.specs.Slots.{Absent};
 ghost use Rattle.parameters.specs.SlotWalk.{slots_in};
@@ -11,10 +9,8 @@ ghost use Rattle.message.specs.RequestWalk.{read_by, faulty, later_figures, figu
 use dates::date;
 use fields::number::Number;
 use fields::{amount, codes, number};
-use parameters::action::ActionRead;
 use parameters::{action, slots};
 use payments::Action;
-use texts::digits::Digits;
 
 // How many bytes the parameters of a request are at most.
 const PARAMETERS_MOST: usize = 2048;
@@ -79,7 +75,7 @@ fn refuse(fault: u64, a: Action) -> RequestRead
 }
 
 // The action of a request.
-fn action_field(s: &[u8], t: &[[usize; 2]]) -> ActionRead
+fn action_field(s: &[u8], t: &[[usize; 2]]) -> Option<Action>
     requires { 7 ≡ length t.now }
     ensures { result ≡ held Unknown action_of (get_or (slots_in s.now t.now) 0 Absent) }
 {
@@ -88,7 +84,7 @@ fn action_field(s: &[u8], t: &[[usize; 2]]) -> ActionRead
 }
 
 // The value that one of the four digit readers makes of bytes.
-fn read_by(reader: Reader, s: &[u8]) -> Digits
+fn read_by(reader: Reader, s: &[u8]) -> Option<u64>
     ensures { result ≡ read_by reader s.now }
 {
     match reader {
@@ -100,18 +96,18 @@ fn read_by(reader: Reader, s: &[u8]) -> Digits
 }
 
 // A digit field: 0 where the action lacks it, malformed where the request does.
-fn digits_field(reader: Reader, used: bool, s: &[u8], t: &[[usize; 2]], k: usize) -> Digits
+fn digits_field(reader: Reader, used: bool, s: &[u8], t: &[[usize; 2]], k: usize) -> Option<u64>
     requires { (k < 7) × (7 ≡ length t.now) }
     ensures { result ≡ field_of used (Value 0) Malformed (read_by reader) (get_or (slots_in s.now t.now) k Absent) }
 {
     if !used {
-        return Digits::Value(0);
+        return Some(0);
     }
     let mut room = [0u8; 96];
     read_by(reader, slots::text_of(s, t, k, &mut room))
 }
 
-fn receipt_field(a: Action, s: &[u8], t: &[[usize; 2]]) -> Digits
+fn receipt_field(a: Action, s: &[u8], t: &[[usize; 2]]) -> Option<u64>
     requires { 7 ≡ length t.now }
     ensures { result ≡ receipt_field a (slots_in s.now t.now) }
 {
@@ -120,7 +116,7 @@ fn receipt_field(a: Action, s: &[u8], t: &[[usize; 2]]) -> Digits
 }
 
 // The type; an absent one is 1.
-fn kind_field(a: Action, s: &[u8], t: &[[usize; 2]]) -> Digits
+fn kind_field(a: Action, s: &[u8], t: &[[usize; 2]]) -> Option<u64>
     requires { 7 ≡ length t.now }
     ensures { result ≡ kind_field a (slots_in s.now t.now) }
 {
@@ -128,14 +124,10 @@ fn kind_field(a: Action, s: &[u8], t: &[[usize; 2]]) -> Digits
     if slots::is_given(t, action::KIND) {
         return digits_field(Reader::Kind, used, s, t, action::KIND);
     }
-    if used {
-        Digits::Value(1)
-    } else {
-        Digits::Value(0)
-    }
+    if used { Some(1) } else { Some(0) }
 }
 
-fn amount_field(a: Action, s: &[u8], t: &[[usize; 2]]) -> Digits
+fn amount_field(a: Action, s: &[u8], t: &[[usize; 2]]) -> Option<u64>
     requires { 7 ≡ length t.now }
     ensures { result ≡ amount_field a (slots_in s.now t.now) }
 {
@@ -143,7 +135,7 @@ fn amount_field(a: Action, s: &[u8], t: &[[usize; 2]]) -> Digits
     digits_field(Reader::Amount, used, s, t, action::AMOUNT)
 }
 
-fn reason_field(a: Action, s: &[u8], t: &[[usize; 2]]) -> Digits
+fn reason_field(a: Action, s: &[u8], t: &[[usize; 2]]) -> Option<u64>
     requires { 7 ≡ length t.now }
     ensures { result ≡ reason_field a (slots_in s.now t.now) }
 {
@@ -220,13 +212,13 @@ fn later_figures(a: Action, s: &[u8], t: &[[usize; 2]], receipt: u64, kind: u64)
     requires { 7 ≡ length t.now }
     ensures { result ≡ later_figures a (slots_in s.now t.now) receipt kind }
 {
-    let Digits::Value(amount) = amount_field(a, s, t) else {
+    let Some(amount) = amount_field(a, s, t) else {
         return faulty(3);
     };
     if !date_good(a, s, t) {
         return faulty(5);
     }
-    let Digits::Value(reason) = reason_field(a, s, t) else {
+    let Some(reason) = reason_field(a, s, t) else {
         return faulty(32);
     };
     Figures {
@@ -243,13 +235,13 @@ fn read_figures(a: Action, s: &[u8], t: &[[usize; 2]]) -> Figures
     requires { 7 ≡ length t.now }
     ensures { result ≡ figures_of a (slots_in s.now t.now) }
 {
-    let Digits::Value(receipt) = receipt_field(a, s, t) else {
+    let Some(receipt) = receipt_field(a, s, t) else {
         return faulty(4);
     };
     if !number_good(a, s, t) {
         return faulty(2);
     }
-    let Digits::Value(kind) = kind_field(a, s, t) else {
+    let Some(kind) = kind_field(a, s, t) else {
         return faulty(2);
     };
     later_figures(a, s, t, receipt, kind)
@@ -289,7 +281,7 @@ pub fn read_request(s: &[u8]) -> RequestRead
     if !slots::gather(s, &mut t) {
         return refuse(31, Action::Check);
     }
-    let ActionRead::Known(a) = action_field(s, &t) else {
+    let Some(a) = action_field(s, &t) else {
         return refuse(1, Action::Check);
     };
     read_fields(a, s, &t)

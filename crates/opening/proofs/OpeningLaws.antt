@@ -1,4 +1,5 @@
 -- Laws of opening an account and drawing from one.
+use Rattle.std.specs.Prelude.{Option, Some, None}
 use Prim.Native.Nat.{ℕ, ◌≤◌, ◌<◌}
 use native.Mathlib.Nat.{zero-add}
 use native.Mathlib.Omega.{arith}
@@ -14,8 +15,6 @@ use Rattle.fields.specs.Codes.{is_kind}
 use Rattle.fields.specs.Number.{is_number}
 use Rattle.texts.proofs.DigitLaws.{within-high}
 use Rattle.table.specs.declared.Gate.{Gate}
-use Rattle.lists.specs.declared.Found.{Found}
-use Rattle.lists.specs.declared.Found.TheVariants.{At, Nothing}
 use Rattle.table.specs.Table.{Rows}
 use Rattle.table.specs.declared.Head.{Head}
 use Rattle.table.specs.declared.accounts.Holding.{Holding}
@@ -45,16 +44,16 @@ module _ (n : Number) (k : ℕ) where
     unfolding draw_from
     draw-malformed m h q = q ∙ rw (← et, not-true t h)
 
-    module _ (h : not t ≡ false) (f : Found) (ef : f ≡ find_account n k (accounts_of g)) where
-      pub open-known : (a : ℕ) → f ≡ At a → r ≡ replies 56 g → r ≡ open_to g n k
+    module _ (h : not t ≡ false) (f : Option ℕ) (ef : f ≡ find_account n k (accounts_of g)) where
+      pub open-known : (a : ℕ) → f ≡ Some a → r ≡ replies 56 g → r ≡ open_to g n k
       unfolding open_to
       open-known a e q = q ∙ rw (← et, not-false t h, ← ef, e)
 
-      pub open-many : f ≡ Nothing → 256 ≤ g.count → r ≡ replies 57 g → r ≡ open_to g n k
+      pub open-many : f ≡ None → 256 ≤ g.count → r ≡ replies 57 g → r ≡ open_to g n k
       unfolding open_to
       open-many e l q = q ∙ rw (← et, not-false t h, ← ef, e, le-leb _ _ l)
 
-      pub open-new : f ≡ Nothing → g.count < 256 → (o : Gate) → o ≡ opened g n k → r ≡ replies 0 o → r ≡ open_to g n k
+      pub open-new : f ≡ None → g.count < 256 → (o : Gate) → o ≡ opened g n k → r ≡ replies 0 o → r ≡ open_to g n k
       unfolding open_to
       open-new e l o eo q = q ∙ rw (eo, ← et, not-false t h, ← ef, e, lt-leb _ _ l)
 
@@ -63,12 +62,12 @@ module _ (n : Number) (k : ℕ) where
       draw-named m q = q ∙ rw (← et, not-false t h, ef)
 
 -- ---- drawing from the account that was found
-module _ (g : Gate) (f : Found) (m : ℕ) (r : Reply) where
-  pub draw-unknown : f ≡ Nothing → r ≡ replies 59 g → r ≡ draw_on g f m
+module _ (g : Gate) (f : Option ℕ) (m : ℕ) (r : Reply) where
+  pub draw-unknown : f ≡ None → r ≡ replies 59 g → r ≡ draw_on g f m
   unfolding draw_on
   draw-unknown e q = q ∙ rw e
 
-  module _ (a : ℕ) (e : f ≡ At a) (t : Bool) (et : t ≡ is_amount m) where
+  module _ (a : ℕ) (e : f ≡ Some a) (t : Bool) (et : t ≡ is_amount m) where
     pub draw-amount : not t ≡ true → r ≡ replies 58 g → r ≡ draw_on g f m
     unfolding draw_on
     draw-amount h q = q ∙ rw (e, ← et, not-true t h)
@@ -92,21 +91,21 @@ pub kopecks-small : (m : ℕ) (t : Bool) → t ≡ is_amount m → not t ≡ fal
 kopecks-small m t e h = omega (arith, within-high 1 999999999 m (sym e ∙ not-false t h))
 
 -- an account that was looked up is in use, and its balance within its bound
-pub named-within : (g : Gate) (n : Number) (k : ℕ) (f : Found) → Sound g → f ≡ find_account n k (accounts_of g) → Within f g.count
+pub named-within : (g : Gate) (n : Number) (k : ℕ) (f : Option ℕ) → Sound g → f ≡ find_account n k (accounts_of g) → Within f g.count
 unfolding find_account
 named-within g n k f s e =
     record { at = λ i h. rw (zero-add, length-take-le g.count g.accounts (omega (arith, s.count, s.places))) at (search-within (is_account n k) 0 (accounts_of g) i (sym e ∙ h)) }
 
-module _ (g : Gate) (s : Sound g) (f : Found) (h : Holding) (eh : h ≡ holding_of g f) (w : Within f g.count) where
+module _ (g : Gate) (s : Sound g) (f : Option ℕ) (h : Holding) (eh : h ≡ holding_of g f) (w : Within f g.count) where
   pub held-within : Within h.at 256
   held-within = rw eh (within-most f g.count w s.count)
 
   pub held-near : mag h.balance ≤ 10000000000000000
   held-near = rw eh (go f w)
     where
-      go : (f : Found) → Within f g.count → mag (balance_of g f) ≤ 10000000000000000
-      go Nothing w = omega arith
-      go (At a) w = omega (arith, s.balances a (w.at a refl))
+      go : (f : Option ℕ) → Within f g.count → mag (balance_of g f) ≤ 10000000000000000
+      go None w = omega arith
+      go (Some a) w = omega (arith, s.balances a (w.at a refl))
 
   pub held-balance : h.balance ≡ balance_of g h.at
   held-balance = ap (λ (x : Holding). x.balance) eh ∙ ap (λ (x : Holding). balance_of g x.at) (sym eh)

@@ -1,13 +1,11 @@
 -- Document 01, "Gate" and the rows 59, 56, 57, 58: opening an account, and drawing from one.
-use Rattle.std.specs.Prelude.{ℕ, cond, not, ◌&&◌, leb, pos}
+use Rattle.std.specs.Prelude.{ℕ, cond, not, ◌&&◌, leb, pos, Option, Some, None}
 use Rattle.std.specs.Int.Signed.{lt_z}
 use Rattle.fields.specs.declared.number.Number.{Number}
 use Rattle.fields.specs.Amount.{is_amount}
 use Rattle.fields.specs.Codes.{is_kind}
 use Rattle.fields.specs.Number.{is_number}
 use Rattle.table.specs.declared.Gate.{Gate}
-use Rattle.lists.specs.declared.Found.{Found}
-use Rattle.lists.specs.declared.Found.TheVariants.{At, Nothing}
 use Rattle.lists.specs.Lists.{is_found}
 use Rattle.table.specs.Table.{Rows}
 use Rattle.table.specs.Accounts.{accounts_of, find_account, balance_at, debited, opened}
@@ -34,9 +32,9 @@ unfoldable pub open_account : Gate → Rows → Number → ℕ → Reply
 open_account g t n k = cond (table_good g t) (open_to g n k) (replies 68 g)
 
 -- an amount that the balance covers, else 58
-unfoldable pub draw_on : Gate → Found → ℕ → Reply
-draw_on g Nothing n = replies 59 g
-draw_on g (At a) n = cond (is_amount n && not (lt_z (balance_at g a) (pos n))) (replies 0 (debited g a n)) (replies 58 g)
+unfoldable pub draw_on : Gate → Option ℕ → ℕ → Reply
+draw_on g None n = replies 59 g
+draw_on g (Some a) n = cond (is_amount n && not (lt_z (balance_at g a) (pos n))) (replies 0 (debited g a n)) (replies 58 g)
 
 -- malformed or unknown 59
 unfoldable pub draw_from : Gate → Number → ℕ → ℕ → Reply

@@ -13,7 +13,6 @@ ghost use Rattle.opening.specs.Opening.{lent_reply, replies, open_to, open_accou
 use fields::number::Number;
 use fields::{amount, codes};
 use ledger::{HeadReply, Reply};
-use lists::Found;
 use table::accounts::Holding;
 use table::{Gate, Head, accounts, columns};
 use validity::valid;
@@ -54,7 +53,7 @@ fn open_to(
     if !is_named(n, kind) {
         return keep(59, head);
     }
-    if let Found::At(_) = columns::find_account(names, keys, balances, head, n, kind) {
+    if let Some(_) = columns::find_account(names, keys, balances, head, n, kind) {
         return keep(56, head);
     }
     let at = head.count;
@@ -128,7 +127,7 @@ fn draw_on(balances: &mut [i64; 256], head: Head, h: Holding, kopecks: u64) -> H
         → lent_reply result (columns_of names keys balances.new) ≡ draw_on (gate_of head (columns_of names keys balances.old)) h.at kopecks }
 {
     let f = h.at;
-    let Found::At(a) = f else {
+    let Some(a) = f else {
         return keep(59, head);
     };
     if !amount::is_amount(kopecks) {

@@ -1,4 +1,5 @@
 -- Laws of what a line does, at each way out of its functions.
+use Rattle.std.specs.Prelude.{Option, Some, None}
 use Prim.Native.Nat.{ℕ}
 use mathlib.Core.Path.{◌≡◌, sym, ap, ◌∙◌}
 use mathlib.Core.Bool.{Bool, true, false, cond, not, ◌&&◌}
@@ -7,11 +8,7 @@ use lib.Dec.{eqb, leb}
 use lib.ListN.{replicate}
 use borrow.Author.Tests.{not-true, not-false}
 use Rattle.days.specs.declared.calendar.Day.{Day}
-use Rattle.days.specs.declared.calendar.DayRead.{DayRead}
-use Rattle.days.specs.declared.calendar.DayRead.TheVariants.{Good, NoDate}
 use Rattle.dates.specs.declared.date.DateRead.{DateRead}
-use Rattle.texts.specs.declared.digits.Digits.{Digits}
-use Rattle.texts.specs.declared.digits.Digits.TheVariants.{Value, Malformed}
 use Rattle.fields.specs.declared.number.Number.{Number}
 use Rattle.fields.specs.declared.number.NumberRead.{NumberRead}
 use Rattle.texts.specs.Digits.{digits_read}
@@ -38,7 +35,7 @@ module _ (l f : List ℕ) where
   pub subject-number : f ≡ field_at 1 l → (n : NumberRead) → n ≡ number_read f → n.number ≡ (number_read (field_at 1 l)).number
   subject-number ef n en = rw (en, ef)
 
-  pub subject-kind : f ≡ field_at 2 l → (d : Digits) → d ≡ kind_read f → (k : ℕ) → k ≡ kind_in d → k ≡ kind_in (kind_read (field_at 2 l))
+  pub subject-kind : f ≡ field_at 2 l → (d : Option ℕ) → d ≡ kind_read f → (k : ℕ) → k ≡ kind_in d → k ≡ kind_in (kind_read (field_at 2 l))
   subject-kind ef d ed k ek = ek ∙ rw (ed, ef)
 
 module _ (x : Console) (t : Rows) (l : List ℕ) (r : Turn) where
@@ -48,12 +45,12 @@ module _ (x : Console) (t : Rows) (l : List ℕ) (r : Turn) where
     unfolding start_turn
     start-other h e = e ∙ rw (← form, not-true b h)
 
-    module _ (h : not b ≡ false) (f : List ℕ) (ef : f ≡ field_at 1 l) (d : DayRead) (ed : d ≡ day_read f) where
-      pub start_none : d ≡ NoDate → r ≡ unread x t → r ≡ start_turn x t l
+    module _ (h : not b ≡ false) (f : List ℕ) (ef : f ≡ field_at 1 l) (d : Option Day) (ed : d ≡ day_read f) where
+      pub start_none : d ≡ None → r ≡ unread x t → r ≡ start_turn x t l
       unfolding start_turn
       start_none n e = e ∙ rw (← form, not-false b h, ← ef, ← ed, n)
 
-      pub start-good : (day : Day) → d ≡ Good day → (a : Reply) → r ≡ replied t a → a ≡ record { code = 0; gate = with_closed x.gate day; size = 0 } → r ≡ start_turn x t l
+      pub start-good : (day : Day) → d ≡ Some day → (a : Reply) → r ≡ replied t a → a ≡ record { code = 0; gate = with_closed x.gate day; size = 0 } → r ≡ start_turn x t l
       unfolding start_turn
       start-good day n a e ea = e ∙ rw (ea, ← form, not-false b h, ← ef, ← ed, n)
 
@@ -63,12 +60,12 @@ module _ (x : Console) (t : Rows) (l : List ℕ) (r : Turn) where
     unfolding open_turn
     open_done ea = er ∙ rw (ea, en, ek)
 
-    pub draw-done : (f : List ℕ) → f ≡ field_at 3 l → (d : Digits) → d ≡ digits_read 15 f → (m : ℕ) → d ≡ Value m → a ≡ draw_funds x.gate t n k m → r ≡ draw_turn x t l
+    pub draw-done : (f : List ℕ) → f ≡ field_at 3 l → (d : Option ℕ) → d ≡ digits_read 15 f → (m : ℕ) → d ≡ Some m → a ≡ draw_funds x.gate t n k m → r ≡ draw_turn x t l
     unfolding draw_turn
     draw-done f ef d ed m h ea = er ∙ rw (ea, en, ek, ← ef, ← ed, h)
 
-  module _ (f : List ℕ) (ef : f ≡ field_at 3 l) (d : Digits) (ed : d ≡ digits_read 15 f) where
-    pub draw-none : d ≡ Malformed → r ≡ unread x t → r ≡ draw_turn x t l
+  module _ (f : List ℕ) (ef : f ≡ field_at 3 l) (d : Option ℕ) (ed : d ≡ digits_read 15 f) where
+    pub draw-none : d ≡ None → r ≡ unread x t → r ≡ draw_turn x t l
     unfolding draw_turn
     draw-none m e = e ∙ rw (← ef, ← ed, m)
 
@@ -79,12 +76,12 @@ module _ (x : Console) (t : Rows) (l : List ℕ) (r : Turn) where
   ask-done f ef d ed p ep a ea er = er ∙ rw (ea, ep, ed, ef)
 
   -- ---- P
-  module _ (f : List ℕ) (ef : f ≡ field_at 1 l) (d : DayRead) (ed : d ≡ day_read f) where
-    pub list-none : d ≡ NoDate → r ≡ unread x t → r ≡ list_turn x t l
+  module _ (f : List ℕ) (ef : f ≡ field_at 1 l) (d : Option Day) (ed : d ≡ day_read f) where
+    pub list-none : d ≡ None → r ≡ unread x t → r ≡ list_turn x t l
     unfolding list_turn
     list-none n e = e ∙ rw (← ef, ← ed, n)
 
-    module _ (day : Day) (n : d ≡ Good day) (b : Bool) (eb : b ≡ table_good x.gate t) where
+    module _ (day : Day) (n : d ≡ Some day) (b : Bool) (eb : b ≡ table_good x.gate t) where
       pub list-faulty : not b ≡ true → r ≡ record { code = 68; console = x; rows = t; shown = Figures } → r ≡ list_turn x t l
       unfolding list_turn
       list-faulty h e = e ∙ rw (← ef, ← ed, n, ← eb, not-true b h)

@@ -1,9 +1,6 @@
 -- Document 01, the session program: one line of input, and what it does.
-use Rattle.std.specs.Prelude.{ℕ, List, Bool, true, cond, ◌&&◌, eqb, leb, replicate}
-use Rattle.days.specs.declared.calendar.DayRead.{DayRead}
-use Rattle.days.specs.declared.calendar.DayRead.TheVariants.{Good, NoDate}
-use Rattle.texts.specs.declared.digits.Digits.{Digits}
-use Rattle.texts.specs.declared.digits.Digits.TheVariants.{Value, Malformed}
+use Rattle.days.specs.declared.calendar.Day.{Day}
+use Rattle.std.specs.Prelude.{ℕ, List, Bool, true, cond, ◌&&◌, eqb, leb, replicate, Option, Some, None}
 use Rattle.texts.specs.Digits.{digits_read}
 use Rattle.fields.specs.Codes.{kind_read}
 use Rattle.fields.specs.Number.{number_read}
@@ -52,29 +49,29 @@ abbrev pub replied : Rows → Reply → Turn
 replied t r = record { code = r.code; console = record { started = true; gate = r.gate }; rows = t; shown = Figures }
 
 -- C day: a day that is a date starts the session, and a day that is none is 99
-abbrev pub start_at : Console → DayRead → Console
-start_at x NoDate = x
-start_at x (Good d) = record { started = true; gate = with_closed x.gate d }
+abbrev pub start_at : Console → Option Day → Console
+start_at x None = x
+start_at x (Some d) = record { started = true; gate = with_closed x.gate d }
 
-abbrev pub start_on : Console → Rows → DayRead → Turn
+abbrev pub start_on : Console → Rows → Option Day → Turn
 start_on x t d = record { code = day_fault 99 d; console = start_at x d; rows = t; shown = Figures }
 
 unfoldable pub start_turn : Console → Rows → List ℕ → Turn
 start_turn x t l = cond (has_letter 67 l && eqb (field_count l) 2) (start_on x t (day_read (field_at 1 l))) (unread x t)
 
 -- a type that is malformed, as a type that is none
-abbrev pub kind_in : Digits → ℕ
-kind_in Malformed = 1000
-kind_in (Value k) = k
+abbrev pub kind_in : Option ℕ → ℕ
+kind_in None = 1000
+kind_in (Some k) = k
 
 -- O number type
 unfoldable pub open_turn : Console → Rows → List ℕ → Turn
 open_turn x t l = replied t (open_account x.gate t (number_read (field_at 1 l)).number (kind_in (kind_read (field_at 2 l))))
 
 -- D number type kopecks: kopecks are 1 to 15 digits
-abbrev pub draw_of : Console → Rows → List ℕ → Digits → Turn
-draw_of x t l Malformed = unread x t
-draw_of x t l (Value n) = replied t (draw_funds x.gate t (number_read (field_at 1 l)).number (kind_in (kind_read (field_at 2 l))) n)
+abbrev pub draw_of : Console → Rows → List ℕ → Option ℕ → Turn
+draw_of x t l None = unread x t
+draw_of x t l (Some n) = replied t (draw_funds x.gate t (number_read (field_at 1 l)).number (kind_in (kind_read (field_at 2 l))) n)
 
 unfoldable pub draw_turn : Console → Rows → List ℕ → Turn
 draw_turn x t l = draw_of x t l (digits_read 15 (field_at 3 l))
@@ -87,9 +84,9 @@ unfoldable pub ask_turn : Console → Rows → List ℕ → Turn
 ask_turn x t l = answered (deliver x.gate t (date_read (field_at 1 l)).date (params_in l) (replicate 512 0))
 
 -- P day: a day that is a date is printed; as with every call, not from a table that is out of its ranges
-abbrev pub list_of : Console → Rows → DayRead → Turn
-list_of x t NoDate = unread x t
-list_of x t (Good d) =
+abbrev pub list_of : Console → Rows → Option Day → Turn
+list_of x t None = unread x t
+list_of x t (Some d) =
     cond (table_good x.gate t) (record { code = 0; console = x; rows = t; shown = Payments d }) (record { code = 68; console = x; rows = t; shown = Figures })
 
 unfoldable pub list_turn : Console → Rows → List ℕ → Turn

@@ -12,13 +12,12 @@ ghost use Rattle.orders.specs.Order.{console_of, turn_of, unread, replied, kind_
 use crate::ConsoleHead;
 use dates::date;
 use days::calendar;
-use days::calendar::{Day, DayRead};
+use days::calendar::Day;
 use fields::number::Number;
 use fields::{codes, number};
 use gate::deliver;
 use ledger::HeadReply;
 use texts::digits;
-use texts::digits::Digits;
 use validity::valid;
 
 // What a line prints: its figures, or the payments of a day.
@@ -70,12 +69,12 @@ fn answered(r: HeadReply) -> Turn
 }
 
 // A malformed type counts as one that there is not.
-fn kind_in(d: Digits) -> u64
+fn kind_in(d: Option<u64>) -> u64
     ensures { result ≡ kind_in d }
 {
     match d {
-        Digits::Value(k) => k,
-        Digits::Malformed => 1000,
+        Some(k) => k,
+        None => 1000,
     }
 }
 
@@ -96,7 +95,7 @@ fn start_turn(x: ConsoleHead, line: &[u8]) -> Turn
     if !line_fields::has_form(line, b'C', 2) {
         return not_read(x);
     }
-    let DayRead::Good(d) = calendar::read_day(line_fields::field_at(line, 1)) else {
+    let Some(d) = calendar::read_day(line_fields::field_at(line, 1)) else {
         return not_read(x);
     };
     let mut head = x.head;
@@ -142,7 +141,7 @@ fn draw_turn(
     ensures { turn_of result (columns_of names.now keys.now balances.new) (lent nums.now numbers.now dates.now)
         ≡ draw_turn (console_of x (columns_of names.now keys.now balances.old)) (lent nums.now numbers.now dates.now) line.now }
 {
-    let Digits::Value(kopecks) = digits::read_digits(line_fields::field_at(line, 3), 15) else {
+    let Some(kopecks) = digits::read_digits(line_fields::field_at(line, 3), 15) else {
         return not_read(x);
     };
     let s = subject_of(line);
@@ -188,7 +187,7 @@ fn list_turn(
     ensures { turn_of result (columns_of names.now keys.now balances.now) (lent nums.now numbers.now dates.now)
         ≡ list_turn (console_of x (columns_of names.now keys.now balances.now)) (lent nums.now numbers.now dates.now) line.now }
 {
-    let DayRead::Good(d) = calendar::read_day(line_fields::field_at(line, 1)) else {
+    let Some(d) = calendar::read_day(line_fields::field_at(line, 1)) else {
         return not_read(x);
     };
     if !valid::table_good(nums, numbers, dates, names, keys, balances, x.head) {

@@ -1,9 +1,7 @@
 -- Document 01, "Requests": the names that a request may use, the actions, and the fields that each action has (the table of source 001, 3.1).
-use Rattle.std.specs.Prelude.{ℕ, List, [], ◌∷◌, Bool, true, false, cond}
+use Rattle.std.specs.Prelude.{ℕ, List, [], ◌∷◌, Bool, true, false, cond, Option, Some, None}
 use Rattle.payments.specs.declared.Action.{Action}
 use Rattle.payments.specs.declared.Action.TheVariants.{Check, Payment, Status, Cancel}
-use Rattle.parameters.specs.declared.action.ActionRead.{ActionRead}
-use Rattle.parameters.specs.declared.action.ActionRead.TheVariants.{Known, Unknown}
 use Rattle.texts.specs.Lists.{eq_list}
 
 -- `action`, `number`, `type`, `amount`, `receipt`, `date`, `mes`
@@ -68,11 +66,11 @@ action_word Payment = 112 ∷ 97 ∷ 121 ∷ 109 ∷ 101 ∷ 110 ∷ 116 ∷ []
 action_word Status = 115 ∷ 116 ∷ 97 ∷ 116 ∷ 117 ∷ 115 ∷ []
 action_word Cancel = 99 ∷ 97 ∷ 110 ∷ 99 ∷ 101 ∷ 108 ∷ []
 
-unfoldable pub action_of : List ℕ → ActionRead
+unfoldable pub action_of : List ℕ → Option Action
 action_of w =
-    cond (eq_list w (action_word Check)) (Known Check)
-    (cond (eq_list w (action_word Payment)) (Known Payment)
-    (cond (eq_list w (action_word Status)) (Known Status) (cond (eq_list w (action_word Cancel)) (Known Cancel) Unknown)))
+    cond (eq_list w (action_word Check)) (Some Check)
+    (cond (eq_list w (action_word Payment)) (Some Payment)
+    (cond (eq_list w (action_word Status)) (Some Status) (cond (eq_list w (action_word Cancel)) (Some Cancel) None)))
 
 -- number, type and amount
 abbrev pub has_account : Action → Bool

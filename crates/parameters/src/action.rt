@@ -23,12 +23,6 @@ pub const REASON: usize = 6;
 
 pub const NO_NAME: usize = 7;
 
-#[derive(Clone, Copy)]
-pub enum ActionRead {
-    Known(Action),
-    Unknown,
-}
-
 fn later_index(name: &[u8]) -> usize
     ensures { result ≡ later_index name.now }
 {
@@ -64,22 +58,22 @@ pub(crate) fn name_index(name: &[u8]) -> usize
 }
 
 // The action that a word names.
-pub fn read_action(word: &[u8]) -> ActionRead
+pub fn read_action(word: &[u8]) -> Option<Action>
     ensures { result ≡ action_of word.now }
 {
     if scan::same_bytes(word, b"check") {
-        return ActionRead::Known(Action::Check);
+        return Some(Action::Check);
     }
     if scan::same_bytes(word, b"payment") {
-        return ActionRead::Known(Action::Payment);
+        return Some(Action::Payment);
     }
     if scan::same_bytes(word, b"status") {
-        return ActionRead::Known(Action::Status);
+        return Some(Action::Status);
     }
     if scan::same_bytes(word, b"cancel") {
-        return ActionRead::Known(Action::Cancel);
+        return Some(Action::Cancel);
     }
-    ActionRead::Unknown
+    None
 }
 
 // Whether an action has number, type and amount.

@@ -1,4 +1,5 @@
 -- Laws of what the gate looks up for a request.
+use Rattle.std.specs.Prelude.{Option, Some, None}
 use Prim.Native.Nat.{ℕ, ◌≤◌, ◌<◌}
 use native.Mathlib.Nat.{zero-add}
 use native.Mathlib.Omega.{arith}
@@ -19,8 +20,6 @@ use Rattle.payments.specs.declared.Details.{Details}
 use Rattle.payments.specs.declared.Instruction.{Instruction}
 use Rattle.table.specs.declared.Record.{Record}
 use Rattle.table.specs.declared.Gate.{Gate}
-use Rattle.lists.specs.declared.Found.{Found}
-use Rattle.lists.specs.declared.Found.TheVariants.{At, Nothing}
 use Rattle.lists.specs.Lists.{is_found, all_from}
 use Rattle.table.specs.Table.{Rows, record_at, records_of, has_receipt, find_record}
 use Rattle.table.specs.declared.accounts.Holding.{Holding}
@@ -44,14 +43,14 @@ use Rattle.table.specs.Table.{no_record}
 use Rattle.rules.specs.Answering.{is_cancel}
 
 -- ---- a place that was found
-pub place-below : (used n i : ℕ) (f : Found) → f ≡ At i → Within f used → used ≤ n → i < n
+pub place-below : (used n i : ℕ) (f : Option ℕ) → f ≡ Some i → Within f used → used ≤ n → i < n
 place-below used n i f e w h = let l : i < used = w.at i e in omega arith
 
 -- ---- the record's standing
 pub told_at : (a a' : Action) (d : Details) (r : Record) (t : Bool) → a ≡ a' → t ≡ agrees a' d r → t ≡ agrees a d r
 told_at a a' d r t is e = e ∙ rw is
 
-module _ (q : Instruction) (f : Found) (r : Record) (i : ℕ) (is : f ≡ At i) (t : Bool) (et : t ≡ agrees q.action q.details r) where
+module _ (q : Instruction) (f : Option ℕ) (r : Record) (i : ℕ) (is : f ≡ Some i) (t : Bool) (et : t ≡ agrees q.action q.details r) where
   pub stands-other : not t ≡ true → (s : Standing) → s ≡ Other → s ≡ standing_of q f r
   stands-other h s e = e ∙ rw (is, ← et, not-true t h)
 
@@ -85,16 +84,16 @@ module _ (h : Holding) (n : ℕ) (k : Bool) (ek : k ≡ is_found h.at) (g : Gate
   pub short-unknown : k ≡ false → false ≡ is_short g h.at n
   short-unknown e = go h.at (sym ek ∙ e)
     where
-      go : (f : Found) → is_found f ≡ false → false ≡ is_short g f n
-      go Nothing z = refl
-      go (At a) z = let o : ◌≡◌ {A = ℕ} 0 1 = cc in absurd (omega arith)
+      go : (f : Option ℕ) → is_found f ≡ false → false ≡ is_short g f n
+      go None z = refl
+      go (Some a) z = let o : ◌≡◌ {A = ℕ} 0 1 = cc in absurd (omega arith)
 
   pub short-known : k ≡ true → (t : Bool) → t ≡ lt_z h.balance (pos n) → t ≡ is_short g h.at n
   short-known e t q = q ∙ ap (λ (z : ℤ). lt_z z (pos n)) eb ∙ go h.at (sym ek ∙ e)
     where
-      go : (f : Found) → is_found f ≡ true → lt_z (balance_of g f) (pos n) ≡ is_short g f n
-      go (At a) z = refl
-      go Nothing z = let o : ◌≡◌ {A = ℕ} 0 1 = cc in absurd (omega arith)
+      go : (f : Option ℕ) → is_found f ≡ true → lt_z (balance_of g f) (pos n) ≡ is_short g f n
+      go (Some a) z = refl
+      go None z = let o : ◌≡◌ {A = ℕ} 0 1 = cc in absurd (omega arith)
 
 pub view-is : (lent : ℕ) (q : Instruction) (r : Record) (h : Holding) (closed : Day) (used : ℕ) (k c s : Bool) (d : List ℕ)
     → k ≡ is_found h.at → d ≡ date_of q r → c ≡ up_to closed (date_day d) → (g : Gate) → g.closed ≡ closed → g.used ≡ used → s ≡ is_short g h.at r.amount
@@ -103,11 +102,11 @@ unfolding view_of is_full date_closed
 view-is lent q r h closed used k c s d ek ed ec g gc gu es = rw (ek, ec, ed, es, ← gc, ← gu)
 
 -- ---- the record that was found
-module _ (t : Rows) (used : ℕ) (f : Found) where
-  pub record-at : (i : ℕ) → f ≡ At i → Within f used → (r : Record) → r ≡ record_at t i → r ≡ record_found (records_of t used) f
+module _ (t : Rows) (used : ℕ) (f : Option ℕ) where
+  pub record-at : (i : ℕ) → f ≡ Some i → Within f used → (r : Record) → r ≡ record_at t i → r ≡ record_found (records_of t used) f
   record-at i e w r q = q ∙ rw e (sym (get_d-records t used i no_record (w.at i e)))
 
-  pub record-none : f ≡ Nothing → (r : Record) → r ≡ no_record → r ≡ record_found (records_of t used) f
+  pub record-none : f ≡ None → (r : Record) → r ≡ no_record → r ≡ record_found (records_of t used) f
   record-none e r q = q ∙ rw e
 
 -- ---- what the check of row 68 gives for a plan
@@ -126,7 +125,7 @@ module _ (g : Gate) (t : Rows) (good : table_good g t ≡ true) where
       let b : ranges_good r ≡ true = and_left (ranges_good r) _ (and_right (authcode_good i r) _ a) in
       and_left (is_amount r.amount) _ (and_right (is_receipt r.receipt) _ b)
 
-  module _ (x : ℕ) (f : Found) (is : f ≡ find_record x (records_of t g.used)) where
+  module _ (x : ℕ) (f : Option ℕ) (is : f ≡ find_record x (records_of t g.used)) where
     pub found_within : Within f g.used
     unfolding find_record
     found_within = record { at = λ i e. rw (zero-add, length-records t g.used) at (search-within (has_receipt x) 0 (records_of t g.used) i (sym is ∙ e)) }
@@ -134,12 +133,12 @@ module _ (g : Gate) (t : Rows) (good : table_good g t ≡ true) where
     pub found-amount : (r : Record) → r ≡ record_found (records_of t g.used) f → r.amount < 1000000000
     found-amount r e = rw e (go f refl)
       where
-        go : (h : Found) → f ≡ h → (record_found (records_of t g.used) h).amount < 1000000000
-        go (At i) q = let b = within-high 1 999999999 (get_or (records_of t g.used) i no_record).amount (record-amount i (found_within.at i q)) in omega arith
-        go Nothing q = omega arith
+        go : (h : Option ℕ) → f ≡ h → (record_found (records_of t g.used) h).amount < 1000000000
+        go (Some i) q = let b = within-high 1 999999999 (get_or (records_of t g.used) i no_record).amount (record-amount i (found_within.at i q)) in omega arith
+        go None q = omega arith
 
 -- an account that was looked for is in use
-pub account-within : (g : Gate) (q : Instruction) (r : Record) (f : Found) → Sound g → f ≡ account_of g q r → Within f g.count
+pub account-within : (g : Gate) (q : Instruction) (r : Record) (f : Option ℕ) → Sound g → f ≡ account_of g q r → Within f g.count
 unfolding account_of find_account
 account-within g q r f s is = go (is_cancel q.action) refl
   where
@@ -152,10 +151,10 @@ account-within g q r f s is = go (is_cancel q.action) refl
     go false z = inside q.details.number q.details.kind (is ∙ rw z)
 
 -- the balance that was looked up is that of the place
-pub held-balance : (g : Gate) (f : Found) (h : Holding) → h ≡ holding_of g f → h.balance ≡ balance_of g h.at
+pub held-balance : (g : Gate) (f : Option ℕ) (h : Holding) → h ≡ holding_of g f → h.balance ≡ balance_of g h.at
 held-balance g f h e = ap (λ (x : Holding). x.balance) e ∙ ap (λ (x : Holding). balance_of g x.at) (sym e)
 
-pub plan-is : (g : Gate) (lent fault : ℕ) (q : Instruction) (f : Found) (r : Record) (h : Holding) (v : View) (s : Standing) (d : Decided)
+pub plan-is : (g : Gate) (lent fault : ℕ) (q : Instruction) (f : Option ℕ) (r : Record) (h : Holding) (v : View) (s : Standing) (d : Decided)
     → h ≡ holding_of g (account_of g q r) → v ≡ view_of g lent q r h.at → s ≡ standing_of q f r
     → d ≡ decision fault q.action s v → ◌≡◌ {A = Plan} (record { decided = d; found = f; payment = r; account = h.at }) (plan_with g lent fault q f r)
 unfolding plan_with

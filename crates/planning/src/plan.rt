@@ -10,7 +10,6 @@ ghost use Rattle.table.specs.Columns.{gate_of, columns_of};
 use dates::date;
 use days::calendar::Day;
 use fields::number::Number;
-use lists::Found;
 use payments::{Action, Details, Instruction};
 use rules::decision::{Decided, Standing, View};
 use rules::{answer, decision};
@@ -21,9 +20,9 @@ use table::{Gate, Head, Record, accounts, columns, payment, rows};
 #[derive(Clone, Copy)]
 pub struct Plan {
     pub decided: Decided,
-    pub found: Found,
+    pub found: Option<usize>,
     pub payment: Record,
-    pub account: Found,
+    pub account: Option<usize>,
 }
 
 // What stands for a record where there is none.
@@ -63,10 +62,10 @@ fn agrees(a: Action, d: Details, r: Record) -> bool
 }
 
 // How the receipt of an instruction stands, by the record that was found.
-pub fn standing(q: Instruction, found: Found, r: Record) -> Standing
+pub fn standing(q: Instruction, found: Option<usize>, r: Record) -> Standing
     ensures { result ≡ standing_of q found r }
 {
-    let Found::At(_) = found else {
+    let Some(_) = found else {
         return Standing::Unrecorded;
     };
     let a = q.action;
@@ -147,14 +146,14 @@ pub fn found_record(
     numbers: &[[u8; 30]],
     dates: &[[[u8; 19]; 3]],
     used: usize,
-    f: Found,
+    f: Option<usize>,
 ) -> Record
     requires { (used ≤ length nums.now) × (used ≤ length numbers.now) × (used ≤ length dates.now) × Within f used }
     ensures { result ≡ record_found (records_of (lent nums.now numbers.now dates.now) used) f }
 {
     match f {
-        Found::At(i) => rows::load(nums, numbers, dates, i),
-        Found::Nothing => no_record(),
+        Some(i) => rows::load(nums, numbers, dates, i),
+        None => no_record(),
     }
 }
 
@@ -165,7 +164,7 @@ pub fn make_plan(
     lent: usize,
     fault: u64,
     q: Instruction,
-    found: Found,
+    found: Option<usize>,
     payment: Record,
     h: Holding,
 ) -> Plan

@@ -1,4 +1,5 @@
 -- Laws of an amount that is moved on the gate's own copy.
+use Rattle.std.specs.Prelude.{Option, Some, None}
 use Prim.Native.Nat.{ℕ, ◌^◌, ◌≤◌, ◌<◌}
 use native.Mathlib.Omega.{arith}
 use mathlib.Core.Path.{◌≡◌, sym, ap, ◌∙◌}
@@ -8,8 +9,6 @@ use lib.Signed.{mag}
 use lib.ListN.{length}
 use mir.Syntax.{w64}
 use mir.Val.{to_z, of_z}
-use Rattle.lists.specs.declared.Found.{Found}
-use Rattle.lists.specs.declared.Found.TheVariants.{At, Nothing}
 use Rattle.table.specs.declared.Gate.{Gate}
 use Rattle.table.specs.Accounts.{balance_at, gate_balance, with_used, Funds}
 use Rattle.table.proofs.SignedLaws.{back}
@@ -21,7 +20,7 @@ use Rattle.posting.specs.declared.applying.Due.{Due}
 use Rattle.posting.specs.Steps.{paid}
 
 -- ---- the account that was found has a balance within its bound
-module _ (names keys : List (List ℕ)) (g : Gate) (listed : Listed names keys g) (f : Found) (within : Within f (length names)) (at : ℕ) (e : f ≡ At at) where
+module _ (names keys : List (List ℕ)) (g : Gate) (listed : Listed names keys g) (f : Option ℕ) (within : Within f (length names)) (at : ℕ) (e : f ≡ Some at) where
   due_in : at < g.count
   due_in = omega (arith, within.at at e, listed.named)
 
@@ -38,11 +37,11 @@ module _ (names keys : List (List ℕ)) (g : Gate) (listed : Listed names keys g
 
 -- ---- what is due, credited
 module _ (g : Gate) (d : Due) (n : ℕ) where
-  pub paid-none : d.account ≡ Nothing → with_used g d.used ≡ paid g d n
+  pub paid-none : d.account ≡ None → with_used g d.used ≡ paid g d n
   paid-none e = rw e
 
-  pub paid-at : (at : ℕ) → d.account ≡ At at → mag (balance_at g at) ≤ 10000000000000000 → (z : ℤ) → mag z < 2 ^ 63
+  pub paid-at : (at : ℕ) → d.account ≡ Some at → mag (balance_at g at) ≤ 10000000000000000 → (z : ℤ) → mag z < 2 ^ 63
       → z ≡ to_z w64 (of_z w64 (balance_at g at)) +ℤ pos n → gate_balance (with_used g d.used) at z ≡ paid g d n
   paid-at at e near z fits ez =
       ap (λ (y : Gate). with_used y d.used) (credit-is g at n z near fits (gate_balance g at z) (ap (gate_balance g at) (sym (back z fits))) ez)
-      ∙ ap (λ (f : Found). with_used (credited_at g f n) d.used) (sym e)
+      ∙ ap (λ (f : Option ℕ). with_used (credited_at g f n) d.used) (sym e)

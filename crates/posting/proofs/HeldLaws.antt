@@ -1,4 +1,5 @@
 -- What one line leaves: whole rows, and balances within a bound that is higher by an amount.
+use Rattle.std.specs.Prelude.{Option, Some, None}
 use Prim.Native.Nat.{ℕ, ◌+◌, ◌≤◌, ◌<◌}
 use native.Mathlib.Decide.{dec_lt, ℕ_discrete}
 use native.Mathlib.Omega.{arith}
@@ -15,8 +16,6 @@ use Rattle.lines.specs.declared.line.Line.{Line}
 use Rattle.table.specs.declared.Account.{Account}
 use Rattle.table.specs.declared.Gate.{Gate}
 use Rattle.table.specs.declared.Record.{Record}
-use Rattle.lists.specs.declared.Found.{Found}
-use Rattle.lists.specs.declared.Found.TheVariants.{At, Nothing}
 use Rattle.lists.specs.Lists.{first_from}
 use Rattle.table.specs.Table.{Rows, record_at, records_of, find_record}
 use Rattle.table.specs.Accounts.{accounts_of, find_account, no_account, with_balance, balance_at, gate_balance, credited}
@@ -60,48 +59,48 @@ module _ (g : Gate) (b n : ℕ) (f : Funds g b) (few : n < 1000000000) where
   unfolding credited
   funds-credited a h = funds-moved g b (b + 1000000000) f (omega arith) a (balance_at g a +ℤ pos n) (omega (arith, mag_up (balance_at g a) n, f.balances a h))
 
-  funds-credited-at : (k : Found) → ((a : ℕ) → k ≡ At a → a < g.count) → Funds (credited_at g k n) (b + 1000000000)
-  funds-credited-at Nothing w = funds-more g b (b + 1000000000) f (omega arith)
-  funds-credited-at (At a) w = funds-credited a (w a refl)
+  funds-credited-at : (k : Option ℕ) → ((a : ℕ) → k ≡ Some a → a < g.count) → Funds (credited_at g k n) (b + 1000000000)
+  funds-credited-at None w = funds-more g b (b + 1000000000) f (omega arith)
+  funds-credited-at (Some a) w = funds-credited a (w a refl)
 
 -- ---- what a verdict of posting says
 other : {A : Type 0} {v : Verdict} {a : ℕ} → v ≡ Posts a → v ≡ Unposted → A
 other e u = let z : ◌≡◌ {A = ℕ} 0 1 = cc in absurd (omega arith)
 
-pub post-room : (f k : Found) (full : Bool) (a : ℕ) → post_verdict f k full ≡ Posts a → (full ≡ false) × (k ≡ At a)
-post-room (At i) k full a e = other e refl
-post-room Nothing Nothing full a e = other e refl
-post-room Nothing (At c) true a e = other e refl
-post-room Nothing (At c) false a e = let q : c ≡ a = cc in (refl, ap At q)
+pub post-room : (f k : Option ℕ) (full : Bool) (a : ℕ) → post_verdict f k full ≡ Posts a → (full ≡ false) × (k ≡ Some a)
+post-room (Some i) k full a e = other e refl
+post-room None None full a e = other e refl
+post-room None (Some c) true a e = other e refl
+post-room None (Some c) false a e = let q : c ≡ a = cc in (refl, ap Some q)
 
-pub post-new : (f k : Found) (full : Bool) (a : ℕ) → post_verdict f k full ≡ Posts a → f ≡ Nothing
-post-new (At i) k full a e = other e refl
-post-new Nothing k full a e = refl
+pub post-new : (f k : Option ℕ) (full : Bool) (a : ℕ) → post_verdict f k full ≡ Posts a → f ≡ None
+post-new (Some i) k full a e = other e refl
+post-new None k full a e = refl
 
-pub verdict-post : (rs : List Record) (f : Found) (v : Verdict) (a : ℕ) → match_verdict rs f v ≡ Posts a → v ≡ Posts a
-verdict-post rs Nothing v a e = e
-verdict-post rs (At i) v a e = go (is_done (get_or rs i no_record)) e
+pub verdict-post : (rs : List Record) (f : Option ℕ) (v : Verdict) (a : ℕ) → match_verdict rs f v ≡ Posts a → v ≡ Posts a
+verdict-post rs None v a e = e
+verdict-post rs (Some i) v a e = go (is_done (get_or rs i no_record)) e
   where
     go : (d : Bool) → cond d Keeps (Restores i) ≡ Posts a → v ≡ Posts a
     go true q = let z : ◌≡◌ {A = ℕ} 0 1 = cc in absurd (omega arith)
     go false q = let z : ◌≡◌ {A = ℕ} 0 1 = cc in absurd (omega arith)
 
 -- and of restoring: the line matches the record there
-pub verdict-restore : (rs : List Record) (f q k : Found) (full : Bool) (i : ℕ) → match_verdict rs f (post_verdict q k full) ≡ Restores i → f ≡ At i
-verdict-restore rs Nothing (At j) k full i e = let z : ◌≡◌ {A = ℕ} 0 1 = cc in absurd (omega arith)
-verdict-restore rs Nothing Nothing Nothing full i e = let z : ◌≡◌ {A = ℕ} 0 1 = cc in absurd (omega arith)
-verdict-restore rs Nothing Nothing (At a) true i e = let z : ◌≡◌ {A = ℕ} 0 1 = cc in absurd (omega arith)
-verdict-restore rs Nothing Nothing (At a) false i e = let z : ◌≡◌ {A = ℕ} 0 1 = cc in absurd (omega arith)
-verdict-restore rs (At j) q k full i e = go (is_done (get_or rs j no_record)) e
+pub verdict-restore : (rs : List Record) (f q k : Option ℕ) (full : Bool) (i : ℕ) → match_verdict rs f (post_verdict q k full) ≡ Restores i → f ≡ Some i
+verdict-restore rs None (Some j) k full i e = let z : ◌≡◌ {A = ℕ} 0 1 = cc in absurd (omega arith)
+verdict-restore rs None None None full i e = let z : ◌≡◌ {A = ℕ} 0 1 = cc in absurd (omega arith)
+verdict-restore rs None None (Some a) true i e = let z : ◌≡◌ {A = ℕ} 0 1 = cc in absurd (omega arith)
+verdict-restore rs None None (Some a) false i e = let z : ◌≡◌ {A = ℕ} 0 1 = cc in absurd (omega arith)
+verdict-restore rs (Some j) q k full i e = go (is_done (get_or rs j no_record)) e
   where
-    go : (d : Bool) → cond d Keeps (Restores j) ≡ Restores i → At j ≡ At i
+    go : (d : Bool) → cond d Keeps (Restores j) ≡ Restores i → Some j ≡ Some i
     go true r = let z : ◌≡◌ {A = ℕ} 0 1 = cc in absurd (omega arith)
-    go false r = let y : j ≡ i = cc in ap At y
+    go false r = let y : j ≡ i = cc in ap Some y
 
-pub credit-used : (g : Gate) (k : Found) (n : ℕ) → (credited_at g k n).used ≡ g.used
+pub credit-used : (g : Gate) (k : Option ℕ) (n : ℕ) → (credited_at g k n).used ≡ g.used
 unfolding credited
-credit-used g Nothing n = refl
-credit-used g (At a) n = refl
+credit-used g None n = refl
+credit-used g (Some a) n = refl
 
 -- ---- amounts in their range
 abbrev pub Small : List Record → Type 0
@@ -153,7 +152,7 @@ module _ (g : Gate) (t : Rows) (b : ℕ) (held : Held g t b) (clock : List ℕ) 
       let rs : List Record = records_of t g.used in
       let size : length rs ≡ g.used = length-records t g.used in
       let as_long : length (set rs i (restored (get_or rs i no_record))) ≡ length rs = length-set rs i (restored (get_or rs i no_record)) in
-      let k : Found = find_account x.number x.kind (accounts_of g) in
+      let k : Option ℕ = find_account x.number x.kind (accounts_of g) in
       let used : (credited_at g k x.amount).used ≡ g.used = credit-used g k x.amount in
       let room = held.backed.whole.nums in
       record {
@@ -167,7 +166,7 @@ module _ (g : Gate) (t : Rows) (b : ℕ) (held : Held g t b) (clock : List ℕ) 
       let rs : List Record = records_of t g.used in
       let size : length rs ≡ g.used = length-records t g.used in
       let longer : length (rs ++ (posted_record g clock x ∷ [])) ≡ length rs + 1 = length-append rs (posted_record g clock x ∷ []) in
-      let k : Found = find_account x.number x.kind (accounts_of g) in
+      let k : Option ℕ = find_account x.number x.kind (accounts_of g) in
       let p = post-room (find_record x.receipt rs) k (leb (length t.nums) g.used) a (verdict-post rs (first_from (matches x) 0 rs) _ a e) in
       let room : g.used < length t.nums = leb-false (length t.nums) g.used p.0 in
       let f = funds-credited g b x.amount held.backed.funds few a (holder-within g x.number x.kind a k refl p.1) in

@@ -1,4 +1,5 @@
 -- Laws of the walk along the chain of a line's receipt, and of what a line leaves of the chains.
+use Rattle.std.specs.Prelude.{Some, None}
 use Prim.Native.Nat.{ℕ, ◌+◌, ◌-◌, ◌<◌, ◌≤◌}
 use native.Mathlib.Decide.{ℕ_discrete}
 use native.Mathlib.Omega.{arith}
@@ -11,7 +12,6 @@ use lib.Seq.{get_or-set_same, get_or-set_other}
 use borrow.Author.Tests.{eq-eqb, ne_eqb, eqb-true}
 use Rattle.texts.proofs.Tests.{and_right}
 use Rattle.lines.specs.declared.line.Line.{Line}
-use Rattle.lists.specs.declared.Found.TheVariants.{At, Nothing}
 use Rattle.lists.specs.Lists.{first_from}
 use Rattle.index.specs.Index.{slot_of, Chained}
 use Rattle.index.proofs.ChainLaws.{slot-below, onward-slot, chained_same}
@@ -59,14 +59,14 @@ module _ (t : Rows) (n : ℕ) (w : Sought) (x : Line) where
       _ (c.head (slot_of x.receipt) (slot-below x.receipt)))
 
   module _ (at : ℕ) (k : Walk (fits w x) (records_of t n) (receipt_at t.nums) (slot_of x.receipt) n at) where
-    pub seek-none : at ≤ 0 → Nothing ≡ first_from (fits w x) 0 (records_of t n)
+    pub seek-none : at ≤ 0 → None ≡ first_from (fits w x) 0 (records_of t n)
     seek-none h = sym (walk_none k h)
 
     module _ (h : 0 < at) (r : Record) (er : r ≡ record_at t (at - 1)) (b : Bool) (eb : b ≡ fits w x r) where
       tested : fits w x (get_or (records_of t n) (at - 1) r) ≡ b
       tested = ap (fits w x) (get_d-records t n (at - 1) r (omega (arith, k.most)) ∙ sym er) ∙ sym eb
 
-      pub seek_hit : b ≡ true → At (at - 1) ≡ first_from (fits w x) 0 (records_of t n)
+      pub seek_hit : b ≡ true → Some (at - 1) ≡ first_from (fits w x) 0 (records_of t n)
       seek_hit y = sym (walk-hit k h r (tested ∙ y))
 
       pub seek-next : b ≡ false → (heads next : List ℕ) → Chained (receipt_at t.nums) 0 n heads next → (to : ℕ) → to ≡ get_or next (at - 1) 0

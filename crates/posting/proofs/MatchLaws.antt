@@ -1,4 +1,5 @@
 -- Laws of the record that a line matches.
+use Rattle.std.specs.Prelude.{Option, Some}
 use Prim.Native.Nat.{ℕ, ◌<◌}
 use native.Mathlib.Omega.{arith}
 use mathlib.Core.Path.{◌≡◌, sym, ◌∙◌}
@@ -7,8 +8,6 @@ use borrow.Author.Tests.{eq-eqb, ne_eqb, eqb-true}
 use Rattle.texts.proofs.Tests.{and_left, and_right}
 use Rattle.lines.specs.declared.line.Line.{Line}
 use Rattle.table.specs.declared.Record.{Record}
-use Rattle.lists.specs.declared.Found.{Found}
-use Rattle.lists.specs.declared.Found.TheVariants.{At}
 use Rattle.lists.specs.Lists.{first_from}
 use Rattle.table.specs.Table.{Rows, records_of, has_receipt, same_payment}
 use Rattle.lists.proofs.ListLaws.{search-within}
@@ -36,5 +35,5 @@ module _ (x : Line) (r : Record) where
   match-four h = payment-four _ _ _ _ r (and_right (has_receipt x.receipt r) _ h)
 
 -- ---- the first that matches
-pub match-within : (t : Rows) (n : ℕ) (x : Line) (i : ℕ) (f : Found) → f ≡ first_from (matches x) 0 (records_of t n) → f ≡ At i → i < n
+pub match-within : (t : Rows) (n : ℕ) (x : Line) (i : ℕ) (f : Option ℕ) → f ≡ first_from (matches x) 0 (records_of t n) → f ≡ Some i → i < n
 match-within t n x i f e h = omega (arith, search-within (matches x) 0 (records_of t n) i (sym e ∙ h), length-records t n)

@@ -1,4 +1,5 @@
 -- Laws of the verdict on one line, and of what it does to the table.
+use Rattle.std.specs.Prelude.{Option, Some, None}
 use Prim.Native.Nat.{ℕ, ◌+◌, ◌<◌}
 use native.Mathlib.Omega.{arith}
 use mathlib.Core.Path.{◌≡◌, refl, sym, ap, ◌∙◌}
@@ -11,8 +12,6 @@ use Rattle.fields.specs.declared.number.Number.{Number}
 use Rattle.lines.specs.declared.line.Line.{Line}
 use Rattle.table.specs.declared.Gate.{Gate}
 use Rattle.table.specs.declared.Record.{Record}
-use Rattle.lists.specs.declared.Found.{Found}
-use Rattle.lists.specs.declared.Found.TheVariants.{At, Nothing}
 use Rattle.lists.specs.Lists.{first_from}
 use Rattle.table.specs.Table.{Rows, record_at, records_of, rows_from, rows_with, find_record, no_record, Whole, SameLengths}
 use Rattle.table.specs.Accounts.{accounts_of, find_account, credited, with_used}
@@ -56,15 +55,15 @@ module _ (r : Record) (i : ℕ) where
   pub match-undone : (r.state ≡ 1 → ⊥) → Restores i ≡ cond (is_done r) Keeps (Restores i)
   match-undone d = rw (ne_eqb _ _ d)
 
-module _ (f k : Found) (ef : f ≡ Nothing) (a : ℕ) (ek : k ≡ At a) (full : Bool) where
+module _ (f k : Option ℕ) (ef : f ≡ None) (a : ℕ) (ek : k ≡ Some a) (full : Bool) where
   pub new-full : full ≡ true → Unposted ≡ post_verdict f k full
   new-full e = rw (ef, ek, e)
 
   pub new-room : full ≡ false → Posts a ≡ post_verdict f k full
   new-room e = rw (ef, ek, e)
 
-module _ (t : Rows) (n : ℕ) (x : Line) (f : Found) (ef : f ≡ first_from (matches x) 0 (records_of t n)) where
-  module _ (whole : Whole t n) (i : ℕ) (e : f ≡ At i) where
+module _ (t : Rows) (n : ℕ) (x : Line) (f : Option ℕ) (ef : f ≡ first_from (matches x) 0 (records_of t n)) where
+  module _ (whole : Whole t n) (i : ℕ) (e : f ≡ Some i) where
     pub match-nums : i < length t.nums
     match-nums = at-nums t n whole i (match-within t n x i f ef e)
 
@@ -75,15 +74,15 @@ module _ (t : Rows) (n : ℕ) (x : Line) (f : Found) (ef : f ≡ first_from (mat
     match-dates = at-dates t n whole i (match-within t n x i f ef e)
 
   module _ (lent : ℕ) (g : Gate) (eu : g.used ≡ n) where
-    pub judged-match : (i : ℕ) → f ≡ At i → (r : Record) → r ≡ record_at t i → (v : Verdict) → v ≡ cond (is_done r) Keeps (Restores i)
+    pub judged-match : (i : ℕ) → f ≡ Some i → (r : Record) → r ≡ record_at t i → (v : Verdict) → v ≡ cond (is_done r) Keeps (Restores i)
         → v ≡ verdict_of g (records_of t g.used) lent x
     unfolding verdict_of
     judged-match i e r er v ev =
         let there : get_or (records_of t n) i no_record ≡ r = get_d-records t n i no_record (match-within t n x i f ef e) ∙ sym er in
         ev ∙ rw (eu, ← ef, e, there)
 
-    pub judged-new : (names keys : List (List ℕ)) → Listed names keys g → f ≡ Nothing → (q : Found) → q ≡ first_from (fits SameReceipt x) 0 (records_of t n)
-        → (k : Found) → k ≡ find_account x.number x.kind (holders_of names keys) → (v : Verdict) → v ≡ post_verdict q k (leb lent n)
+    pub judged-new : (names keys : List (List ℕ)) → Listed names keys g → f ≡ None → (q : Option ℕ) → q ≡ first_from (fits SameReceipt x) 0 (records_of t n)
+        → (k : Option ℕ) → k ≡ find_account x.number x.kind (holders_of names keys) → (v : Verdict) → v ≡ post_verdict q k (leb lent n)
         → v ≡ verdict_of g (records_of t g.used) lent x
     unfolding verdict_of is_full find_record
     judged-new names keys listed e q eq k ek v ev = ev ∙ rw (eu, ← ef, e, ← eq, ← listed-find names keys g listed x.number x.kind, ← ek)
@@ -98,7 +97,7 @@ module _ (g : Gate) (t : Rows) (x : Line) (v : Verdict) (ev : v ≡ verdict_of g
       (verdict-restore rs (first_from (matches x) 0 rs) (find_record x.receipt rs) (find_account x.number x.kind (accounts_of g)) (is_full g (length t.nums)) i (sym ev ∙ e))
 
   module _ (a : ℕ) (e : v ≡ Posts a) where
-    posts : (is_full g (length t.nums) ≡ false) × (find_account x.number x.kind (accounts_of g) ≡ At a)
+    posts : (is_full g (length t.nums) ≡ false) × (find_account x.number x.kind (accounts_of g) ≡ Some a)
     unfolding verdict_of
     posts =
         let rs : List Record = records_of t g.used in
@@ -117,16 +116,16 @@ module _ (g : Gate) (t : Rows) (x : Line) (v : Verdict) (ev : v ≡ verdict_of g
 
 -- ---- its application
 -- the account that is due
-pub found_within : (names keys : List (List ℕ)) (n : Number) (kind : ℕ) (f : Found) → f ≡ find_account n kind (holders_of names keys) → Within f (length names)
+pub found_within : (names keys : List (List ℕ)) (n : Number) (kind : ℕ) (f : Option ℕ) → f ≡ find_account n kind (holders_of names keys) → Within f (length names)
 found_within names keys n kind f e = record { at = λ a h. holder_in names keys n kind a f e h }
 
-credit-same : (g : Gate) (k : Found) (n : ℕ) → with_used (credited_at g k n) g.used ≡ credited_at g k n
+credit-same : (g : Gate) (k : Option ℕ) (n : ℕ) → with_used (credited_at g k n) g.used ≡ credited_at g k n
 unfolding credited
-credit-same g Nothing n = refl
-credit-same g (At a) n = refl
+credit-same g None n = refl
+credit-same g (Some a) n = refl
 
 module _ (names keys : List (List ℕ)) (used : ℕ) (t : Rows) (whole : Whole t used) (clock : List ℕ) (x : Line) (v : Verdict) (t' : Rows) (d : Due) where
-  module _ (et : t' ≡ t) (ea : d.account ≡ Nothing) (eu : d.used ≡ used) where
+  module _ (et : t' ≡ t) (ea : d.account ≡ None) (eu : d.used ≡ used) where
     stays : (g : Gate) → g.used ≡ used → (l : Ledger) → l ≡ ledger_of g t → Left t l (paid g d x.amount) t'
     stays g e l el = rw (el, ea, eu, e) (record { gates = rw (← e); left = et ∙ sym (rows-kept t used whole) })
 
@@ -139,7 +138,7 @@ module _ (names keys : List (List ℕ)) (used : ℕ) (t : Rows) (whole : Whole t
     applied-none ev = record { left = λ g _ e. stays g e _ (rw ev) }
 
   pub applied-restores : (i : ℕ) → v ≡ Restores i → i < used → t' ≡ rows_with t i (restored (record_at t i))
-      → (k : Found) → k ≡ find_account x.number x.kind (holders_of names keys) → d.account ≡ k → d.used ≡ used → Applied names keys used t clock x v d t'
+      → (k : Option ℕ) → k ≡ find_account x.number x.kind (holders_of names keys) → d.account ≡ k → d.used ≡ used → Applied names keys used t clock x v d t'
   unfolding applied
   applied-restores i ev h et k ek ea eu = record { left = one }
     where
@@ -151,7 +150,7 @@ module _ (names keys : List (List ℕ)) (used : ℕ) (t : Rows) (whole : Whole t
           (record { gates = rw (← e) (credit-same g k x.amount); left = et ∙ sym (rows-set t used whole i (restored (record_at t i)) h) })
 
   pub applied-posts : (a : ℕ) → v ≡ Posts a → used < length t.nums → SameLengths t
-      → ((g : Gate) → g.used ≡ used → t' ≡ rows_with t used (posted_record g clock x)) → d.account ≡ At a → d.used ≡ used + 1
+      → ((g : Gate) → g.used ≡ used → t' ≡ rows_with t used (posted_record g clock x)) → d.account ≡ Some a → d.used ≡ used + 1
       → Applied names keys used t clock x v d t'
   unfolding applied
   applied-posts a ev room same et ea eu = record { left = one }

@@ -1,12 +1,10 @@
 -- Document 01, "Registry": one line of a day's registry, settled on the table as it stands.
-use Rattle.std.specs.Prelude.{ℕ, ◌+◌, List, [], ◌∷◌, ◌++◌, Bool, cond, ◌&&◌, get_or, set}
+use Rattle.std.specs.Prelude.{ℕ, ◌+◌, List, [], ◌∷◌, ◌++◌, Bool, cond, ◌&&◌, get_or, set, Option, Some, None}
 use Rattle.dates.specs.Date.{empty_date}
 use Rattle.payments.specs.declared.Details.{Details}
 use Rattle.lines.specs.declared.line.Line.{Line}
 use Rattle.table.specs.declared.Record.{Record}
 use Rattle.table.specs.declared.Gate.{Gate}
-use Rattle.lists.specs.declared.Found.{Found}
-use Rattle.lists.specs.declared.Found.TheVariants.{At, Nothing}
 use Rattle.lists.specs.Lists.{first_from}
 use Rattle.table.specs.Table.{Rows, records_of, done, no_record, has_receipt, find_record, same_payment}
 use Rattle.table.specs.Daily.{is_done}
@@ -22,14 +20,14 @@ matches x r = has_receipt x.receipt r && same_payment x.number x.kind x.amount x
 
 -- ---- the verdict on one line
 -- a receipt that is not recorded is posted where its account is known and there is room
-abbrev pub post_verdict : Found → Found → Bool → Verdict
-post_verdict (At i) account full = Unposted
-post_verdict Nothing Nothing full = Unposted
-post_verdict Nothing (At a) full = cond full Unposted (Posts a)
+abbrev pub post_verdict : Option ℕ → Option ℕ → Bool → Verdict
+post_verdict (Some i) account full = Unposted
+post_verdict None None full = Unposted
+post_verdict None (Some a) full = cond full Unposted (Posts a)
 
-abbrev pub match_verdict : List Record → Found → Verdict → Verdict
-match_verdict rs Nothing other = other
-match_verdict rs (At i) other = cond (is_done (get_or rs i no_record)) Keeps (Restores i)
+abbrev pub match_verdict : List Record → Option ℕ → Verdict → Verdict
+match_verdict rs None other = other
+match_verdict rs (Some i) other = cond (is_done (get_or rs i no_record)) Keeps (Restores i)
 
 unfoldable pub verdict_of : Gate → List Record → ℕ → Line → Verdict
 verdict_of g rs lent x =
@@ -76,7 +74,7 @@ applied clock x (Restores i) l =
     }
 applied clock x (Posts a) l =
     record {
-      gate = with_used (credited_at l.gate (At a) x.amount) (l.gate.used + 1);
+      gate = with_used (credited_at l.gate (Some a) x.amount) (l.gate.used + 1);
       records = l.records ++ (posted_record l.gate clock x ∷ []);
     }
 applied clock x Unposted l = l

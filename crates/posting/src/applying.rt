@@ -10,14 +10,13 @@ ghost use Rattle.posting.specs.Steps.{Placed, Applied};
 use crate::verdict::Verdict;
 use ledger::change;
 use lines::line::Line;
-use lists::Found;
 use payments::Details;
 use table::{Gate, Record, rows};
 
 // The account that a line's amount is due on, and how many records the table has then.
 #[derive(Clone, Copy)]
 pub struct Due {
-    pub account: Found,
+    pub account: Option<usize>,
     pub used: usize,
 }
 
@@ -91,7 +90,7 @@ pub fn apply(
 {
     match v {
         Verdict::Keeps => Due {
-            account: Found::Nothing,
+            account: None,
             used,
         },
         Verdict::Restores(i) => {
@@ -105,12 +104,12 @@ pub fn apply(
         Verdict::Posts(a) => {
             post(nums, numbers, dates, used, clock, x);
             Due {
-                account: Found::At(a),
+                account: Some(a),
                 used: used + 1,
             }
         }
         Verdict::Unposted => Due {
-            account: Found::Nothing,
+            account: None,
             used,
         },
     }

@@ -8,7 +8,6 @@ ghost use Rattle.posting.specs.Lookup.{receipt_at, fits};
 
 use crate::matching;
 use lines::line::Line;
-use lists::Found;
 use table::{Record, rows};
 
 // A record of the line's receipt, one that the line matches, or such a one that is done.
@@ -60,7 +59,7 @@ pub fn find(
     next: &[u16],
     w: Sought,
     x: Line,
-) -> Found
+) -> Option<usize>
     requires used_in_bounds { (used ≤ length nums.now) × (used ≤ length numbers.now) × (used ≤ length dates.now) }
     requires chained { Chained (receipt_at nums.now) 0 used heads.now next.now }
     ensures { result ≡ first_from (fits w x) 0 (records_of (lent nums.now numbers.now dates.now) used) }
@@ -70,11 +69,11 @@ pub fn find(
         let j = at - 1;
         let r = rows::load(nums, numbers, dates, j);
         if is_sought(w, x, r) {
-            return Found::At(j);
+            return Some(j);
         }
         at = index::after(next, j);
     }
-    Found::Nothing
+    None
 }
 
 // The last place of the chain that place i stands in.

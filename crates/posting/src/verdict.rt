@@ -11,7 +11,6 @@ ghost use Rattle.directory.specs.Directory.{Keyed, Listed};
 use crate::lookup;
 use crate::lookup::Sought;
 use lines::line::Line;
-use lists::Found;
 use table::{Gate, Record, rows};
 
 // The record that it matches is done, or at a place to be done again; it is posted to an account; or none of these.
@@ -35,13 +34,13 @@ fn judge_match(r: Record, i: usize) -> Verdict
 }
 
 // The verdict on a line that matches none, by the record of its receipt, its account, and whether the table is full.
-fn judge_new(recorded: Found, account: Found, full: bool) -> Verdict
+fn judge_new(recorded: Option<usize>, account: Option<usize>, full: bool) -> Verdict
     ensures { result ≡ post_verdict recorded account full }
 {
-    let Found::Nothing = recorded else {
+    let None = recorded else {
         return Verdict::Unposted;
     };
-    let Found::At(a) = account else {
+    let Some(a) = account else {
         return Verdict::Unposted;
     };
     if full {
@@ -71,8 +70,8 @@ pub fn judge(
     let sought = Sought::Matched;
     let found = lookup::find(nums, numbers, dates, used, heads, next, sought, x);
     match found {
-        Found::At(i) => judge_match(rows::load(nums, numbers, dates, i), i),
-        Found::Nothing => {
+        Some(i) => judge_match(rows::load(nums, numbers, dates, i), i),
+        None => {
             let n = x.number;
             let same = Sought::SameReceipt;
             let recorded = lookup::find(nums, numbers, dates, used, heads, next, same, x);

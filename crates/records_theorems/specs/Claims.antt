@@ -1,7 +1,6 @@
 -- Document 01, "Sample cases": K1 to K12 over a lent slice of four records, as one claim about lists of calls. What K3 to K6 say of a field alone needs no table.
-use Rattle.std.specs.Prelude.{ℕ, ◌≡◌, List, [], ◌∷◌, ◌++◌, ℤ, pos, negsuc, replicate}
+use Rattle.std.specs.Prelude.{ℕ, ◌≡◌, List, [], ◌∷◌, ◌++◌, ℤ, pos, negsuc, replicate, Some}
 use Rattle.days.specs.declared.calendar.Day.{Day}
-use Rattle.lists.specs.declared.Found.TheVariants.{At}
 use Rattle.table.specs.Table.{no_record}
 use Rattle.table.specs.Accounts.{accounts_of, find_account, balance_at}
 use Rattle.settlement_theorems.specs.Cases.{payment1, cancel1, line1, answer1, clock1, clock2, clock3, clock4, clock5, clock6, amount_most, amount_over, one_kopeck, no_kopecks, point_alone, three_decimals, one_decimal, receipt_most, receipt_long, receipt_zero, leap_date, no_leap_date, payment2, day19, day20, day22, account12, empty_gate, blank}
@@ -52,7 +51,7 @@ pub record KRecords : Type 0 where
   -- the start
   pub start-code : code [] ≡ 0
   pub start-closed : (run []).gate.closed ≡ day19
-  pub start-account : find_account account12 1 (accounts_of (run []).gate) ≡ At 0
+  pub start-account : find_account account12 1 (accounts_of (run []).gate) ≡ Some 0
   pub start-balance : balance [] ≡ pos 0
   -- K1, and again
   pub k1 : code (pay ∷ []) ≡ 0

@@ -1,4 +1,5 @@
 -- What a text without a fault holds: lines of the day, well formed, with rising receipts, 512 at most.
+use Rattle.std.specs.Prelude.{Option, Some, None}
 use Prim.Native.Nat.{ℕ, suc, ◌≤◌, ◌<◌}
 use native.Mathlib.Omega.{arith}
 use mathlib.Core.Path.{◌≡◌, refl, sym, ap, ◌∙◌}
@@ -8,8 +9,6 @@ use lib.Dec.{leb}
 use lib.ListN.{length}
 use borrow.Author.Tests.{leb-true}
 use Rattle.days.specs.declared.calendar.Day.{Day}
-use Rattle.texts.specs.declared.digits.Digits.{Digits}
-use Rattle.texts.specs.declared.digits.Digits.TheVariants.{Value, Malformed}
 use Rattle.fields.specs.declared.number.NumberRead.{NumberRead}
 use Rattle.dates.specs.declared.date.DateRead.{DateRead}
 use Rattle.fields.specs.Amount.{is_amount, amount_read}
@@ -43,13 +42,13 @@ date-good f = cond-elim (λ r. r.ok ≡ true → is_written r.date ≡ true) (is
 abbrev LineGood : LineRead → Type 0
 LineGood r = r.ok ≡ true → is_line r.line ≡ true
 
-of-good : (n : NumberRead) (k : Digits) (d : DateRead) (a r : Digits) → NumberGood n → ((v : ℕ) → Value v ≡ k → is_kind v ≡ true)
-    → (d.ok ≡ true → is_written d.date ≡ true) → ((v : ℕ) → Value v ≡ a → is_amount v ≡ true) → ((v : ℕ) → Value v ≡ r → is_receipt v ≡ true)
+of-good : (n : NumberRead) (k : Option ℕ) (d : DateRead) (a r : Option ℕ) → NumberGood n → ((v : ℕ) → Some v ≡ k → is_kind v ≡ true)
+    → (d.ok ≡ true → is_written d.date ≡ true) → ((v : ℕ) → Some v ≡ a → is_amount v ≡ true) → ((v : ℕ) → Some v ≡ r → is_receipt v ≡ true)
     → LineGood (line_of n k d a r)
-of-good n Malformed d a r gn gk gd ga gr h = no-claim h
-of-good n (Value k) d Malformed r gn gk gd ga gr h = no-claim h
-of-good n (Value k) d (Value a) Malformed gn gk gd ga gr h = no-claim h
-of-good n (Value k) d (Value a) (Value r) gn gk gd ga gr h =
+of-good n None d a r gn gk gd ga gr h = no-claim h
+of-good n (Some k) d None r gn gk gd ga gr h = no-claim h
+of-good n (Some k) d (Some a) None gn gk gd ga gr h = no-claim h
+of-good n (Some k) d (Some a) (Some r) gn gk gd ga gr h =
     cond-elim LineGood (n.ok && d.ok) _ no_line
     (λ t _.
     let p = both n.ok d.ok t in

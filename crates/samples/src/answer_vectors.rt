@@ -4,15 +4,13 @@ use answer_reader::answer::AnswerRead;
 use answer_reader::read;
 use answers::write;
 use parameters::action;
-use parameters::action::ActionRead;
 use payments::{Action, Answer};
-use texts::digits::Digits;
 use texts::{digits, out, scan};
 use vectors::given;
 
 // The answer to an action.
 pub fn answer(s: &[u8]) {
-    let ActionRead::Known(a) = action::read_action(scan::before_byte(s, b' ')) else {
+    let Some(a) = action::read_action(scan::before_byte(s, b' ')) else {
         io::write_all(1, b"unknown action");
         return;
     };
@@ -21,7 +19,7 @@ pub fn answer(s: &[u8]) {
 
 // A check's answer with a message of so many bytes; 78 bytes stand before it.
 pub fn long_answer(s: &[u8]) {
-    let Digits::Value(n) = digits::read_digits(s, 3) else {
+    let Some(n) = digits::read_digits(s, 3) else {
         print::malformed();
         return;
     };

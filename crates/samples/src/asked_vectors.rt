@@ -2,10 +2,8 @@
 use crate::print;
 use message::request::Asked;
 use parameters::action;
-use parameters::action::ActionRead;
 use payments::Action;
 use request_writer::write;
-use texts::digits::Digits;
 use texts::{digits, scan};
 use vectors::given;
 
@@ -30,7 +28,7 @@ fn fields_of(action: Action, s: &[u8]) -> Asked {
 
 // The text of a request.
 pub fn write_request(s: &[u8]) {
-    let ActionRead::Known(a) = action::read_action(scan::before_byte(s, b' ')) else {
+    let Some(a) = action::read_action(scan::before_byte(s, b' ')) else {
         io::write_all(1, b"unknown action");
         return;
     };
@@ -47,7 +45,7 @@ pub fn write_request(s: &[u8]) {
 // The cursor that is handed back, from a cursor, a buffer's size and a request.
 pub fn write_request_at(s: &[u8]) {
     let rest = scan::after_byte(s, b' ');
-    let Digits::Value(size) = digits::read_digits(scan::before_byte(rest, b' '), 3) else {
+    let Some(size) = digits::read_digits(scan::before_byte(rest, b' '), 3) else {
         print::malformed();
         return;
     };
@@ -65,7 +63,7 @@ pub fn write_request_at(s: &[u8]) {
 }
 
 fn show_cursor(s: &[u8], dst: &mut [u8], at: usize) {
-    let ActionRead::Known(a) = action::read_action(scan::before_byte(s, b' ')) else {
+    let Some(a) = action::read_action(scan::before_byte(s, b' ')) else {
         io::write_all(1, b"unknown action");
         return;
     };

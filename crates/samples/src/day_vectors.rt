@@ -2,14 +2,14 @@
 use crate::print;
 use dates::date;
 use days::calendar;
-use days::calendar::DayRead;
+use days::calendar::Day;
 use texts::scan;
 
 // A day, or the words for none.
-fn show_day(r: DayRead, none: &[u8]) {
+fn show_day(r: Option<Day>, none: &[u8]) {
     match r {
-        DayRead::Good(d) => print::day(d),
-        DayRead::NoDate => {
+        Some(d) => print::day(d),
+        None => {
             io::write_all(1, none);
         }
     }
@@ -37,7 +37,7 @@ pub fn day(s: &[u8]) {
 
 // The day after one.
 pub fn next(s: &[u8]) {
-    let DayRead::Good(d) = calendar::read_day(s) else {
+    let Some(d) = calendar::read_day(s) else {
         io::write_all(1, b"no date");
         return;
     };
@@ -46,11 +46,11 @@ pub fn next(s: &[u8]) {
 
 // Whether the first of two days, split by a space, comes before the second.
 pub fn before(s: &[u8]) {
-    let DayRead::Good(a) = calendar::read_day(scan::before_byte(s, b' ')) else {
+    let Some(a) = calendar::read_day(scan::before_byte(s, b' ')) else {
         io::write_all(1, b"no date");
         return;
     };
-    let DayRead::Good(b) = calendar::read_day(scan::after_byte(s, b' ')) else {
+    let Some(b) = calendar::read_day(scan::after_byte(s, b' ')) else {
         io::write_all(1, b"no date");
         return;
     };

@@ -1,7 +1,6 @@
 // Answers that only these vectors have, printed.
 use days::calendar::Day;
 use fields::number::Number;
-use texts::digits::Digits;
 use texts::scan;
 use vectors::show;
 
@@ -17,12 +16,12 @@ pub fn fault(code: u64) {
 }
 
 // The value of a digit field, or its fault.
-pub fn value_or_fault(d: Digits, code: u64) {
+pub fn value_or_fault(d: Option<u64>, code: u64) {
     match d {
-        Digits::Value(v) => {
+        Some(v) => {
             io::print_decimal(1, v);
         }
-        Digits::Malformed => fault(code),
+        None => fault(code),
     }
 }
 

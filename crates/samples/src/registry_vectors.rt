@@ -6,7 +6,6 @@ use days::calendar::Day;
 use line_rows::reading;
 use lines::line::Line;
 use registry::report;
-use texts::digits::Digits;
 use texts::{digits, out, scan};
 use vectors::{given, show};
 
@@ -80,7 +79,7 @@ fn write_lines(n: u64, dst: &mut [u8]) -> usize {
 
 // The fault of so many lines, `ended` or with a `rest` behind them.
 pub fn many_lines(s: &[u8]) {
-    let Digits::Value(n) = digits::read_digits(scan::before_byte(s, b' '), 3) else {
+    let Some(n) = digits::read_digits(scan::before_byte(s, b' '), 3) else {
         print::malformed();
         return;
     };

@@ -4,7 +4,6 @@ use fields::number::Number;
 use message::request::{Asked, RequestRead, read_request};
 use parameters::action;
 use payments::Action;
-use texts::digits::Digits;
 use texts::{digits, out, scan};
 
 // What a request asks, or its fault.
@@ -14,7 +13,7 @@ pub fn request(s: &[u8]) {
 
 // The same of a text with `&` behind it, up to so many bytes in all.
 pub fn long_request(s: &[u8]) {
-    let Digits::Value(n) = digits::read_digits(scan::before_byte(s, b' '), 4) else {
+    let Some(n) = digits::read_digits(scan::before_byte(s, b' '), 4) else {
         print::malformed();
         return;
     };

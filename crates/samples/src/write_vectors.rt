@@ -1,7 +1,6 @@
 // Writers into a lent buffer.
 use crate::print;
 use fields::amount;
-use texts::digits::Digits;
 use texts::{digits, out, scan};
 
 fn write_into(as_amount: bool, v: u64, dst: &mut [u8]) -> usize {
@@ -13,7 +12,7 @@ fn write_into(as_amount: bool, v: u64, dst: &mut [u8]) -> usize {
 
 // The value in s, written as an amount in kopecks or as it is, without leading zeros.
 pub fn write_value(as_amount: bool, s: &[u8]) {
-    let Digits::Value(v) = digits::read_digits(s, 20) else {
+    let Some(v) = digits::read_digits(s, 20) else {
         print::malformed();
         return;
     };
@@ -24,7 +23,7 @@ pub fn write_value(as_amount: bool, s: &[u8]) {
 
 // Writes the text behind a cursor and a size into so many points.
 pub fn put(s: &[u8]) {
-    let Digits::Value(at) = digits::read_digits(scan::before_byte(s, b' '), 20) else {
+    let Some(at) = digits::read_digits(scan::before_byte(s, b' '), 20) else {
         print::malformed();
         return;
     };
@@ -32,7 +31,7 @@ pub fn put(s: &[u8]) {
 }
 
 fn put_at(s: &[u8], at: usize) {
-    let Digits::Value(size) = digits::read_digits(scan::before_byte(s, b' '), 2) else {
+    let Some(size) = digits::read_digits(scan::before_byte(s, b' '), 2) else {
         print::malformed();
         return;
     };

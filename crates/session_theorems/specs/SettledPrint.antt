@@ -1,8 +1,7 @@
 -- Document 02, [2]: on a settled day the number and the kopecks that P prints of the done payments are the agent's. `proofs/SettledPrint.antt` proves it
 -- (`settled-print : SettledPrint`), from demand 3 and so after every list of steps, in whatever order the table has the payments.
-use Rattle.std.specs.Prelude.{ℕ, ◌≡◌, true, ◌&&◌, List, ◌++◌, eqb, length}
+use Rattle.std.specs.Prelude.{ℕ, ◌≡◌, true, ◌&&◌, List, ◌++◌, eqb, length, Some}
 use Rattle.days.specs.declared.calendar.Day.{Day}
-use Rattle.days.specs.declared.calendar.DayRead.TheVariants.{Good}
 use Rattle.days.specs.Calendar.{day_read}
 use Rattle.table.specs.Table.{done, cancelled}
 use Rattle.table.specs.Daily.{records_on, total_of}
@@ -19,7 +18,7 @@ session_at w = record { started = true; gate = w.gate }
 -- a line that asks for that day: P (80) and one field more
 pub record AsksFor (l : List ℕ) (day : Day) : Type 0 where
   pub form : has_letter 80 l && eqb (field_count l) 2 ≡ true
-  pub date : day_read (field_at 1 l) ≡ Good day
+  pub date : day_read (field_at 1 l) ≡ Some day
 
 -- how many payments of a day the agent's book calls credited, and their kopecks
 abbrev pub credited_count : World → Day → ℕ

@@ -1,4 +1,5 @@
 -- After a settlement each balance has changed by the amounts restored and posted to its account, less those swept from it.
+use Rattle.std.specs.Prelude.{Option, Some, None}
 use Prim.Native.Nat.{ℕ, ◌+◌, ◌<◌}
 use native.Mathlib.Decide.{ℕ_discrete}
 use native.Mathlib.Omega.{arith}
@@ -19,8 +20,6 @@ use Rattle.registry.specs.Registry.{registry_lines}
 use Rattle.table.specs.declared.Account.{Account}
 use Rattle.table.specs.declared.Gate.{Gate}
 use Rattle.table.specs.declared.Record.{Record}
-use Rattle.lists.specs.declared.Found.{Found}
-use Rattle.lists.specs.declared.Found.TheVariants.{At, Nothing}
 use Rattle.lists.specs.Lists.{first_from}
 use Rattle.lists.proofs.ListLaws.{search-within}
 use Rattle.table.specs.Table.{Rows, find_record}
@@ -51,9 +50,9 @@ names-after g h k a b =
       finds = λ n m. b.finds n m ∙ a.finds n m;
     }
 
-pub names-credited-at : (g : Gate) (f : Found) (n : ℕ) → SameNames g (credited_at g f n)
-names-credited-at g Nothing n = names_same g g refl
-names-credited-at g (At a) n = names-credited g a n
+pub names-credited-at : (g : Gate) (f : Option ℕ) (n : ℕ) → SameNames g (credited_at g f n)
+names-credited-at g None n = names_same g g refl
+names-credited-at g (Some a) n = names-credited g a n
 
 line-names : (clock : List ℕ) (lent : ℕ) (x : Line) (l : Ledger) → SameNames l.gate (settle_line clock lent x l).gate
 unfolding settle_line applied
@@ -63,7 +62,7 @@ line-names clock lent x l = go (verdict_of l.gate l.records lent x)
     go Keeps = names_same l.gate l.gate refl
     go Unposted = names_same l.gate l.gate refl
     go (Restores i) = names-credited-at l.gate (find_account x.number x.kind (accounts_of l.gate)) x.amount
-    go (Posts a) = names-used l.gate (credited_at l.gate (At a) x.amount) (l.gate.used + 1) (names-credited l.gate a x.amount)
+    go (Posts a) = names-used l.gate (credited_at l.gate (Some a) x.amount) (l.gate.used + 1) (names-credited l.gate a x.amount)
 
 lines-names : (clock : List ℕ) (lent : ℕ) (xs : List Line) (l : Ledger) → SameNames l.gate (settle_lines clock lent xs l).gate
 unfolding settle_lines
@@ -105,20 +104,20 @@ module _ (a : ℕ) where
           ap (λ (y : Account). y.balance) (get_or-set_other g.accounts b a there no_account d)
           ∙ rw (ne_eqb b a (λ q. d (sym q)), none) (sym (+ℤ_idr (balance_at g a)))
 
-  credited-balance : (g : Gate) (f : Found) (n : ℕ) → (f ≡ At a → a < length g.accounts)
+  credited-balance : (g : Gate) (f : Option ℕ) (n : ℕ) → (f ≡ Some a → a < length g.accounts)
       → balance_at (credited_at g f n) a ≡ balance_at g a +ℤ pos (cond (is_at a f) n 0)
   unfolding credited is_at
-  credited-balance g Nothing n within = sym (+ℤ_idr (balance_at g a))
-  credited-balance g (At b) n within = moved-at pos refl g b n (λ e. within (ap At e))
+  credited-balance g None n within = sym (+ℤ_idr (balance_at g a))
+  credited-balance g (Some b) n within = moved-at pos refl g b n (λ e. within (ap Some e))
 
-  debited-balance : (g : Gate) (f : Found) (n : ℕ) → (f ≡ At a → a < length g.accounts)
+  debited-balance : (g : Gate) (f : Option ℕ) (n : ℕ) → (f ≡ Some a → a < length g.accounts)
       → balance_at (debited_at g f n) a ≡ balance_at g a -ℤ pos (cond (is_at a f) n 0)
   unfolding debited is_at
-  debited-balance g Nothing n within = sym (+ℤ_idr (balance_at g a))
-  debited-balance g (At b) n within = moved-at taken refl g b n (λ e. within (ap At e))
+  debited-balance g None n within = sym (+ℤ_idr (balance_at g a))
+  debited-balance g (Some b) n within = moved-at taken refl g b n (λ e. within (ap Some e))
 
   -- what a lookup finds is an account
-  found-there : (g : Gate) (n : Number) (k : ℕ) → find_account n k (accounts_of g) ≡ At a → a < length g.accounts
+  found-there : (g : Gate) (n : Number) (k : ℕ) → find_account n k (accounts_of g) ≡ Some a → a < length g.accounts
   unfolding find_account
   found-there g n k e = omega (arith, search-within (is_account n k) 0 (accounts_of g) a e, length-take g.count g.accounts)
 
@@ -128,7 +127,7 @@ module _ (a : ℕ) where
   unfolding settle_line applied credit_of verdict_of
   line-balance clock lent x l = go (verdict_of l.gate l.records lent x) refl
     where
-      holder : Found
+      holder : Option ℕ
       holder = find_account x.number x.kind (accounts_of l.gate)
 
       there : balance_at (credited_at l.gate holder x.amount) a ≡ balance_at l.gate a +ℤ pos (cond (is_at a holder) x.amount 0)
@@ -140,7 +139,7 @@ module _ (a : ℕ) where
       go (Restores i) e = there
       go (Posts b) e =
           let p = post-room (find_record x.receipt l.records) holder (is_full l.gate lent) b (verdict-post l.records (first_from (matches x) 0 l.records) _ b e) in
-          ap (λ (f : Found). balance_at (credited_at l.gate f x.amount) a) (sym p.1) ∙ there
+          ap (λ (f : Option ℕ). balance_at (credited_at l.gate f x.amount) a) (sym p.1) ∙ there
 
   pub lines-balance : (clock : List ℕ) (lent : ℕ) (xs : List Line) (l : Ledger)
       → balance_at (settle_lines clock lent xs l).gate a ≡ balance_at l.gate a +ℤ pos (credits clock lent a xs l)
@@ -158,7 +157,7 @@ module _ (a : ℕ) where
   unfolding swept_gate debit_of
   swept-balance day xs r g = go (is_stray day xs r)
     where
-      holder : Found
+      holder : Option ℕ
       holder = find_account r.number r.kind (accounts_of g)
 
       go : (b : Bool) → balance_at (cond b (debited_at g holder r.amount) g) a ≡ balance_at g a -ℤ pos (cond (b && is_at a holder) r.amount 0)

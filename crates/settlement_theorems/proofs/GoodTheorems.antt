@@ -1,4 +1,5 @@
 -- Row 68 through a settlement: all its clauses hold after it, but for the bound on balances, which the lines may pass.
+use Rattle.std.specs.Prelude.{Option, Some, None}
 use Prim.Native.Nat.{ℕ, ◌<◌, ◌≤◌}
 use native.Mathlib.Omega.{arith}
 use mathlib.Core.Path.{◌≡◌, refl, sym, ap, ◌∙◌}
@@ -7,8 +8,6 @@ use mathlib.Core.List.{List, [], ◌∷◌}
 use lib.ListN.{length, get_or, length-append, length-set, length-map}
 use borrow.Author.Tests.{leb-false}
 use Rattle.days.specs.declared.calendar.Day.{Day}
-use Rattle.days.specs.declared.calendar.DayRead.{DayRead}
-use Rattle.days.specs.declared.calendar.DayRead.TheVariants.{Good, NoDate}
 use Rattle.days.specs.Calendar.{is_day, next_day, on_day}
 use Rattle.dates.specs.Date.{is_written}
 use Rattle.texts.proofs.Tests.{no-claim}
@@ -44,9 +43,9 @@ use Rattle.settlement_theorems.proofs.LedgerLaws.{LineOk, lines_ok, LedgerGood, 
 next-dated : (last day : Day) → on_day day (next_day last) ≡ true → is_day day ≡ true
 next-dated last day h = go (next_day last) refl h
   where
-    go : (r : DayRead) → next_day last ≡ r → on_day day r ≡ true → is_day day ≡ true
-    go NoDate e h = no-claim h
-    go (Good x) e h = ap is_day (sym (same-day x day h)) ∙ next-is-day last x e
+    go : (r : Option Day) → next_day last ≡ r → on_day day r ≡ true → is_day day ≡ true
+    go None e h = no-claim h
+    go (Some x) e h = ap is_day (sym (same-day x day h)) ∙ next-is-day last x e
 
 -- ---- what the lines and the sweep keep: no more records than are lent
 has-free : (g : Gate) (cap : ℕ) → is_full g cap ≡ false → g.used < cap

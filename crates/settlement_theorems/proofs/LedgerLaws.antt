@@ -1,4 +1,5 @@
 -- What a registry keeps of a ledger: every record good at its place (row 68 but for the balance bound), and no receipt twice.
+use Rattle.std.specs.Prelude.{Option, Some, None}
 use Prim.Native.Nat.{ℕ, ◌+◌, ◌<◌}
 use native.Mathlib.Decide.{ℕ_discrete}
 use native.Mathlib.Omega.{arith}
@@ -21,8 +22,6 @@ use Rattle.lines.specs.Line.{is_line}
 use Rattle.registry.specs.Registry.{registry_lines}
 use Rattle.registry.specs.Registry.{every_line}
 use Rattle.registry.proofs.TextAgain.{LineOn, every-line}
-use Rattle.lists.specs.declared.Found.{Found}
-use Rattle.lists.specs.declared.Found.TheVariants.{At, Nothing}
 use Rattle.lists.specs.Lists.{first_from, is_found}
 use Rattle.lists.proofs.ListLaws.{search-within, found-fits, found_none, found_some}
 use Rattle.lists.proofs.EachLaws.{Each}
@@ -86,7 +85,7 @@ restored-good : (g : Gate) (i : ℕ) (r : Record) → record_good g i r ≡ true
 unfolding restored state_good eq_list
 restored-good g i r h = state-good g i r (restored r) refl refl refl refl refl refl refl refl h
 
-posted-good : (g : Gate) (clock : List ℕ) → is_written clock ≡ true → (x : Line) → LineOk x → (a : ℕ) → find_account x.number x.kind (accounts_of g) ≡ At a → record_good g g.used (posted_record g clock x) ≡ true
+posted-good : (g : Gate) (clock : List ℕ) → is_written clock ≡ true → (x : Line) → LineOk x → (a : ℕ) → find_account x.number x.kind (accounts_of g) ≡ Some a → record_good g g.used (posted_record g clock x) ≡ true
 unfolding posted_record
 posted-good g clock dated x lx a at = made-good g clock (details_of x) a lx.receipt lx.amount lx.date dated at
 
@@ -126,9 +125,9 @@ module _ (clock : List ℕ) (dated : is_written clock ≡ true) (cap : ℕ) wher
           let g = l.gate in
           let f = find_account x.number x.kind (accounts_of g) in
           let post : post_verdict (find_record x.receipt l.records) f (is_full g cap) ≡ Posts a = unfold verdict_of in verdict-post l.records (first_from (matches x) 0 l.records) _ a e in
-          let at : f ≡ At a = (post-room (find_record x.receipt l.records) f (is_full g cap) a post).1 in
-          good_more g (with_used (credited_at g (At a) x.amount) (g.used + 1)) l.records (posted_record g clock x)
-          (names-used g (credited_at g (At a) x.amount) (g.used + 1) (names-credited g a x.amount))
+          let at : f ≡ Some a = (post-room (find_record x.receipt l.records) f (is_full g cap) a post).1 in
+          good_more g (with_used (credited_at g (Some a) x.amount) (g.used + 1)) l.records (posted_record g clock x)
+          (names-used g (credited_at g (Some a) x.amount) (g.used + 1) (names-credited g a x.amount))
           (ap (λ (n : ℕ). record_good g n (posted_record g clock x)) used ∙ posted-good g clock dated x lx a at) good
 
   -- the lines of a registry keep every record good
@@ -166,36 +165,36 @@ once-same rs once i j h k e = pick (ℕ_discrete i j)
         omega arith
 
 -- a line matches the record of its receipt or none
-abbrev pub narrowed : Line → List Record → Found → Found
-narrowed x rs Nothing = Nothing
-narrowed x rs (At i) = cond (matches x (get_or rs i no_record)) (At i) Nothing
+abbrev pub narrowed : Line → List Record → Option ℕ → Option ℕ
+narrowed x rs None = None
+narrowed x rs (Some i) = cond (matches x (get_or rs i no_record)) (Some i) None
 
 module _ (x : Line) (rs : List Record) where
-  by-receipt : (k : ℕ) → first_from (matches x) 0 rs ≡ At k → has_receipt x.receipt (get_or rs k no_record) ≡ true
+  by-receipt : (k : ℕ) → first_from (matches x) 0 rs ≡ Some k → has_receipt x.receipt (get_or rs k no_record) ≡ true
   by-receipt k e = eq-eqb _ _ (match-receipt x (get_or rs k no_record) (found-fits (matches x) rs no_record e))
 
-  within : (p : Record → Bool) (k : ℕ) → first_from p 0 rs ≡ At k → k < length rs
+  within : (p : Record → Bool) (k : ℕ) → first_from p 0 rs ≡ Some k → k < length rs
   within p k e = omega (arith, search-within p 0 rs k e)
 
-  pub first-match : Once rs → (f : Found) → find_record x.receipt rs ≡ f → first_from (matches x) 0 rs ≡ narrowed x rs f
+  pub first-match : Once rs → (f : Option ℕ) → find_record x.receipt rs ≡ f → first_from (matches x) 0 rs ≡ narrowed x rs f
   unfolding find_record
   first-match once f e = go f e (first_from (matches x) 0 rs) refl
     where
-      go : (f : Found) → first_from (has_receipt x.receipt) 0 rs ≡ f → (m : Found) → first_from (matches x) 0 rs ≡ m → m ≡ narrowed x rs f
-      go Nothing e Nothing q = refl
-      go Nothing e (At k) q = no-claim (sym (found_none (has_receipt x.receipt) rs no_record e k (within (matches x) k q)) ∙ by-receipt k q)
-      go (At i) e m q = pick m q (matches x (get_or rs i no_record)) refl
+      go : (f : Option ℕ) → first_from (has_receipt x.receipt) 0 rs ≡ f → (m : Option ℕ) → first_from (matches x) 0 rs ≡ m → m ≡ narrowed x rs f
+      go None e None q = refl
+      go None e (Some k) q = no-claim (sym (found_none (has_receipt x.receipt) rs no_record e k (within (matches x) k q)) ∙ by-receipt k q)
+      go (Some i) e m q = pick m q (matches x (get_or rs i no_record)) refl
         where
-          same : (k : ℕ) → first_from (matches x) 0 rs ≡ At k → k ≡ i
+          same : (k : ℕ) → first_from (matches x) 0 rs ≡ Some k → k ≡ i
           same k q =
               once-same rs once k i (within (matches x) k q) (within (has_receipt x.receipt) i e)
               (eqb-true _ _ (by-receipt k q) ∙ sym (eqb-true _ _ (found-fits (has_receipt x.receipt) rs no_record e)))
 
-          pick : (m : Found) → first_from (matches x) 0 rs ≡ m → (b : Bool) → matches x (get_or rs i no_record) ≡ b → m ≡ cond b (At i) Nothing
-          pick (At k) q true h = ap At (same k q)
-          pick (At k) q false h = no-claim (sym h ∙ ap (λ (n : ℕ). matches x (get_or rs n no_record)) (sym (same k q)) ∙ found-fits (matches x) rs no_record q)
-          pick Nothing q true h = no-claim (ap is_found (sym q) ∙ found_some (matches x) rs no_record i (within (has_receipt x.receipt) i e) h)
-          pick Nothing q false h = refl
+          pick : (m : Option ℕ) → first_from (matches x) 0 rs ≡ m → (b : Bool) → matches x (get_or rs i no_record) ≡ b → m ≡ cond b (Some i) None
+          pick (Some k) q true h = ap Some (same k q)
+          pick (Some k) q false h = no-claim (sym h ∙ ap (λ (n : ℕ). matches x (get_or rs n no_record)) (sym (same k q)) ∙ found-fits (matches x) rs no_record q)
+          pick None q true h = no-claim (ap is_found (sym q) ∙ found_some (matches x) rs no_record i (within (has_receipt x.receipt) i e) h)
+          pick None q false h = refl
 
 -- as many records with the same receipts
 once-onward : (l l' : Ledger) → Onward l l' → length l'.records ≡ length l.records → Once l.records → Once l'.records
@@ -203,7 +202,7 @@ once-onward l l' o n once i j h k e =
     let b : j < length l.records = omega (arith, n) in
     once i j h b (sym (o.keys i (omega arith)).receipt ∙ e ∙ (o.keys j b).receipt)
 
-once_more : (rs : List Record) (r : Record) → find_record r.receipt rs ≡ Nothing → Once rs → Once (rs ++ (r ∷ []))
+once_more : (rs : List Record) (r : Record) → find_record r.receipt rs ≡ None → Once rs → Once (rs ++ (r ∷ []))
 unfolding find_record
 once_more rs r new once i j h k e = pick (ℕ_discrete j (length rs))
   where

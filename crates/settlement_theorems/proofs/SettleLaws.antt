@@ -1,4 +1,5 @@
 -- Laws of settlement over the definitions: what the report says, what the sweep leaves, and what every used record keeps.
+use Rattle.std.specs.Prelude.{Option, Some, None}
 use Prim.Native.Nat.{ℕ, zero, suc, ◌+◌, ◌<◌, ◌≤◌}
 use native.Mathlib.Decide.{ℕ_discrete}
 use native.Mathlib.Omega.{arith}
@@ -23,8 +24,6 @@ use Rattle.registry.proofs.LinesGood.{lines-good}
 use Rattle.registry.specs.Registry.{registry_lines, registry_fault}
 use Rattle.table.specs.declared.Record.{Record}
 use Rattle.table.specs.declared.Gate.{Gate}
-use Rattle.lists.specs.declared.Found.{Found}
-use Rattle.lists.specs.declared.Found.TheVariants.{At, Nothing}
 use Rattle.lists.specs.Lists.{first_from}
 use Rattle.table.specs.Table.{Rows, record_at, records_of, rows_from, find_record, same_payment}
 use Rattle.lists.proofs.ListLaws.{found-fits}
@@ -357,21 +356,21 @@ restored-agrees n k m d r = refl
 -- ---- records of other days: neither a line nor the sweep touches them
 -- a verdict that restores record k has found it by the line
 module _ (x : Line) (rs : List Record) (k : ℕ) where
-  no-post : (f a : Found) (full : Bool) → post_verdict f a full ≡ Restores k → ⊥
-  no-post (At i) a full e = let z : ◌≡◌ {A = ℕ} 0 1 = cc in absurd (omega arith)
-  no-post Nothing Nothing full e = let z : ◌≡◌ {A = ℕ} 0 1 = cc in absurd (omega arith)
-  no-post Nothing (At a) true e = let z : ◌≡◌ {A = ℕ} 0 1 = cc in absurd (omega arith)
-  no-post Nothing (At a) false e = let z : ◌≡◌ {A = ℕ} 0 1 = cc in absurd (omega arith)
+  no-post : (f a : Option ℕ) (full : Bool) → post_verdict f a full ≡ Restores k → ⊥
+  no-post (Some i) a full e = let z : ◌≡◌ {A = ℕ} 0 1 = cc in absurd (omega arith)
+  no-post None None full e = let z : ◌≡◌ {A = ℕ} 0 1 = cc in absurd (omega arith)
+  no-post None (Some a) true e = let z : ◌≡◌ {A = ℕ} 0 1 = cc in absurd (omega arith)
+  no-post None (Some a) false e = let z : ◌≡◌ {A = ℕ} 0 1 = cc in absurd (omega arith)
 
-  by-match : (f : Found) (other : Verdict) → (other ≡ Restores k → ⊥) → match_verdict rs f other ≡ Restores k → f ≡ At k
-  by-match Nothing other n e = absurd (n e)
-  by-match (At i) other n e = go (is_done (get_or rs i no_record)) e
+  by-match : (f : Option ℕ) (other : Verdict) → (other ≡ Restores k → ⊥) → match_verdict rs f other ≡ Restores k → f ≡ Some k
+  by-match None other n e = absurd (n e)
+  by-match (Some i) other n e = go (is_done (get_or rs i no_record)) e
     where
-      go : (b : Bool) → cond b Keeps (Restores i) ≡ Restores k → At i ≡ At k
+      go : (b : Bool) → cond b Keeps (Restores i) ≡ Restores k → Some i ≡ Some k
       go true q = let z : ◌≡◌ {A = ℕ} 0 1 = cc in absurd (omega arith)
-      go false q = let z : i ≡ k = cc in ap At z
+      go false q = let z : i ≡ k = cc in ap Some z
 
-  pub restores-at : (g : Gate) (lent : ℕ) → verdict_of g rs lent x ≡ Restores k → first_from (matches x) 0 rs ≡ At k
+  pub restores-at : (g : Gate) (lent : ℕ) → verdict_of g rs lent x ≡ Restores k → first_from (matches x) 0 rs ≡ Some k
   unfolding verdict_of
   restores-at g lent e = by-match (first_from (matches x) 0 rs) _ (no-post (find_record x.receipt rs) (find_account x.number x.kind (accounts_of g)) (is_full g lent)) e
 

@@ -1,12 +1,10 @@
 -- What a settlement moves on one account: the amounts of the lines that are restored or posted there, and those of the records swept from it.
-use Rattle.std.specs.Prelude.{ℕ, ◌+◌, List, [], ◌∷◌, Bool, true, false, cond, ◌&&◌, eqb, length}
+use Rattle.std.specs.Prelude.{ℕ, ◌+◌, List, [], ◌∷◌, Bool, true, false, cond, ◌&&◌, eqb, length, Option, Some, None}
 use Rattle.days.specs.declared.calendar.Day.{Day}
 use Rattle.fields.specs.declared.number.Number.{Number}
 use Rattle.lines.specs.declared.line.Line.{Line}
 use Rattle.table.specs.declared.Record.{Record}
 use Rattle.table.specs.declared.Gate.{Gate}
-use Rattle.lists.specs.declared.Found.{Found}
-use Rattle.lists.specs.declared.Found.TheVariants.{At, Nothing}
 use Rattle.table.specs.Table.{Rows}
 use Rattle.table.specs.Accounts.{accounts_of, find_account}
 use Rattle.posting.specs.declared.verdict.Verdict.{Verdict}
@@ -14,9 +12,9 @@ use Rattle.posting.specs.declared.verdict.Verdict.TheVariants.{Keeps, Restores, 
 use Rattle.posting.specs.Posting.{verdict_of, Ledger, settle_line, ledger_of}
 use Rattle.clearing.specs.Clearing.{settle_lines, is_stray}
 
-unfoldable pub is_at : ℕ → Found → Bool
-is_at a (At i) = eqb i a
-is_at a Nothing = false
+unfoldable pub is_at : ℕ → Option ℕ → Bool
+is_at a (Some i) = eqb i a
+is_at a None = false
 
 -- account a is the one that number with type names
 abbrev pub is_holder : ℕ → Gate → Number → ℕ → Bool

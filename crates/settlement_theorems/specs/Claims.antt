@@ -1,11 +1,9 @@
 -- Document 01, "Sample cases": what K1 to K12 say, as one claim about the runs of Cases.
-use Rattle.std.specs.Prelude.{◌≡◌, true, ◌∷◌, ◌++◌, pos, negsuc, replicate}
-use Rattle.texts.specs.declared.digits.Digits.TheVariants.{Value}
+use Rattle.std.specs.Prelude.{◌≡◌, true, ◌∷◌, ◌++◌, pos, negsuc, replicate, Some}
 use Rattle.fields.specs.Amount.{amount_read, amount_fault}
 use Rattle.fields.specs.Codes.{receipt_read, receipt_fault}
 use Rattle.dates.specs.Date.{date_read, date_fault}
 use Rattle.dates.proofs.Samples as F
-use Rattle.lists.specs.declared.Found.TheVariants.{At}
 use Rattle.table.specs.Accounts.{accounts_of, find_account, balance_at}
 use Rattle.settlement_theorems.specs.Cases.{answer1, amount_most, amount_over, one_kopeck, no_kopecks, point_alone, three_decimals, one_decimal, receipt_most, receipt_long, receipt_zero, leap_date, no_leap_date, day19, account12, opens, at_start, pays, pays_again, draws, cancels_drawn, cancels, pays_cancelled, settles_none, settles_line, pays_late, settles_later}
 
@@ -13,7 +11,7 @@ pub record K : Type 0 where
   -- the start is the opening call's own: closed 2005-09-19, account12 type 1 open at 0
   pub opening : opens.code ≡ 0
   pub start-closed : opens.gate.closed ≡ day19
-  pub start-account : find_account account12 1 (accounts_of opens.gate) ≡ At 0
+  pub start-account : find_account account12 1 (accounts_of opens.gate) ≡ Some 0
   pub start-balance : balance_at opens.gate 0 ≡ pos 0
   -- K1: the bytes of the answer with the rest of the buffer as it was, how many they are, and the balance
   pub k1 : pays.code ≡ 0
@@ -25,19 +23,19 @@ pub record K : Type 0 where
   pub k2-bytes : pays_again.out ≡ answer1 ++ replicate 378 0
   pub k2-balance : balance_at pays_again.gate 0 ≡ pos 1012
   -- K3: 9999999.99 is 999999999; 10000000 gives 3
-  pub k3 : (amount_read F.amount_most ≡ Value 999999999) × (amount_fault (amount_read F.amount_over) ≡ 3)
+  pub k3 : (amount_read F.amount_most ≡ Some 999999999) × (amount_fault (amount_read F.amount_over) ≡ 3)
   pub k3-most : balance_at (at_start amount_most).gate 0 ≡ pos 999999999
   pub k3-over : (at_start amount_over).code ≡ 3
   -- K4: 0.01 is 1; 0.00, `10.` and 10.125 give 3; 7.5 is 750
-  pub k4 : (amount_read F.one_kopeck ≡ Value 1) × (amount_fault (amount_read F.no_kopecks) ≡ 3) × (amount_fault (amount_read F.point_alone) ≡ 3)
-      × (amount_fault (amount_read F.three_decimals) ≡ 3) × (amount_read F.one_decimal ≡ Value 750)
+  pub k4 : (amount_read F.one_kopeck ≡ Some 1) × (amount_fault (amount_read F.no_kopecks) ≡ 3) × (amount_fault (amount_read F.point_alone) ≡ 3)
+      × (amount_fault (amount_read F.three_decimals) ≡ 3) × (amount_read F.one_decimal ≡ Some 750)
   pub k4-one : balance_at (at_start one_kopeck).gate 0 ≡ pos 1
   pub k4-none : (at_start no_kopecks).code ≡ 3
   pub k4-point : (at_start point_alone).code ≡ 3
   pub k4-three : (at_start three_decimals).code ≡ 3
   pub k4-tens : balance_at (at_start one_decimal).gate 0 ≡ pos 750
   -- K5: a receipt of 15 nines reads; 16 digits or 0 give 4
-  pub k5 : (receipt_read F.receipt_most ≡ Value 999999999999999) × (receipt_fault (receipt_read F.receipt_long) ≡ 4) × (receipt_fault (receipt_read F.receipt_zero) ≡ 4)
+  pub k5 : (receipt_read F.receipt_most ≡ Some 999999999999999) × (receipt_fault (receipt_read F.receipt_long) ≡ 4) × (receipt_fault (receipt_read F.receipt_zero) ≡ 4)
   pub k5-most : (at_start receipt_most).code ≡ 0
   pub k5-long : (at_start receipt_long).code ≡ 4
   pub k5-zero : (at_start receipt_zero).code ≡ 4

@@ -1,4 +1,5 @@
 -- Laws of the accounts: one by number and type, the first that fits, a balance moved.
+use Rattle.std.specs.Prelude.{Option, Some, None}
 use mathlib.Core.Path.{◌≡◌, refl, sym, ap, ◌∙◌}
 use mathlib.Core.Bool.{Bool, true, false}
 use mathlib.Core.List.{List, map}
@@ -16,8 +17,6 @@ use Rattle.fields.specs.Number.{same_number}
 use Rattle.table.specs.declared.Account.{Account}
 use Rattle.table.specs.declared.Gate.{Gate}
 use Rattle.table.specs.declared.accounts.Holding.{Holding}
-use Rattle.lists.specs.declared.Found.{Found}
-use Rattle.lists.specs.declared.Found.TheVariants.{At, Nothing}
 use Rattle.lists.specs.Lists.{first_from}
 use Rattle.table.specs.Accounts.{is_account, accounts_of, find_account, no_account, balance_at, holding_of, gate_balance, credited, debited}
 use Rattle.lists.proofs.ListLaws.{search-hit, search-miss, search-end, search-within, found-fits}
@@ -44,7 +43,7 @@ module _ (g : Gate) (size : length g.accounts ≡ 256) (few : g.count ≤ 256) w
 -- ---- the first that fits: a loop that has passed i accounts
 module _ (g : Gate) (n : Number) (k i : ℕ) (size : length g.accounts ≡ 256) (few : g.count ≤ 256)
     (passed : find_account n k (accounts_of g) ≡ first_from (is_account n k) i (drop i (accounts_of g))) where
-  pub account-here : (t : Bool) → t ≡ is_account n k (get_or g.accounts i no_account) → t ≡ true → i < g.count → At i ≡ find_account n k (accounts_of g)
+  pub account-here : (t : Bool) → t ≡ is_account n k (get_or g.accounts i no_account) → t ≡ true → i < g.count → Some i ≡ find_account n k (accounts_of g)
   account-here t e y h =
       sym (passed ∙ search-hit (is_account n k) i (accounts_of g) no_account (omega (arith, in_use g size few))
       (ap (is_account n k) (get_or-take g.count g.accounts i no_account h) ∙ sym e ∙ y))
@@ -55,18 +54,18 @@ module _ (g : Gate) (n : Number) (k i : ℕ) (size : length g.accounts ≡ 256) 
       passed ∙ search-miss (is_account n k) i (accounts_of g) no_account (omega (arith, in_use g size few))
       (ap (is_account n k) (get_or-take g.count g.accounts i no_account h) ∙ sym e ∙ y)
 
-  pub account-none : g.count ≤ i → Nothing ≡ find_account n k (accounts_of g)
+  pub account-none : g.count ≤ i → None ≡ find_account n k (accounts_of g)
   account-none h = sym (passed ∙ search-end (is_account n k) i (accounts_of g) no_account (omega (arith, in_use g size few)))
 
   -- the same with its balance
   pub held-here : (t : Bool) → t ≡ is_account n k (get_or g.accounts i no_account) → t ≡ true → i < g.count
-      → (z : ℤ) → z ≡ balance_at g i → ◌≡◌ {A = Holding} (record { at = At i; balance = z }) (holding_of g (find_account n k (accounts_of g)))
-  held-here t e y h z ez = ap (λ (x : ℤ). record { at = At i; balance = x }) ez ∙ ap (holding_of g) (account-here t e y h)
+      → (z : ℤ) → z ≡ balance_at g i → ◌≡◌ {A = Holding} (record { at = Some i; balance = z }) (holding_of g (find_account n k (accounts_of g)))
+  held-here t e y h z ez = ap (λ (x : ℤ). record { at = Some i; balance = x }) ez ∙ ap (holding_of g) (account-here t e y h)
 
-  pub held_none : g.count ≤ i → ◌≡◌ {A = Holding} (record { at = Nothing; balance = pos 0 }) (holding_of g (find_account n k (accounts_of g)))
+  pub held_none : g.count ≤ i → ◌≡◌ {A = Holding} (record { at = None; balance = pos 0 }) (holding_of g (find_account n k (accounts_of g)))
   held_none h = ap (holding_of g) (account-none h)
 
-pub held_place : (g : Gate) (f : Found) (h : Holding) → h ≡ holding_of g f → h.at ≡ f
+pub held_place : (g : Gate) (f : Option ℕ) (h : Holding) → h ≡ holding_of g f → h.at ≡ f
 held_place g f h e = ap (λ (x : Holding). x.at) e
 
 pub account-start : (n : Number) (k : ℕ) (l : List Account) → find_account n k l ≡ first_from (is_account n k) 0 (drop 0 l)
@@ -88,7 +87,7 @@ pub below-is : (z : ℤ) (n : ℕ) (t : Bool) → t ≡ lt_z (to_z w64 (of_z w64
 below-is z n t e b = e ∙ ap (λ (y : ℤ). lt_z y (pos n)) b
 
 -- ---- the account that is found
-module _ (g : Gate) (n : Number) (k i : ℕ) (f : Found) (e : f ≡ find_account n k (accounts_of g)) (h : f ≡ At i) where
+module _ (g : Gate) (n : Number) (k i : ℕ) (f : Option ℕ) (e : f ≡ find_account n k (accounts_of g)) (h : f ≡ Some i) where
   pub holder-within : i < g.count
   unfolding find_account
   holder-within = omega (arith, search-within (is_account n k) 0 (accounts_of g) i (sym e ∙ h), length-take g.count g.accounts)

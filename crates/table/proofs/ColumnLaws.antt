@@ -1,4 +1,5 @@
 -- Laws of the accounts that are lent in columns.
+use Rattle.std.specs.Prelude.{Some, None}
 use mathlib.Core.Path.{◌≡◌, refl, sym, ap, ◌∙◌}
 use mathlib.Core.Logic.{◌≢◌}
 use mathlib.Core.Bool.{Bool, true, false}
@@ -10,7 +11,6 @@ use lib.IntN.{ℤ, pos}
 use lib.ListN.{length, drop, get_or, set, replicate, get_or-replicate}
 use lib.Seq.{take_all, ext_get_or, get_or-set_same, get_or-set_other}
 use Rattle.fields.specs.declared.number.Number.{Number}
-use Rattle.lists.specs.declared.Found.TheVariants.{At, Nothing}
 use Rattle.lists.specs.Lists.{tab, first_from}
 use Rattle.lists.proofs.ListLaws.{length-tab, get_d-tab, tab-same, tab-set, tab-take}
 use Rattle.table.specs.declared.Account.{Account}
@@ -58,10 +58,10 @@ module _ (a : Columns) (h : Head) (n : Number) (k i : ℕ) (few : h.count ≤ 25
     column-other y = account-other (gate_of h a) n k i (size_in a) few passed t (et ∙ ap (is_account n k) ex) y l
 
     pub column-here : t ≡ true → (z : ℤ) → z ≡ x.balance
-        → ◌≡◌ {A = Holding} (record { at = At i; balance = z }) (holding_of (gate_of h a) (find_account n k (accounts_of (gate_of h a))))
+        → ◌≡◌ {A = Holding} (record { at = Some i; balance = z }) (holding_of (gate_of h a) (find_account n k (accounts_of (gate_of h a))))
     column-here y z ez = held-here (gate_of h a) n k i (size_in a) few passed t (et ∙ ap (is_account n k) ex) y l z (ez ∙ ap (λ (w : Account). w.balance) ex)
 
-  pub column-none : h.count ≤ i → ◌≡◌ {A = Holding} (record { at = Nothing; balance = pos 0 }) (holding_of (gate_of h a) (find_account n k (accounts_of (gate_of h a))))
+  pub column-none : h.count ≤ i → ◌≡◌ {A = Holding} (record { at = None; balance = pos 0 }) (holding_of (gate_of h a) (find_account n k (accounts_of (gate_of h a))))
   column-none l = held_none (gate_of h a) n k i (size_in a) few passed l
 
 -- ---- columns made a gate: the first i accounts are there

@@ -1,4 +1,5 @@
 -- Laws of the table's rows: what store leaves is the list of records with one of them set.
+use Rattle.std.specs.Prelude.{Option, Some, None}
 use mathlib.Core.Path.{◌≡◌, refl, sym, ap, ◌∙◌}
 use mathlib.Core.Logic.{◌≢◌}
 use mathlib.Core.List.{List, [], ◌∷◌, ◌++◌, map}
@@ -9,8 +10,6 @@ use borrow.Author.Tests.{eq-eqb, ne_eqb, eqb-true}
 use lib.ListN.{length, take, drop, get_or, set, length-set, length-append, take-append-drop}
 use lib.Seq.{get_or-set_same, get_or-set_other, ext_get_or}
 use Rattle.table.specs.declared.Record.{Record}
-use Rattle.lists.specs.declared.Found.{Found}
-use Rattle.lists.specs.declared.Found.TheVariants.{At, Nothing}
 use Rattle.lists.specs.Lists.{first_from}
 use Rattle.table.specs.Table.{Rows, record_at, records_of, nums_of, dates_of, rows_with, rows_from, Whole, has_receipt, find_record}
 use Rattle.lists.proofs.ListLaws.{length-tab, get_d-tab, map-tab, tab-same, tab-take, list-six, list-three, search-hit, search-miss, search-end, search-within, found-fits}
@@ -59,7 +58,7 @@ get_d-records t n i z h = get_d-tab n (record_at t) i z h
 
 -- ---- the first record with a receipt: a loop that has passed i records
 module _ (t : Rows) (n x i : ℕ) (passed : find_record x (records_of t n) ≡ first_from (has_receipt x) i (drop i (records_of t n))) where
-  pub receipt-here : i < n → get_or (get_or t.nums i []) 0 0 ≡ x → At i ≡ find_record x (records_of t n)
+  pub receipt-here : i < n → get_or (get_or t.nums i []) 0 0 ≡ x → Some i ≡ find_record x (records_of t n)
   receipt-here h e =
       sym (passed ∙ search-hit (has_receipt x) i (records_of t n) (record_at t i) (omega (arith, length-records t n))
       (ap (has_receipt x) (get_d-records t n i (record_at t i) h) ∙ eq-eqb _ _ e))
@@ -69,14 +68,14 @@ module _ (t : Rows) (n x i : ℕ) (passed : find_record x (records_of t n) ≡ f
       passed ∙ search-miss (has_receipt x) i (records_of t n) (record_at t i) (omega (arith, length-records t n))
       (ap (has_receipt x) (get_d-records t n i (record_at t i) h) ∙ ne_eqb _ _ d)
 
-  pub receipt-none : n ≤ i → Nothing ≡ find_record x (records_of t n)
+  pub receipt-none : n ≤ i → None ≡ find_record x (records_of t n)
   receipt-none h = sym (passed ∙ search-end (has_receipt x) i (records_of t n) (record_at t i) (omega (arith, length-records t n)))
 
 pub receipt-start : (t : Rows) (n x : ℕ) → find_record x (records_of t n) ≡ first_from (has_receipt x) 0 (drop 0 (records_of t n))
 unfolding find_record
 receipt-start t n x = refl
 
-module _ (t : Rows) (n x i : ℕ) (f : Found) (e : f ≡ find_record x (records_of t n)) (h : f ≡ At i) where
+module _ (t : Rows) (n x i : ℕ) (f : Option ℕ) (e : f ≡ find_record x (records_of t n)) (h : f ≡ Some i) where
   pub receipt-within : i < n
   unfolding find_record
   receipt-within = omega (arith, search-within (has_receipt x) 0 (records_of t n) i (sym e ∙ h), length-records t n)

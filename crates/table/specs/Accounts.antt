@@ -1,5 +1,5 @@
 -- Document 01, "Gate": the accounts, each with a signed balance.
-use Rattle.std.specs.Prelude.{◌≡◌, Bool, ◌&&◌, List, [], ℕ, ◌+◌, ◌<◌, ◌≤◌, eqb, ℤ, pos, ◌+ℤ◌, ◌-ℤ◌, length, get_or, set, take}
+use Rattle.std.specs.Prelude.{◌≡◌, Bool, ◌&&◌, List, [], ℕ, ◌+◌, ◌<◌, ◌≤◌, eqb, ℤ, pos, ◌+ℤ◌, ◌-ℤ◌, length, get_or, set, take, Option, Some, None}
 use Rattle.std.specs.Int.Signed.{mag}
 use Rattle.days.specs.declared.calendar.Day.{Day}
 use Rattle.fields.specs.declared.number.Number.{Number}
@@ -7,8 +7,6 @@ use Rattle.fields.specs.Number.{same_number}
 use Rattle.table.specs.declared.Account.{Account}
 use Rattle.table.specs.declared.Gate.{Gate}
 use Rattle.table.specs.declared.accounts.Holding.{Holding}
-use Rattle.lists.specs.declared.Found.{Found}
-use Rattle.lists.specs.declared.Found.TheVariants.{At, Nothing}
 use Rattle.lists.specs.Lists.{first_from}
 use Rattle.table.specs.Table.{Rows, Whole, SameLengths}
 
@@ -21,7 +19,7 @@ abbrev pub accounts_of : Gate → List Account
 accounts_of g = take g.count g.accounts
 
 -- a lookup takes the first account that fits
-unfoldable pub find_account : Number → ℕ → List Account → Found
+unfoldable pub find_account : Number → ℕ → List Account → Option ℕ
 find_account n k l = first_from (is_account n k) 0 l
 
 abbrev pub no_account : Account
@@ -31,11 +29,11 @@ abbrev pub balance_at : Gate → ℕ → ℤ
 balance_at g i = (get_or g.accounts i no_account).balance
 
 -- what a lookup tells: the account's place and its balance, or nothing and 0
-abbrev pub balance_of : Gate → Found → ℤ
-balance_of g Nothing = pos 0
-balance_of g (At i) = balance_at g i
+abbrev pub balance_of : Gate → Option ℕ → ℤ
+balance_of g None = pos 0
+balance_of g (Some i) = balance_at g i
 
-abbrev pub holding_of : Gate → Found → Holding
+abbrev pub holding_of : Gate → Option ℕ → Holding
 holding_of g f = record { at = f; balance = balance_of g f }
 
 abbrev pub with_balance : Account → ℤ → Account

@@ -1,11 +1,10 @@
 -- Document 01, "Gate": the payment table, lent as three rows of one length. Record i has six numbers, the bytes of its account's number, and three dates.
-use Rattle.std.specs.Prelude.{Bool, ◌&&◌, ◌≡◌, List, [], ◌∷◌, ◌++◌, map, ℕ, ◌<◌, ◌≤◌, eqb, length, drop, get_or, set}
+use Rattle.std.specs.Prelude.{Bool, ◌&&◌, ◌≡◌, List, [], ◌∷◌, ◌++◌, map, ℕ, ◌<◌, ◌≤◌, eqb, length, drop, get_or, set, Option}
 use Rattle.texts.specs.Lists.{eq_list}
 use Rattle.fields.specs.declared.number.Number.{Number}
 use Rattle.fields.specs.Number.{no_number, same_number}
 use Rattle.dates.specs.Date.{empty_date}
 use Rattle.table.specs.declared.Record.{Record}
-use Rattle.lists.specs.declared.Found.{Found}
 use Rattle.lists.specs.Lists.{tab, first_from}
 
 -- the states of a record
@@ -87,7 +86,7 @@ rows_from t rs =
 abbrev pub has_receipt : ℕ → Record → Bool
 has_receipt x r = eqb r.receipt x
 
-unfoldable pub find_record : ℕ → List Record → Found
+unfoldable pub find_record : ℕ → List Record → Option ℕ
 find_record x rs = first_from (has_receipt x) 0 rs
 
 -- whether a record is of this number, type, amount and date: the one comparison of a payment with its record (documents 01, "Registry", and 02, [3])

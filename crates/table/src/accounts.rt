@@ -5,12 +5,11 @@ ghost use Rattle.table.specs.Accounts.{is_account};
 
 use crate::Account;
 use fields::number::Number;
-use lists::Found;
 
 // An account that was looked for: its place and its balance, or nothing and 0.
 #[derive(Clone, Copy)]
 pub struct Holding {
-    pub at: Found,
+    pub at: Option<usize>,
     pub balance: i64,
 }
 

@@ -6,7 +6,6 @@ ghost use Rattle.table.specs.Columns.{accounts_in, gate_of, head_of, counted_hea
 use crate::accounts::Holding;
 use crate::{Account, Gate, Head, accounts};
 use fields::number::Number;
-use lists::Found;
 
 // The account at i.
 pub fn account_at(
@@ -49,14 +48,14 @@ pub fn look_up(
         let a = account_at(names, keys, balances, i);
         if accounts::is_account(n, kind, a) {
             return Holding {
-                at: Found::At(i),
+                at: Some(i),
                 balance: a.balance,
             };
         }
         i += 1;
     }
     Holding {
-        at: Found::Nothing,
+        at: None,
         balance: 0,
     }
 }
@@ -69,7 +68,7 @@ pub fn find_account(
     h: Head,
     n: Number,
     kind: u64,
-) -> Found
+) -> Option<usize>
     requires { h.count ≤ 256 }
     ensures { result ≡ find_account n kind (accounts_of (gate_of h (columns_of names.now keys.now balances.now))) }
 {

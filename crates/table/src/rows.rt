@@ -5,7 +5,6 @@ ghost use Rattle.table.specs.Lent.{lent};
 
 use crate::Record;
 use fields::number::Number;
-use lists::Found;
 
 // The record of these numbers, account number and dates.
 fn record_of(w: [u64; 6], bytes: [u8; 30], d: [[u8; 19]; 3]) -> Record
@@ -76,16 +75,16 @@ pub fn find_record(
     dates: &[[[u8; 19]; 3]],
     used: usize,
     receipt: u64,
-) -> Found
+) -> Option<usize>
     requires { used ≤ length nums.now }
     ensures { result ≡ find_record receipt (records_of (lent nums.now numbers.now dates.now) used) }
 {
     let mut i: usize = 0;
     while i < used {
         if nums[i][0] == receipt {
-            return Found::At(i);
+            return Some(i);
         }
         i += 1;
     }
-    Found::Nothing
+    None
 }

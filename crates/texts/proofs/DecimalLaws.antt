@@ -1,4 +1,5 @@
 -- Numbers as writers give them: over the width k, without leading zeros, read back, and written at a cursor.
+use Rattle.std.specs.Prelude.{Some}
 use Prim.Native.Nat.{ℕ, zero, suc, ◌+◌, ◌-◌, ◌*◌, ◌^◌, ◌/◌, ◌%◌, ◌≤◌, ◌<◌}
 use native.Mathlib.Numerals.{sub-one}
 use native.Mathlib.Nat.{le_refl, le_trans, not-suc-le-zero, pow-suc, pow-le-pow_right, not-le_of_lt, lt_of_not-le, mul-le-mul_right}
@@ -10,7 +11,6 @@ use lib.ListN.{length, get_or, set, take, drop, replicate, length-append, length
 use lib.Seq.{take_all, get_or-set_same}
 use lib.Dec.{eqb, leb, lit<}
 use borrow.Author.Tests.{le-leb, lt-ltb, eqb-true, eqb-false, leb-true}
-use Rattle.texts.specs.declared.digits.Digits.TheVariants.{Value}
 use Rattle.texts.specs.Lists.{every, find, written, cursor_after}
 use Rattle.texts.specs.Digits.{is_digit, value_after, digits_read, within, range_read, lead_zeros, drop_zeros, fixed, decimal}
 use Rattle.texts.proofs.ListLaws.{drop-stored}
@@ -99,7 +99,7 @@ zeros-some (b ∷ (c ∷ s)) h =
     pick-drop (eqb b 48) (λ t. 1 ≤ length t) (lead_zeros (c ∷ s)) (b ∷ (c ∷ s)) (λ e. zeros-some (c ∷ s) (omega arith)) (λ e. omega arith)
 
 -- a number below 10 ^ k that fits 64 bits is read back from its digits, in a field of k
-pub digits-again : (k n : ℕ) → 0 < k → n < 10 ^ k → n < 2 ^ 64 → digits_read k (decimal n) ≡ Value n
+pub digits-again : (k n : ℕ) → 0 < k → n < 10 ^ k → n < 2 ^ 64 → digits_read k (decimal n) ≡ Some n
 unfolding decimal digits_read
 digits-again k n p h f =
     let v : value_after 0 (drop_zeros (fixed 20 n)) ≡ n = zeros-value (fixed 20 n) ∙ fixed-value 20 n (omega arith) in
@@ -108,7 +108,7 @@ digits-again k n p h f =
     let o : 1 ≤ length (drop_zeros (fixed 20 n)) = zeros-some (fixed 20 n) (rw (fixed-length 20 n) (omega arith)) in
     simp (v, d, le-leb _ _ l, le-leb _ _ o, lt-ltb _ _ f)
 
-pub fixed-again : (k n : ℕ) → 0 < k → n < 10 ^ k → n < 2 ^ 64 → digits_read k (fixed k n) ≡ Value n
+pub fixed-again : (k n : ℕ) → 0 < k → n < 10 ^ k → n < 2 ^ 64 → digits_read k (fixed k n) ≡ Some n
 unfolding digits_read
 fixed-again k n p h f = simp (fixed-value k n h, fixed-digits k n, fixed-length k n, le-leb 1 k p, le-leb k k (le_refl k), lt-ltb n (2 ^ 64) f)
 
@@ -163,7 +163,7 @@ unfolding decimal
 decimal-most k n p h f = zeros-length k (fixed 20 n) p (fixed-digits 20 n) (rw (fixed-value 20 n (omega arith)) h)
 
 -- a value in the range is read back from its digits
-pub range-again : (k low high v : ℕ) → 0 < k → v < 10 ^ k → v < 2 ^ 64 → within low high v ≡ true → range_read k low high (decimal v) ≡ Value v
+pub range-again : (k low high v : ℕ) → 0 < k → v < 10 ^ k → v < 2 ^ 64 → within low high v ≡ true → range_read k low high (decimal v) ≡ Some v
 unfolding range_read
 range-again k low high v p h f w = rw (digits-again k v p h f) (simp w)
 

@@ -1,4 +1,5 @@
 -- Laws of digit fields, over every width.
+use Rattle.std.specs.Prelude.{Option, Some, None}
 use Prim.Native.Nat.{ℕ, zero, suc, ◌+◌, ◌-◌, ◌*◌, ◌^◌, ◌/◌, ◌%◌, ◌≤◌, ◌<◌}
 use native.Mathlib.Nat.{le_refl, le_trans, not-suc-le-zero, le_of_suc-le-suc, pow-suc, pow-le-pow_right, mul-le-mul_right}
 use native.Mathlib.Numerals.{sub-one}
@@ -11,8 +12,6 @@ use lib.Dec.{leb, ltb, lit<}
 use mir.Syntax.{w64}
 use mir.Val.{Fits}
 use borrow.Author.Tests.{le-leb, lt-leb, lt-ltb, le-ltb, eq-eqb, ne_eqb, leb-true, leb-false, ltb-true, ltb-false, not-true, not-false}
-use Rattle.texts.specs.declared.digits.Digits.{Digits}
-use Rattle.texts.specs.declared.digits.Digits.TheVariants.{Value, Malformed}
 use Rattle.texts.specs.Lists.{every}
 use Rattle.texts.specs.Digits.{is_digit, value_after, digits_read, within, bounded, range_read, lead_zeros, fixed}
 use Rattle.texts.proofs.Tests.{and_left, and_right}
@@ -48,27 +47,27 @@ module _ (v d : ℕ) where
 
 -- ---- digits_read, at each way out of a reader. A reader at i with `every is_digit s ≡ every is_digit (drop i s)` has passed digits only.
 module _ (most : ℕ) (s : List ℕ) where
-  pub read-empty : length s ≡ 0 → Malformed ≡ digits_read most s
+  pub read-empty : length s ≡ 0 → None ≡ digits_read most s
   unfolding digits_read
   read-empty e = rw e
 
-  pub read-long : most < length s → Malformed ≡ digits_read most s
+  pub read-long : most < length s → None ≡ digits_read most s
   unfolding digits_read
   read-long h = simp (lt-leb _ _ h, and-false)
 
-  read-bad : every is_digit s ≡ false → Malformed ≡ digits_read most s
+  read-bad : every is_digit s ≡ false → None ≡ digits_read most s
   unfolding digits_read
   read-bad e = simp (e, and-false)
 
-  pub read-big : 2 ^ 64 ≤ value_after 0 s → Malformed ≡ digits_read most s
+  pub read-big : 2 ^ 64 ≤ value_after 0 s → None ≡ digits_read most s
   unfolding digits_read
   read-big h = simp (le-ltb _ _ h, and-false)
 
   module _ (i : ℕ) (passed : every is_digit s ≡ every is_digit (drop i s)) (h : i < length s) where
-    pub read_low : get_or s i 0 < 48 → Malformed ≡ digits_read most s
+    pub read_low : get_or s i 0 < 48 → None ≡ digits_read most s
     read_low l = read-bad (every-fails is_digit s i passed h (simp (lt-leb _ _ l)))
 
-    pub read-high : 57 < get_or s i 0 → Malformed ≡ digits_read most s
+    pub read-high : 57 < get_or s i 0 → None ≡ digits_read most s
     read-high l = read-bad (every-fails is_digit s i passed h (simp (lt-leb _ _ l, and-false)))
 
     pub pass-digit : 48 ≤ get_or s i 0 → get_or s i 0 ≤ 57 → every is_digit s ≡ every is_digit (drop (i + 1) s)
@@ -78,14 +77,14 @@ module _ (most : ℕ) (s : List ℕ) where
     pub pass-value : value_after 0 s ≡ value_after (v * 10 + (get_or s i 0 - 48)) (drop (i + 1) s)
     pass-value = passed ∙ simp (drop-next s i h)
 
-    pub read-over : (t : Bool) → t ≡ ltb (v * 10 + (get_or s i 0 - 48)) (2 ^ 64) → not t ≡ true → Malformed ≡ digits_read most s
+    pub read-over : (t : Bool) → t ≡ ltb (v * 10 + (get_or s i 0 - 48)) (2 ^ 64) → not t ≡ true → None ≡ digits_read most s
     read-over t e n =
         let g : v * 10 + (get_or s i 0 - 48) ≤ value_after 0 s = rw pass-value (value_grows (v * 10 + (get_or s i 0 - 48)) (drop (i + 1) s)) in
         let l : 2 ^ 64 ≤ v * 10 + (get_or s i 0 - 48) = ltb-false _ _ (sym e ∙ not-true t n) in
         read-big (omega arith)
 
   pub read-value : (i v : ℕ) → every is_digit s ≡ every is_digit (drop i s) → value_after 0 s ≡ value_after v (drop i s)
-      → length s ≤ i → v < 2 ^ 64 → (length s ≡ 0 → ⊥) → length s ≤ most → Value v ≡ digits_read most s
+      → length s ≤ i → v < 2 ^ 64 → (length s ≡ 0 → ⊥) → length s ≤ most → Some v ≡ digits_read most s
   unfolding digits_read
   read-value i v d e l f n m =
       let w : value_after 0 s ≡ v = e ∙ simp (drop_of_length-le s l) in
@@ -149,7 +148,7 @@ value-most v (b ∷ s) h =
     let m : (v * 10 + (b - 48) + 1) * 10 ^ length s ≤ ((v + 1) * 10) * 10 ^ length s = mul-le-mul_right (10 ^ length s) (omega arith) in
     rw pow-suc (omega (arith, m, value-most (v * 10 + (b - 48)) s (and_right (is_digit b) (every is_digit s) h)))
 
-cond_value : (t : Bool) (x v : ℕ) → cond t (Value x) Malformed ≡ Value v → (t ≡ true) × (x ≡ v)
+cond_value : (t : Bool) (x v : ℕ) → cond t (Some x) None ≡ Some v → (t ≡ true) × (x ≡ v)
 cond_value true x v e = (refl, cc)
 cond_value false x v e = let z : ◌≡◌ {A = ℕ} 0 1 = cc in absurd (omega arith)
 
@@ -161,7 +160,7 @@ pub record Held (k : ℕ) (s : List ℕ) (v : ℕ) : Type 0 where
   pub value : value_after 0 s ≡ v
   pub below : v < 10 ^ length s
 
-pub digits-held : (k : ℕ) (s : List ℕ) (v : ℕ) → Value v ≡ digits_read k s → Held k s v
+pub digits-held : (k : ℕ) (s : List ℕ) (v : ℕ) → Some v ≡ digits_read k s → Held k s v
 unfolding digits_read
 digits-held k s v e =
     let fit : Bool = every is_digit s && ltb (value_after 0 s) (2 ^ 64) in
@@ -177,7 +176,7 @@ digits-held k s v e =
     }
 
 -- a field of k digits holds less than 10 ^ k
-pub digits-below : (k : ℕ) (s : List ℕ) (v : ℕ) → Value v ≡ digits_read k s → v < 10 ^ k
+pub digits-below : (k : ℕ) (s : List ℕ) (v : ℕ) → Some v ≡ digits_read k s → v < 10 ^ k
 digits-below k s v e =
     let h : Held k s v = digits-held k s v e in
     let w : 10 ^ length s ≤ 10 ^ k = pow-le-pow_right (lit< tt) h.most in
@@ -191,29 +190,29 @@ module _ (low high v : ℕ) where
   pub not-under : low ≤ v → leb v high ≡ within low high v
   not-under h = simp (le-leb _ _ h)
 
-module _ (most low high : ℕ) (s : List ℕ) (r : Digits) (read : r ≡ digits_read most s) where
-  pub range_none : r ≡ Malformed → Malformed ≡ range_read most low high s
+module _ (most low high : ℕ) (s : List ℕ) (r : Option ℕ) (read : r ≡ digits_read most s) where
+  pub range_none : r ≡ None → None ≡ range_read most low high s
   unfolding range_read
   range_none e = rw (← read, e)
 
-  module _ (v : ℕ) (e : r ≡ Value v) (t : Bool) (test : t ≡ within low high v) where
-    pub range-in : t ≡ true → Value v ≡ range_read most low high s
+  module _ (v : ℕ) (e : r ≡ Some v) (t : Bool) (test : t ≡ within low high v) where
+    pub range-in : t ≡ true → Some v ≡ range_read most low high s
     unfolding range_read
     range-in i = rw (← read, e, ← test, i)
 
-    pub range-out : t ≡ false → Malformed ≡ range_read most low high s
+    pub range-out : t ≡ false → None ≡ range_read most low high s
     unfolding range_read
     range-out i = rw (← read, e, ← test, i)
 
-bounded-value : (low high v : ℕ) (d : Digits) → Value v ≡ bounded low high d → (d ≡ Value v) × (within low high v ≡ true)
-bounded-value low high v Malformed e = let z : ◌≡◌ {A = ℕ} 0 1 = cc in absurd (omega arith)
-bounded-value low high v (Value w) e =
+bounded-value : (low high v : ℕ) (d : Option ℕ) → Some v ≡ bounded low high d → (d ≡ Some v) × (within low high v ≡ true)
+bounded-value low high v None e = let z : ◌≡◌ {A = ℕ} 0 1 = cc in absurd (omega arith)
+bounded-value low high v (Some w) e =
     let p = cond_value (within low high w) w v (sym e) in
     let q : w ≡ v = p.1 in
-    (ap Value q, rw (← q) p.0)
+    (ap Some q, rw (← q) p.0)
 
 -- a value that was read lies in the range
-pub range-within : (most low high : ℕ) (s : List ℕ) (v : ℕ) → Value v ≡ range_read most low high s → within low high v ≡ true
+pub range-within : (most low high : ℕ) (s : List ℕ) (v : ℕ) → Some v ≡ range_read most low high s → within low high v ≡ true
 unfolding range_read
 range-within most low high s v e = (bounded-value low high v (digits_read most s) e).1
 

@@ -1,7 +1,5 @@
 -- Document 01, "Fields": digit fields, held by value, over any width.
-use Rattle.std.specs.Prelude.{ℕ, zero, suc, ◌+◌, ◌-◌, ◌*◌, ◌/◌, ◌%◌, ◌^◌, List, [], ◌∷◌, ◌++◌, Bool, cond, ◌&&◌, length, drop, ltb, leb, eqb}
-use Rattle.texts.specs.declared.digits.Digits.{Digits}
-use Rattle.texts.specs.declared.digits.Digits.TheVariants.{Value, Malformed}
+use Rattle.std.specs.Prelude.{ℕ, zero, suc, ◌+◌, ◌-◌, ◌*◌, ◌/◌, ◌%◌, ◌^◌, List, [], ◌∷◌, ◌++◌, Bool, cond, ◌&&◌, length, drop, ltb, leb, eqb, Option, Some, None}
 use Rattle.texts.specs.Lists.{every}
 
 -- 48 to 57 are the digits 0 to 9
@@ -14,26 +12,26 @@ value_after before [] = before
 value_after before (b ∷ s) = value_after (before * 10 + (b - 48)) s
 
 -- 1 to `most` digits whose value fits 64 bits; leading zeros are read
-unfoldable pub digits_read : ℕ → List ℕ → Digits
+unfoldable pub digits_read : ℕ → List ℕ → Option ℕ
 digits_read most s =
-    cond (leb 1 (length s) && (leb (length s) most && (every is_digit s && ltb (value_after 0 s) (2 ^ 64)))) (Value (value_after 0 s)) Malformed
+    cond (leb 1 (length s) && (leb (length s) most && (every is_digit s && ltb (value_after 0 s) (2 ^ 64)))) (Some (value_after 0 s)) None
 
 -- whether a value lies from low to high
 abbrev pub within : ℕ → ℕ → ℕ → Bool
 within low high v = leb low v && leb v high
 
-abbrev pub bounded : ℕ → ℕ → Digits → Digits
-bounded low high Malformed = Malformed
-bounded low high (Value v) = cond (within low high v) (Value v) Malformed
+abbrev pub bounded : ℕ → ℕ → Option ℕ → Option ℕ
+bounded low high None = None
+bounded low high (Some v) = cond (within low high v) (Some v) None
 
 -- 1 to `most` digits whose value lies from low to high
-unfoldable pub range_read : ℕ → ℕ → ℕ → List ℕ → Digits
+unfoldable pub range_read : ℕ → ℕ → ℕ → List ℕ → Option ℕ
 range_read most low high s = bounded low high (digits_read most s)
 
 -- the fault number of a field whose own is `code`: 0 where it holds a value
-abbrev pub fault_of : ℕ → Digits → ℕ
-fault_of code Malformed = code
-fault_of code (Value v) = 0
+abbrev pub fault_of : ℕ → Option ℕ → ℕ
+fault_of code None = code
+fault_of code (Some v) = 0
 
 -- the k low digits of n, highest first
 unfoldable pub fixed : ℕ → ℕ → List ℕ

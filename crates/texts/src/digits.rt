@@ -5,13 +5,6 @@ ghost use Rattle.texts.specs.Lists.{written, cursor_after};
 
 use crate::out;
 
-// What a field of digits holds.
-#[derive(Clone, Copy)]
-pub enum Digits {
-    Value(u64),
-    Malformed,
-}
-
 // Whether a value with one digit more fits 64 bits. Of a small value no quotient is made.
 fn more_fits(value: u64, d: u64) -> bool
     requires { d < 10 }
@@ -24,33 +17,33 @@ fn more_fits(value: u64, d: u64) -> bool
 }
 
 // The value of a field of 1 to `most` digits that fits 64 bits.
-pub fn read_digits(s: &[u8], most: usize) -> Digits
+pub fn read_digits(s: &[u8], most: usize) -> Option<u64>
     ensures { result ≡ digits_read most s.now }
 {
     if s.len() == 0 {
-        return Digits::Malformed;
+        return None;
     }
     if most < s.len() {
-        return Digits::Malformed;
+        return None;
     }
     let mut value: u64 = 0;
     let mut i = 0;
     while i < s.len() {
         let b = s[i];
         if b < 48 {
-            return Digits::Malformed;
+            return None;
         }
         if 57 < b {
-            return Digits::Malformed;
+            return None;
         }
         let d = (b - 48) as u64;
         if !more_fits(value, d) {
-            return Digits::Malformed;
+            return None;
         }
         value = value * 10 + d;
         i += 1;
     }
-    Digits::Value(value)
+    Some(value)
 }
 
 // Whether a value lies from low to high.
@@ -64,16 +57,16 @@ pub fn is_within(low: u64, high: u64, v: u64) -> bool
 }
 
 // The value of a field of 1 to `most` digits that lies from low to high.
-pub fn read_range(s: &[u8], most: usize, low: u64, high: u64) -> Digits
+pub fn read_range(s: &[u8], most: usize, low: u64, high: u64) -> Option<u64>
     ensures { result ≡ range_read most low high s.now }
 {
-    let Digits::Value(v) = read_digits(s, most) else {
-        return Digits::Malformed;
+    let Some(v) = read_digits(s, most) else {
+        return None;
     };
     if is_within(low, high, v) {
-        Digits::Value(v)
+        Some(v)
     } else {
-        Digits::Malformed
+        None
     }
 }
 

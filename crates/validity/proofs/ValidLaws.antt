@@ -1,4 +1,5 @@
 -- Row 68: a record's account, the records in use, and the lent table, test by test.
+use Rattle.std.specs.Prelude.{Option}
 use mathlib.Core.Path.{◌≡◌, sym, ap, ◌∙◌}
 use mathlib.Core.Bool.{Bool, true, false, not, ◌&&◌, and-false, and_assoc}
 use mathlib.Core.List.{[]}
@@ -13,7 +14,6 @@ use Rattle.texts.proofs.Tests.{and_left, and_right}
 use Rattle.table.specs.declared.Account.{Account}
 use Rattle.table.specs.declared.Gate.{Gate}
 use Rattle.table.specs.declared.Record.{Record}
-use Rattle.lists.specs.declared.Found.{Found}
 use Rattle.lists.specs.Lent.{Lent}
 use Rattle.lists.specs.Lists.{is_found, all_from}
 use Rattle.table.specs.Table.{Rows, record_from, record_at, records_of, Whole}
@@ -32,7 +32,7 @@ module _ (at count : ℕ) (n : Number) (k : ℕ) (a : Account) where
   guess-is h t e = e ∙ rw (lt-ltb _ _ h)
 
 -- what was found is known
-pub known_is : (f x : Found) (r : Bool) → f ≡ x → r ≡ is_found f → r ≡ is_found x
+pub known_is : (f x : Option ℕ) (r : Bool) → f ≡ x → r ≡ is_found f → r ≡ is_found x
 known_is f x r e q = q ∙ ap is_found e
 
 -- an account in use that fits is enough

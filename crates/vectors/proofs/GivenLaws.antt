@@ -1,33 +1,30 @@
 -- Laws of what a line gives.
+use Rattle.std.specs.Prelude.{Option, Some, None}
 use Prim.Native.Nat.{ℕ}
 use mathlib.Core.Path.{◌≡◌, sym, ap, ◌∙◌}
 use mathlib.Core.List.{List}
 use lib.ListN.{length, take, replicate}
-use Rattle.texts.specs.declared.digits.Digits.{Digits}
-use Rattle.texts.specs.declared.digits.Digits.TheVariants.{Value, Malformed}
 use Rattle.texts.specs.Lists.{written}
 use Rattle.texts.specs.Digits.{digits_read}
 use Rattle.days.specs.declared.calendar.Day.{Day}
-use Rattle.days.specs.declared.calendar.DayRead.{DayRead}
-use Rattle.days.specs.declared.calendar.DayRead.TheVariants.{Good, NoDate}
 use Rattle.days.specs.Calendar.{day_read}
 use Rattle.table.specs.declared.Gate.{Gate}
 use Rattle.vectors.specs.Given.{field_of, value_or0, value_given, day_or0, day_given, number_given, date_given, no_account, no_accounts}
 
 module _ (s f : List ℕ) (ef : f ≡ field_of s) where
-  pub value-good : (d : Digits) (v : ℕ) → d ≡ digits_read 20 f → d ≡ Value v → v ≡ value_given s
+  pub value-good : (d : Option ℕ) (v : ℕ) → d ≡ digits_read 20 f → d ≡ Some v → v ≡ value_given s
   unfolding value_given
   value-good d v ed e = ap value_or0 (sym e ∙ ed ∙ ap (digits_read 20) ef)
 
-  pub value_none : (d : Digits) → d ≡ digits_read 20 f → d ≡ Malformed → 0 ≡ value_given s
+  pub value_none : (d : Option ℕ) → d ≡ digits_read 20 f → d ≡ None → 0 ≡ value_given s
   unfolding value_given
   value_none d ed e = ap value_or0 (sym e ∙ ed ∙ ap (digits_read 20) ef)
 
-  pub day-good : (d : DayRead) (x : Day) → d ≡ day_read f → d ≡ Good x → x ≡ day_given s
+  pub day-good : (d : Option Day) (x : Day) → d ≡ day_read f → d ≡ Some x → x ≡ day_given s
   unfolding day_given
   day-good d x ed e = ap day_or0 (sym e ∙ ed ∙ ap day_read ef)
 
-  pub day-none : (d : DayRead) → d ≡ day_read f → d ≡ NoDate → record { year = 0; month = 0; day = 0 } ≡ day_given s
+  pub day-none : (d : Option Day) → d ≡ day_read f → d ≡ None → record { year = 0; month = 0; day = 0 } ≡ day_given s
   unfolding day_given
   day-none d ed e = ap day_or0 (sym e ∙ ed ∙ ap day_read ef)
 

@@ -1,13 +1,9 @@
 -- What a line of vectors gives: the values that its fields stand for, in range or not.
-use Rattle.std.specs.Prelude.{ℕ, List, pos, length, take, replicate}
-use Rattle.texts.specs.declared.digits.Digits.{Digits}
-use Rattle.texts.specs.declared.digits.Digits.TheVariants.{Value, Malformed}
+use Rattle.std.specs.Prelude.{ℕ, List, pos, length, take, replicate, Option, Some, None}
 use Rattle.fields.specs.declared.number.Number.{Number}
 use Rattle.texts.specs.Lists.{find, written}
 use Rattle.texts.specs.Digits.{digits_read}
 use Rattle.days.specs.declared.calendar.Day.{Day}
-use Rattle.days.specs.declared.calendar.DayRead.{DayRead}
-use Rattle.days.specs.declared.calendar.DayRead.TheVariants.{Good, NoDate}
 use Rattle.days.specs.Calendar.{day_read}
 use Rattle.table.specs.declared.Account.{Account}
 use Rattle.table.specs.declared.Gate.{Gate}
@@ -17,17 +13,17 @@ abbrev pub field_of : List ℕ → List ℕ
 field_of s = take (find 32 s) s
 
 -- the value of up to twenty digits, or 0
-abbrev pub value_or0 : Digits → ℕ
-value_or0 Malformed = 0
-value_or0 (Value v) = v
+abbrev pub value_or0 : Option ℕ → ℕ
+value_or0 None = 0
+value_or0 (Some v) = v
 
 unfoldable pub value_given : List ℕ → ℕ
 value_given s = value_or0 (digits_read 20 (field_of s))
 
 -- a day, or zeros
-abbrev pub day_or0 : DayRead → Day
-day_or0 NoDate = record { year = 0; month = 0; day = 0 }
-day_or0 (Good d) = d
+abbrev pub day_or0 : Option Day → Day
+day_or0 None = record { year = 0; month = 0; day = 0 }
+day_or0 (Some d) = d
 
 unfoldable pub day_given : List ℕ → Day
 day_given s = day_or0 (day_read (field_of s))

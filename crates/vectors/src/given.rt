@@ -3,10 +3,9 @@ ghost use Rattle.std.specs.Prelude.{◌≡◌};
 ghost use Rattle.vectors.specs.Given.{value_given, day_given, number_given, date_given, no_accounts};
 
 use days::calendar;
-use days::calendar::{Day, DayRead};
+use days::calendar::Day;
 use fields::number::Number;
 use table::{Account, Gate};
-use texts::digits::Digits;
 use texts::{digits, out, scan};
 
 // The value of up to twenty digits; 0 where there are none.
@@ -15,8 +14,8 @@ pub fn value(s: &[u8]) -> u64
 {
     let d = digits::read_digits(scan::before_byte(s, b' '), 20);
     match d {
-        Digits::Value(v) => v,
-        Digits::Malformed => 0,
+        Some(v) => v,
+        None => 0,
     }
 }
 
@@ -26,8 +25,8 @@ pub fn day(s: &[u8]) -> Day
 {
     let r = calendar::read_day(scan::before_byte(s, b' '));
     match r {
-        DayRead::Good(d) => d,
-        DayRead::NoDate => Day {
+        Some(d) => d,
+        None => Day {
             year: 0,
             month: 0,
             day: 0,

@@ -1,4 +1,5 @@
 -- Laws of a session's turn on the lines of a load: their fields, and what they do.
+use Rattle.std.specs.Prelude.{Some}
 use Prim.Native.Nat.{ℕ, suc, ◌+◌, ◌≤◌}
 use native.Mathlib.Omega.{arith}
 use mathlib.Core.Path.{◌≡◌, refl, ◌∙◌}
@@ -6,7 +7,6 @@ use mathlib.Core.List.{List, [], ◌∷◌, ◌++◌}
 use mathlib.Core.Bool.{true}
 use lib.ListN.{length, replicate}
 use lib.Seq.{drop-append-add}
-use Rattle.texts.specs.declared.digits.Digits.TheVariants.{Value}
 use Rattle.texts.specs.Lists.{every, find, eq_list}
 use Rattle.texts.specs.Digits.{digits_read, decimal}
 use Rattle.texts.proofs.FindLaws.{find-seam}
@@ -76,5 +76,5 @@ module _ (n : Number) (kind kopecks : ℕ) (number : is_number n ≡ true) (kind
   unfolding order_turn draw_turn eq_list
   draw-turn x t =
       let most : kopecks ≤ 999999999 = within-high 1 999999999 kopecks amount in
-      let read : digits_read 15 (decimal kopecks) ≡ Value kopecks = digits-again 15 kopecks (omega arith) (omega arith) (omega arith) in
+      let read : digits_read 15 (decimal kopecks) ≡ Some kopecks = digits-again 15 kopecks (omega arith) (omega arith) (omega arith) in
       rw (draw-fields, read, draw-fields, number-again n number, kind-again kind kinded)

@@ -1,4 +1,5 @@
 -- Laws of a request that the agent writes: the ways out of a writing.
+use Rattle.std.specs.Prelude.{Option, Some, None}
 use Prim.Native.Nat.{ℕ, ◌≤◌, ◌<◌}
 use mathlib.Core.Path.{◌≡◌, ◌∙◌}
 use mathlib.Core.Bool.{Bool, true, false, not, ◌&&◌, and-true}
@@ -13,8 +14,6 @@ use Rattle.fields.specs.Number.{is_number}
 use Rattle.payments.specs.declared.Action.{Action}
 use Rattle.message.specs.declared.request.Asked.{Asked as Request}
 use Rattle.message.specs.RequestText.{is_asked, request_text}
-use Rattle.lists.specs.declared.Found.{Found}
-use Rattle.lists.specs.declared.Found.TheVariants.{At, Nothing}
 use Rattle.book.specs.declared.Book.{Book}
 use Rattle.book.specs.declared.Entry.{Entry}
 use Rattle.book.specs.Entries.{BookRows, no_entry, entry_at, entries_of, book_with, find_entry}
@@ -27,14 +26,14 @@ use Rattle.writing.specs.Writing.{Writing, write_at, write_request, write_check}
 module _ (b : Book) (t : BookRows) (i : ℕ) (a : Action) (reason : ℕ) (out : List ℕ) (e : Entry) (ee : e ≡ entry_at t i) (o : Bool) (eo : o ≡ is_open b a e)
     (ready : ReadyBook b t) (l : i < b.used) where
   pub at-closed : (rows : BookRows) (left : List ℕ) → not o ≡ true → rows ≡ t → left ≡ out
-      → ◌≡◌ {A = Writing} (record { code = 63; rows = rows; out = left; size = 0 }) (write_at b t a reason out (At i))
+      → ◌≡◌ {A = Writing} (record { code = 63; rows = rows; out = left; size = 0 }) (write_at b t a reason out (Some i))
   unfolding write_at
   at-closed rows left h er el = rw (get_d-entries t b.used i no_entry l, ← ee, ← eo, not-true o h, er, el)
 
   pub at_open : (q : Request) (e' : Entry) (rows : BookRows) (left : List ℕ) (size : ℕ) → not o ≡ false
       → q ≡ request_of a e reason → size ≡ cursor_after out 0 (request_text q) → left ≡ written out 0 (request_text q)
       → e' ≡ written_entry a e → rows ≡ book_with t i e'
-      → ◌≡◌ {A = Writing} (record { code = 0; rows = rows; out = left; size = size }) (write_at b t a reason out (At i))
+      → ◌≡◌ {A = Writing} (record { code = 0; rows = rows; out = left; size = size }) (write_at b t a reason out (Some i))
   unfolding write_at
   at_open q e' rows left size h eq es el ew er =
       rw (get_d-entries t b.used i no_entry l, ← ee, ← eo, not-false o h, ← eq, ← ew, book-set t b.used ready.whole i e' l, es, el, er)
@@ -56,13 +55,13 @@ module _ (b : Book) (t : BookRows) (a : Action) (receipt reason : ℕ) (out : Li
         unfolding write_request
         no-forms n = rw (← eg, not-false g h, le-leb _ _ l, ← ef, not-true f n, er, el)
 
-        pub no-entry : (p : Found) → not f ≡ false → p ≡ find_entry receipt (entries_of t b.used) → p ≡ Nothing
+        pub no-entry : (p : Option ℕ) → not f ≡ false → p ≡ find_entry receipt (entries_of t b.used) → p ≡ None
             → ◌≡◌ {A = Writing} (record { code = 62; rows = rows; out = left; size = 0 }) (write_request b t a receipt reason out)
         unfolding write_request write_at
         no-entry p n ep e = rw (← eg, not-false g h, le-leb _ _ l, ← ef, not-false f n, ← ep, e, er, el)
 
-  pub one-entry : (f : Bool) (p : Found) (i : ℕ) (w : Writing) → not g ≡ false → 512 ≤ length out → f ≡ forms_good a receipt reason → not f ≡ false
-      → p ≡ find_entry receipt (entries_of t b.used) → p ≡ At i → w ≡ write_at b t a reason out (At i) → w ≡ write_request b t a receipt reason out
+  pub one-entry : (f : Bool) (p : Option ℕ) (i : ℕ) (w : Writing) → not g ≡ false → 512 ≤ length out → f ≡ forms_good a receipt reason → not f ≡ false
+      → p ≡ find_entry receipt (entries_of t b.used) → p ≡ Some i → w ≡ write_at b t a reason out (Some i) → w ≡ write_request b t a receipt reason out
   unfolding write_request
   one-entry f p i w h l ef n ep e q = q ∙ rw (← eg, not-false g h, le-leb _ _ l, ← ef, not-false f n, ← ep, e)
 

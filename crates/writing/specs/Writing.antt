@@ -1,5 +1,5 @@
 -- Document 01, "Agent" and the rows 68, 50, 60, 62 and 63: the agent writes a request.
-use Rattle.std.specs.Prelude.{ℕ, List, cond, ◌&&◌, leb, length, get_or, set}
+use Rattle.std.specs.Prelude.{ℕ, List, cond, ◌&&◌, leb, length, get_or, set, Option, Some, None}
 use Rattle.fields.specs.declared.number.Number.{Number}
 use Rattle.texts.specs.Lists.{written, cursor_after}
 use Rattle.fields.specs.Amount.{is_amount}
@@ -7,8 +7,6 @@ use Rattle.fields.specs.Codes.{is_kind}
 use Rattle.fields.specs.Number.{is_number}
 use Rattle.payments.specs.declared.Action.{Action}
 use Rattle.message.specs.RequestText.{request_text}
-use Rattle.lists.specs.declared.Found.{Found}
-use Rattle.lists.specs.declared.Found.TheVariants.{At, Nothing}
 use Rattle.book.specs.declared.Book.{Book}
 use Rattle.book.specs.Entries.{BookRows, no_entry, entries_of, book_from, find_entry}
 use Rattle.book_validity.specs.BookValid.{book_good}
@@ -32,9 +30,9 @@ abbrev pub wrote : BookRows → List ℕ → List ℕ → Writing
 wrote t out text = record { code = 0; rows = t; out = written out 0 text; size = cursor_after out 0 text }
 
 -- ---- payment, status and cancel
-unfoldable pub write_at : Book → BookRows → Action → ℕ → List ℕ → Found → Writing
-write_at b t a reason out Nothing = unwritten 62 t out
-write_at b t a reason out (At i) =
+unfoldable pub write_at : Book → BookRows → Action → ℕ → List ℕ → Option ℕ → Writing
+write_at b t a reason out None = unwritten 62 t out
+write_at b t a reason out (Some i) =
     let e = get_or (entries_of t b.used) i no_entry in
     cond (is_open b a e)
     (wrote (book_from t (set (entries_of t b.used) i (written_entry a e))) out (request_text (request_of a e reason)))

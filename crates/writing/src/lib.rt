@@ -2,7 +2,6 @@
 // The agent writes a request.
 ghost use Rattle.std.specs.Prelude.{◌≡◌, ◌<◌};
 ghost use Rattle.payments.specs.declared.Action.TheVariants.{Payment, Status, Cancel};
-ghost use Rattle.lists.specs.declared.Found.TheVariants.{At};
 ghost use Rattle.book_validity.specs.BookValid.{ReadyBook};
 ghost use Rattle.writing.specs.Writing.{writing_of, write_at, write_request, write_check};
 ghost use Rattle.book.specs.Lent.{lent_book};
@@ -11,7 +10,6 @@ use book::{Book, rows};
 use book_validity::{find, valid};
 use daybook::Writing;
 use fields::number::Number;
-use lists::Found;
 use payments::Action;
 use request_writer::write;
 
@@ -67,8 +65,8 @@ pub(crate) fn write_for(
     }
     let found = find::find_entry(nums, numbers, dates, b, receipt);
     match found {
-        Found::Nothing => Writing { code: 62, size: 0 },
-        Found::At(i) => write_entry(nums, numbers, dates, b, i, a, reason, out),
+        None => Writing { code: 62, size: 0 },
+        Some(i) => write_entry(nums, numbers, dates, b, i, a, reason, out),
     }
 }
 

@@ -1,4 +1,5 @@
 -- What is sent is what was written: all of its bytes and no byte more, in every world. What was sent before stays before it, and no other step sends.
+use Rattle.std.specs.Prelude.{Some}
 use Prim.Native.Nat.{ℕ, ◌≤◌}
 use native.Mathlib.Omega.{arith}
 use mathlib.Core.Path.{◌≡◌, refl, sym, ap, ◌∙◌}
@@ -27,7 +28,6 @@ use Rattle.payments.specs.declared.Answer.{Answer}
 use Rattle.answers.specs.Answer.{answer_bytes}
 use Rattle.registry.specs.Registry.{registry_lines}
 use Rattle.registry.proofs.LinesGood.{lines-good}
-use Rattle.lists.specs.declared.Found.TheVariants.{At}
 use Rattle.table.specs.Table.{records_of}
 use Rattle.gate.specs.Deliver.{deliver}
 use Rattle.admission.specs.Delivery.{Delivery}
@@ -64,14 +64,14 @@ text-fits q dated = cond-elim (λ (xs : List ℕ). length xs ≤ 512) (is_asked 
 
 module _ (w : World) (a : Action) (receipt reason : ℕ) (out : List ℕ) where
   -- a writing that gave 0 found the receipt in the book
-  pub request-found : (writing w a receipt reason out).code ≡ 0 → (i : ℕ) × (find_entry receipt (entries_in w) ≡ At i)
+  pub request-found : (writing w a receipt reason out).code ≡ 0 → (i : ℕ) × (find_entry receipt (entries_in w) ≡ Some i)
   unfolding writing
   request-found =
-      write-cases w.book w.book_rows a receipt reason out (λ (k : Writing). k.code ≡ 0 → (i : ℕ) × (find_entry receipt (entries_in w) ≡ At i)) (λ code n z. absurd (n z))
+      write-cases w.book w.book_rows a receipt reason out (λ (k : Writing). k.code ≡ 0 → (i : ℕ) × (find_entry receipt (entries_in w) ≡ Some i)) (λ code n z. absurd (n z))
       (λ i good room forms e free z. (i, e))
 
   -- a payment, a status or a cancel is the text of its entry
-  pub request-sent : (i : ℕ) → find_entry receipt (entries_in w) ≡ At i → (writing w a receipt reason out).code ≡ 0
+  pub request-sent : (i : ℕ) → find_entry receipt (entries_in w) ≡ Some i → (writing w a receipt reason out).code ≡ 0
       → (writing w a receipt reason out).world.sent ≡ w.sent ++ (sent_request a receipt (request_text (request_of a (entry_in w i) reason)) ∷ [])
   unfolding writing request_of
   request-sent i found =

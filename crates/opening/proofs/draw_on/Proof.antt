@@ -11,7 +11,7 @@ returns c names keys eb = draw-unknown _ _ _ _ (search rules) (c.keep.ensures _)
 
 returns-2 : tie.Need-returns-then-not-is_amount
 returns-2 c names keys eb =
-    draw-amount _ _ _ _ _ c.in-At.is _ c.is_amount.ensures c.if-not-is_amount.true-raw (c.keep-then-not-is_amount.ensures _)
+    draw-amount _ _ _ _ _ c.in-Some.is _ c.is_amount.ensures c.if-not-is_amount.true-raw (c.keep-then-not-is_amount.ensures _)
 
 is-less-requires : tie.Need-is_less-requires
 is-less-requires c κs =
@@ -20,7 +20,7 @@ is-less-requires c κs =
 returns-3 : tie.Need-returns-then-is_less
 returns-3 c names keys eb =
     let b = c.args.h.balance in
-    draw-short _ _ _ _ _ c.in-At.is _ c.is_amount.ensures c.if-not-is_amount.false-raw b eb _ (below-is b _ _ c.is_less.ensures (near-back b c.requires.1)) c.if-is_less.true (c.keep-then-is_less.ensures _)
+    draw-short _ _ _ _ _ c.in-Some.is _ c.is_amount.ensures c.if-not-is_amount.false-raw b eb _ (below-is b _ _ c.is_less.ensures (near-back b c.requires.1)) c.if-is_less.true (c.keep-then-is_less.ensures _)
 
 minus-requires : tie.Need-minus-requires
 minus-requires c κs =
@@ -28,12 +28,12 @@ minus-requires c κs =
 
 put-balance-requires : tie.Need-put_balance-requires
 put-balance-requires c κs =
-    (sym c.put_balance-arg-1.given.0.1, c.requires.0.at _ c.in-At.is)
+    (sym c.put_balance-arg-1.given.0.1, c.requires.0.at _ c.in-Some.is)
 
 returns-4 : tie.Need-returns
 returns-4 c names keys eb =
     let b = c.args.h.balance in
-    draw-done _ _ _ _ _ c.in-At.is _ c.is_amount.ensures c.if-not-is_amount.false-raw b eb _ (below-is b _ _ c.is_less.ensures (near-back b c.requires.1)) c.if-is_less.false
+    draw-done _ _ _ _ _ c.in-Some.is _ c.is_amount.ensures c.if-not-is_amount.false-raw b eb _ (below-is b _ _ c.is_less.ensures (near-back b c.requires.1)) c.if-is_less.false
     _ (rest_back b c.minus.result c.args.kopecks c.requires.1 c.minus.ensures.1 c.minus.ensures.0) _ (c.put_balance.ensures c.args.head names keys) (c.keep-2.ensures _)
 
 pub draw_on_spec : {M : Type 1} → statement M

@@ -41,7 +41,7 @@ pub loop-i-preserved : goal.loop-i-preserved
 loop-i-preserved c =
     turn-credited-back (turn-of c.requires.held.1 c.requires.chained.1 c.loop-i.invariant c.loop-i-test.true c.line_at-x.ensures
     (c.judge-v.ensures _ c.loop-i.invariant.listed refl) c.apply-due.ensures.applied c.apply-due.ensures.within c.apply-due.auto.numbers c.apply-due.auto.dates)
-    _ _ c.follow.auto.heads c.follow.auto.next c.follow.ensures _ c.in-At.is _ c.plus.ensures.0 c.plus.ensures.1
+    _ _ c.follow.auto.heads c.follow.auto.next c.follow.ensures _ c.in-Some.is _ c.plus.ensures.0 c.plus.ensures.1
 
 pub returns-clause-left : goal.returns-clause-left
 returns-clause-left c = going_end _ _ _ c.requires.held.1 _ _ _ _ _ c.loop-i.invariant.going c.loop-i-test.false

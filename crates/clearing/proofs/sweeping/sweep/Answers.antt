@@ -23,21 +23,21 @@ loop-i-preserved-in_default c =
 
 pub offset_bounds-gate-at : goal.offset_bounds-gate-at
 offset_bounds-gate-at c =
-    let h = turn-account (turn-of c.loop-i.invariant c.loop-i-test.true c.load-r.ensures.value c.is_stray.ensures) _ c.revoke_at-account.ensures.value _ c.in-At.is in
+    let h = turn-account (turn-of c.loop-i.invariant c.loop-i-test.true c.load-r.ensures.value c.is_stray.ensures) _ c.revoke_at-account.ensures.value _ c.in-Some.is in
     record { fits = omega arith }
 
 pub bounds-gate-at : goal.bounds-gate-at
-bounds-gate-at c = turn-account (turn-of c.loop-i.invariant c.loop-i-test.true c.load-r.ensures.value c.is_stray.ensures) _ c.revoke_at-account.ensures.value _ c.in-At.is
+bounds-gate-at c = turn-account (turn-of c.loop-i.invariant c.loop-i-test.true c.load-r.ensures.value c.is_stray.ensures) _ c.revoke_at-account.ensures.value _ c.in-Some.is
 
 pub minus-requires : goal.minus-requires
 minus-requires c =
     let k = turn-of c.loop-i.invariant c.loop-i-test.true c.load-r.ensures.value c.is_stray.ensures in
-    (turn_near k _ c.revoke_at-account.ensures.value _ c.in-At.is, turn_small k)
+    (turn_near k _ c.revoke_at-account.ensures.value _ c.in-Some.is, turn_small k)
 
 pub loop-i-preserved : goal.loop-i-preserved
 loop-i-preserved c =
     turn-debited-back (turn-of c.loop-i.invariant c.loop-i-test.true c.load-r.ensures.value c.is_stray.ensures) _ c.revoke_at-account.ensures.value (ap not c.if-not-is_stray.false)
-    _ c.revoke_at-account.ensures.dates_value _ c.in-At.is _ c.minus.ensures.0 c.minus.ensures.1
+    _ c.revoke_at-account.ensures.dates_value _ c.in-Some.is _ c.minus.ensures.0 c.minus.ensures.1
 
 pub returns-clause-left : goal.returns-clause-left
 returns-clause-left c = sweeping-end c.loop-i.invariant.sweeping c.loop-i-test.false

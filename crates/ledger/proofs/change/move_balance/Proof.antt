@@ -7,7 +7,7 @@ ruleset laws = (moved_none, moved-there, rules)
 
 put-balance-requires : tie.Need-put_balance-requires
 put-balance-requires c κs =
-    (search rules, c.requires.1.at _ c.in-At.is)
+    (search rules, c.requires.1.at _ c.in-Some.is)
 
 pub move_balance_spec : {M : Type 1} → statement M
 move_balance_spec =

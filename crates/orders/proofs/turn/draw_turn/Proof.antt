@@ -9,7 +9,7 @@ returns c =
 
 returns-2 : tie.Need-returns
 returns-2 c =
-    draw-done _ _ _ _ _ (c.answered.ensures _ _) _ c.subject_of-s.ensures.0 _ c.subject_of-s.ensures.1 _ c.field_at.ensures _ c.read_digits.ensures _ c.in-Value.is c.draw_lent.ensures
+    draw-done _ _ _ _ _ (c.answered.ensures _ _) _ c.subject_of-s.ensures.0 _ c.subject_of-s.ensures.1 _ c.field_at.ensures _ c.read_digits.ensures _ c.in-Some.is c.draw_lent.ensures
 
 pub draw_turn_spec : {M : Type 1} → statement M
 draw_turn_spec =

@@ -10,11 +10,11 @@ returns c =
 
 returns-2 : tie.Need-returns-then-not-table_good
 returns-2 c =
-    list-faulty _ _ _ _ _ c.field_at.ensures _ c.read_day.ensures _ c.in-Good.is _ c.table_good.ensures.0 c.if-not-table_good.true-raw refl
+    list-faulty _ _ _ _ _ c.field_at.ensures _ c.read_day.ensures _ c.in-Some.is _ c.table_good.ensures.0 c.if-not-table_good.true-raw refl
 
 returns-3 : tie.Need-returns
 returns-3 c =
-    list-day _ _ _ _ _ c.field_at.ensures _ c.read_day.ensures _ c.in-Good.is _ c.table_good.ensures.0 c.if-not-table_good.false-raw refl
+    list-day _ _ _ _ _ c.field_at.ensures _ c.read_day.ensures _ c.in-Some.is _ c.table_good.ensures.0 c.if-not-table_good.false-raw refl
 
 pub list_turn_spec : {M : Type 1} → statement M
 list_turn_spec =

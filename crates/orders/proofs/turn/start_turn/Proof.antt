@@ -14,7 +14,7 @@ returns-2 c a t =
 
 returns-3 : tie.Need-returns
 returns-3 c a t =
-    start-good _ _ _ _ _ c.has_form.ensures c.if-not-has_form.false-raw _ c.field_at.ensures _ c.read_day.ensures _ c.in-Good.is _ (c.answered.ensures a t) refl
+    start-good _ _ _ _ _ c.has_form.ensures c.if-not-has_form.false-raw _ c.field_at.ensures _ c.read_day.ensures _ c.in-Some.is _ (c.answered.ensures a t) refl
 
 pub start_turn_spec : {M : Type 1} → statement M
 start_turn_spec =
