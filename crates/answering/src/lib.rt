@@ -55,7 +55,7 @@ pub(crate) fn take_at(
     text: &[u8],
 ) -> u64
     requires { ReadyBook b (lent_book nums.old numbers.old dates.old) × (i < b.used) }
-    ensures { taking_of result (lent_book nums.new numbers.new dates.new) ≡ take_at_place b (lent_book nums.old numbers.old dates.old) a text.now (At i) }
+    ensures { taking_of result (lent_book nums.new numbers.new dates.new) ≡ take_at_place b (lent_book nums.old numbers.old dates.old) a text.now (Some i) }
 {
     let x = read::read_undated(a, text);
     if !x.ok {

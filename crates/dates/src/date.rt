@@ -74,7 +74,7 @@ fn pair(a: u8, b: u8) -> u8
 // The day of nineteen bytes that are known to be a written date: they are not judged again.
 pub fn written_day(d: [u8; 19]) -> Day
     requires { is_written d ≡ true }
-    ensures { date_day d ≡ Good result }
+    ensures { date_day d ≡ Some result }
 {
     let y = pair(d[2], d[3]);
     let month = pair(d[5], d[6]);

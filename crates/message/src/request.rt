@@ -77,7 +77,7 @@ fn refuse(fault: u64, a: Action) -> RequestRead
 // The action of a request.
 fn action_field(s: &[u8], t: &[[usize; 2]]) -> Option<Action>
     requires { 7 ≡ length t.now }
-    ensures { result ≡ held Unknown action_of (get_or (slots_in s.now t.now) 0 Absent) }
+    ensures { result ≡ held None action_of (get_or (slots_in s.now t.now) 0 Absent) }
 {
     let mut room = [0u8; 96];
     action::read_action(slots::text_of(s, t, action::ACTION, &mut room))
@@ -98,7 +98,7 @@ fn read_by(reader: Reader, s: &[u8]) -> Option<u64>
 // A digit field: 0 where the action lacks it, malformed where the request does.
 fn digits_field(reader: Reader, used: bool, s: &[u8], t: &[[usize; 2]], k: usize) -> Option<u64>
     requires { (k < 7) × (7 ≡ length t.now) }
-    ensures { result ≡ field_of used (Value 0) Malformed (read_by reader) (get_or (slots_in s.now t.now) k Absent) }
+    ensures { result ≡ field_of used (Some 0) None (read_by reader) (get_or (slots_in s.now t.now) k Absent) }
 {
     if !used {
         return Some(0);
