@@ -29,7 +29,7 @@ pub(crate) fn write_entry(
     out: &mut [u8],
 ) -> Writing
     requires { ReadyBook b (lent_book nums.old numbers.old dates.old) × (i < b.used) }
-    ensures { writing_of result (lent_book nums.new numbers.new dates.new) out.new ≡ write_at b (lent_book nums.old numbers.old dates.old) a reason out.old (At i) }
+    ensures { writing_of result (lent_book nums.new numbers.new dates.new) out.new ≡ write_at b (lent_book nums.old numbers.old dates.old) a reason out.old (Some i) }
 {
     let e = rows::load_entry(nums, numbers, dates, i);
     if !asking::is_open(b, a, e) {
