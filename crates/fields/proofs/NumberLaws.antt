@@ -1,4 +1,5 @@
 -- Laws of numbers of accounts.
+use Rattle.std.specs.Prelude.{Some, None}
 use Prim.Native.Nat.{ℕ, ◌+◌, ◌≤◌, ◌<◌}
 use native.Mathlib.Omega.{arith}
 use native.Mathlib.Nat.{zero-add}
@@ -10,9 +11,8 @@ use lib.ListN.{length, get_or, drop, replicate, length-append, length-drop, leng
 use lib.Seq.{take-append_seam, length-take-le}
 use borrow.Author.Tests.{le-leb, lt-leb, eq-eqb, ne_eqb, eqb-true, leb-true}
 use Rattle.fields.specs.declared.number.Number.{Number}
-use Rattle.fields.specs.declared.number.NumberRead.{NumberRead}
 use Rattle.texts.specs.Lists.{every, eq_list, written, cursor_after}
-use Rattle.fields.specs.Number.{number_byte, number_text, is_number, is_number_text, padded, number_of, no_number, number_read, same_number}
+use Rattle.fields.specs.Number.{number_byte, number_text, is_number, is_number_text, padded, number_of, number_read, same_number}
 use Rattle.texts.specs.Digits.{within}
 use Rattle.texts.proofs.Tests.{and_left, and_right, or_elim}
 use Rattle.texts.proofs.DigitLaws.{within_low, within-high}
@@ -99,20 +99,15 @@ module _ (s : List ℕ) where
     number_short y =
         leb-true (length s) 30 (and_left (leb (length s) 30) (every number_byte s) (and_right (leb 1 (length s)) _ (sym judged ∙ y)))
 
-    pub number-good : t ≡ true → (x : Number) → x ≡ number_of s → record { ok = true; number = x } ≡ number_read s
+    pub number-good : t ≡ true → (x : Number) → x ≡ number_of s → Some x ≡ number_read s
     unfolding number_read
     number-good y x e = rw (← judged, y, e)
 
-    pub number-bad : t ≡ false → (r : NumberRead) → r ≡ no_number → r ≡ number_read s
+    pub number-bad : t ≡ false → None ≡ number_read s
     unfolding number_read
-    number-bad n r none = none ∙ rw (← judged, n)
+    number-bad n = rw (← judged, n)
 
-  module _ (r : NumberRead) (none : r ≡ no_number) where
-    pub number-empty : length s ≡ 0 → r ≡ number_read s
-    number-empty e = number-bad false (text-empty e) refl r none
-
-    pub number-long : 30 < length s → r ≡ number_read s
-    number-long h = number-bad false (text-long h) refl r none
+pub ruleset read_number_laws = (number_short, number-good, number-bad)
 
 -- ---- a lent number
 module _ (x : Number) where
@@ -203,7 +198,7 @@ module _ (x : Number) (good : is_number x ≡ true) where
   unfolding is_number_text
   text-good = rw text-length len-good
 
-  pub number-again : number_read (number_text x) ≡ record { ok = true; number = number_of (number_text x) }
+  pub number-again : number_read (number_text x) ≡ Some (number_of (number_text x))
   unfolding number_read
   number-again = rw text-good
 

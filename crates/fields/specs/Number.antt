@@ -1,7 +1,6 @@
 -- Document 01, "Fields": numbers, which name an account together with a type.
-use Rattle.std.specs.Prelude.{ℕ, List, ◌++◌, Bool, true, false, cond, ◌&&◌, ◌||◌, length, take, drop, replicate, leb, eqb}
+use Rattle.std.specs.Prelude.{ℕ, List, ◌++◌, Bool, cond, ◌&&◌, ◌||◌, length, take, drop, replicate, leb, eqb, Option, Some, None}
 use Rattle.fields.specs.declared.number.Number.{Number}
-use Rattle.fields.specs.declared.number.NumberRead.{NumberRead}
 use Rattle.texts.specs.Digits.{within}
 use Rattle.texts.specs.Lists.{every, eq_list}
 
@@ -27,15 +26,17 @@ padded s = s ++ drop (length s) (replicate 30 0)
 abbrev pub number_of : List ℕ → Number
 number_of s = record { bytes = padded s; len = length s }
 
-abbrev pub no_number : NumberRead
-no_number = record { ok = false; number = record { bytes = replicate 30 0; len = 0 } }
+-- what stands in a record that has no number
+abbrev pub empty_number : Number
+empty_number = record { bytes = replicate 30 0; len = 0 }
 
-unfoldable pub number_read : List ℕ → NumberRead
-number_read s = cond (is_number_text s) (record { ok = true; number = number_of s }) no_number
+unfoldable pub number_read : List ℕ → Option Number
+number_read s = cond (is_number_text s) (Some (number_of s)) None
 
 -- its number where it is malformed
-abbrev pub number_fault : NumberRead → ℕ
-number_fault r = cond r.ok 0 2
+abbrev pub number_fault : Option Number → ℕ
+number_fault None = 2
+number_fault (Some x) = 0
 
 -- the one equality of numbers
 unfoldable pub same_number : Number → Number → Bool

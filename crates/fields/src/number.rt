@@ -1,7 +1,7 @@
 // Numbers of accounts: 1 to 30 bytes, each 0x21 to 0x7E or a letter of windows-1251.
 ghost use Rattle.std.specs.Prelude.{◌≡◌, ◌≤◌, length, drop};
 ghost use Rattle.texts.specs.Lists.{every, written, cursor_after};
-ghost use Rattle.fields.specs.Number.{number_byte, number_text, is_number, is_number_text, number_of, no_number, number_read, same_number};
+ghost use Rattle.fields.specs.Number.{number_byte, number_text, is_number, is_number_text, number_of, number_read, same_number};
 
 use texts::{out, scan};
 
@@ -11,13 +11,6 @@ use texts::{out, scan};
 pub struct Number {
     pub bytes: [u8; 30],
     pub len: usize,
-}
-
-// A number, or `ok` false and no bytes.
-#[derive(Clone, Copy)]
-pub struct NumberRead {
-    pub ok: bool,
-    pub number: Number,
 }
 
 // Whether a number may have this byte.
@@ -66,19 +59,6 @@ fn all_number_bytes(s: &[u8]) -> bool
     true
 }
 
-// What a field that is no number reads as.
-pub fn no_number() -> NumberRead
-    ensures { result ≡ no_number }
-{
-    NumberRead {
-        ok: false,
-        number: Number {
-            bytes: [0u8; 30],
-            len: 0,
-        },
-    }
-}
-
 // Whether a text is a number.
 pub fn is_text(s: &[u8]) -> bool
     ensures { result ≡ is_number_text s.now }
@@ -106,17 +86,11 @@ pub fn number_of(s: &[u8]) -> Number
 }
 
 // A number, from its bytes.
-pub fn read_number(s: &[u8]) -> NumberRead
+#[tactic(auto, using(crate::proofs::NumberLaws::read_number_laws))]
+pub fn read_number(s: &[u8]) -> Option<Number>
     ensures { result ≡ number_read s.now }
 {
-    if is_text(s) {
-        NumberRead {
-            ok: true,
-            number: number_of(s),
-        }
-    } else {
-        no_number()
-    }
+    if is_text(s) { Some(number_of(s)) } else { None }
 }
 
 impl Number {
