@@ -12,11 +12,10 @@ use lib.Dec.{eqb, leb}
 use lib.ListN.{get_or, length, drop, drop_of_length-le}
 use borrow.Author.Tests.{le-leb, lt-leb, eq-eqb, ne_eqb, leb-true, eqb-true, not-true, not-false}
 use Rattle.days.specs.declared.calendar.Day.{Day}
-use Rattle.dates.specs.declared.date.DateRead.{DateRead}
 use Rattle.texts.specs.Lists.{every, written}
 use Rattle.texts.specs.Digits.{is_digit}
 use Rattle.days.specs.Calendar.{is_date, day_of, is_day, same_day, day_before, on_day, up_to, two_digits, two_at, day_with, day_part}
-use Rattle.dates.specs.Date.{clock_time, date_day, found, is_written, empty_date, no_date, date_read}
+use Rattle.dates.specs.Date.{clock_time, date_day, found, is_written, empty_date, date_read}
 use Rattle.texts.proofs.Tests.{both, cond-elim, no-claim}
 use Rattle.texts.proofs.ListLaws.{every-step, every-all}
 use Rattle.texts.proofs.OutLaws.{written_over}
@@ -83,9 +82,9 @@ module _ (s : List ℕ) where
 
 -- ---- a field that holds one
 module _ (s : List ℕ) where
-  pub date-size : (r : DateRead) → r ≡ no_date → (length s ≡ 19 → ⊥) → r ≡ date_read s
+  pub date-size : (length s ≡ 19 → ⊥) → None ≡ date_read s
   unfolding date_read date_day
-  date-size r q n = q ∙ simp (ne_eqb _ _ n)
+  date-size n = simp (ne_eqb _ _ n)
 
   pub date-whole : length s ≡ 19 → (d : List ℕ) → d ≡ written empty_date 0 s → d ≡ s
   date-whole l d e =
@@ -94,13 +93,13 @@ module _ (s : List ℕ) where
       e ∙ sym (written_over empty_date 0 s fit) ∙ rw (drop_of_length-le empty_date past) (append-nil s)
 
   module _ (d : List ℕ) (same : d ≡ s) (t : Bool) (judged : t ≡ is_written d) where
-    pub date-held : t ≡ true → record { ok = true; date = d } ≡ date_read s
+    pub date-held : t ≡ true → Some d ≡ date_read s
     unfolding date_read
     date-held y = rw (← same, ← judged, y)
 
-    pub date-not : t ≡ false → (r : DateRead) → r ≡ no_date → r ≡ date_read s
+    pub date-not : t ≡ false → None ≡ date_read s
     unfolding date_read
-    date-not n r q = q ∙ rw (← same, ← judged, n)
+    date-not n = rw (← same, ← judged, n)
 
   -- what is no date is on no day
   pub size-written : (length s ≡ 19 → ⊥) → false ≡ is_written s
@@ -126,9 +125,11 @@ module _ (s : List ℕ) where
         go None h = h
 
   -- a written date is read back
-  pub date-again : is_written s ≡ true → date_read s ≡ record { ok = true; date = s }
+  pub date-again : is_written s ≡ true → date_read s ≡ Some s
   unfolding date_read
   date-again f = rw f
+
+pub ruleset read_date_laws = (date-size, date-held, date-not)
 
 -- ---- the day of a written date
 -- the tests that a day which was read has passed

@@ -2,7 +2,6 @@
 use Rattle.std.specs.Prelude.{Some}
 use Prim.Native.Nat.{ℕ}
 use mathlib.Core.Path.{◌≡◌, refl}
-use mathlib.Core.Bool.{true}
 use mathlib.Core.List.{List, [], ◌∷◌}
 use Rattle.texts.specs.Lists.{every, find}
 use Rattle.texts.specs.Digits.{digits_read, range_read}
@@ -72,6 +71,6 @@ leap_date = 50 ∷ 48 ∷ 50 ∷ 52 ∷ 45 ∷ 48 ∷ 50 ∷ 45 ∷ 50 ∷ 57 �
 abbrev pub no_leap_date : List ℕ
 no_leap_date = 50 ∷ 48 ∷ 50 ∷ 51 ∷ 45 ∷ 48 ∷ 50 ∷ 45 ∷ 50 ∷ 57 ∷ 84 ∷ 48 ∷ 48 ∷ 58 ∷ 48 ∷ 48 ∷ 58 ∷ 48 ∷ 48 ∷ []
 
-pub k6 : (date_fault (date_read leap_date) ≡ 0) × (date_read leap_date ≡ record { ok = true; date = leap_date }) × (date_fault (date_read no_leap_date) ≡ 5)
+pub k6 : (date_fault (date_read leap_date) ≡ 0) × (date_read leap_date ≡ Some leap_date) × (date_fault (date_read no_leap_date) ≡ 5)
 unfolding leap_year days_in is_date day_of two_digits day_part clock_time date_day date_read
 k6 = (refl, refl, refl)

@@ -1,7 +1,6 @@
 -- Document 01, "Fields": written dates, YYYY-MM-DDThh:mm:ss, nineteen bytes.
 use Rattle.days.specs.declared.calendar.Day.{Day}
 use Rattle.std.specs.Prelude.{ℕ, List, Bool, true, false, cond, ◌&&◌, get_or, length, replicate, leb, eqb, Option, Some, None}
-use Rattle.dates.specs.declared.date.DateRead.{DateRead}
 use Rattle.days.specs.Calendar.{two_at, day_part}
 
 -- hh:mm:ss from the twelfth byte on, behind a T
@@ -22,17 +21,15 @@ found None = false
 abbrev pub is_written : List ℕ → Bool
 is_written s = found (date_day s)
 
--- the cancel date of a record that is not cancelled, and the date of a field that is none
+-- the cancel date of a record that is not cancelled
 abbrev pub empty_date : List ℕ
 empty_date = replicate 19 0
 
-abbrev pub no_date : DateRead
-no_date = record { ok = false; date = empty_date }
-
 -- a field that holds a written date
-unfoldable pub date_read : List ℕ → DateRead
-date_read s = cond (is_written s) (record { ok = true; date = s }) no_date
+unfoldable pub date_read : List ℕ → Option (List ℕ)
+date_read s = cond (is_written s) (Some s) None
 
 -- its number where it is none
-abbrev pub date_fault : DateRead → ℕ
-date_fault r = cond r.ok 0 5
+abbrev pub date_fault : Option (List ℕ) → ℕ
+date_fault None = 5
+date_fault (Some d) = 0

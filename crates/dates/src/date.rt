@@ -1,19 +1,12 @@
 // Written dates: nineteen bytes, YYYY-MM-DDThh:mm:ss.
 ghost use Rattle.std.specs.Prelude.{◌≡◌, true, ◌<◌, ◌≤◌, length};
 ghost use Rattle.days.specs.Calendar.{on_day, up_to, two_digits};
-ghost use Rattle.dates.specs.Date.{clock_time, date_day, is_written, empty_date, no_date, date_read};
+ghost use Rattle.dates.specs.Date.{clock_time, date_day, is_written, empty_date, date_read};
 ghost use Rattle.texts.specs.Lists.{eq_list, written, cursor_after};
 
 use days::calendar;
 use days::calendar::Day;
 use texts::{out, scan};
-
-// A written date, or `ok` false and nineteen zero bytes.
-#[derive(Clone, Copy)]
-pub struct DateRead {
-    pub ok: bool,
-    pub date: [u8; 19],
-}
 
 // Whether a T and a time of the day follow the day.
 fn has_time(d: [u8; 19]) -> bool
@@ -121,16 +114,6 @@ pub fn is_up_to(last: Day, d: [u8; 19]) -> bool
     !last.before(own)
 }
 
-// What a field that is no written date reads as.
-pub fn no_date() -> DateRead
-    ensures { result ≡ no_date }
-{
-    DateRead {
-        ok: false,
-        date: [0u8; 19],
-    }
-}
-
 // The bytes of a text of nineteen.
 pub fn nineteen(s: &[u8]) -> [u8; 19]
     requires { length s.now ≡ 19 }
@@ -142,18 +125,15 @@ pub fn nineteen(s: &[u8]) -> [u8; 19]
 }
 
 // A written date, from its bytes.
-pub fn read_date(s: &[u8]) -> DateRead
+#[tactic(auto, using(crate::proofs::DateLaws::read_date_laws))]
+pub fn read_date(s: &[u8]) -> Option<[u8; 19]>
     ensures { result ≡ date_read s.now }
 {
     if s.len() != 19 {
-        return no_date();
+        return None;
     }
     let date = nineteen(s);
-    if is_written(date) {
-        DateRead { ok: true, date }
-    } else {
-        no_date()
-    }
+    if is_written(date) { Some(date) } else { None }
 }
 
 // Whether a text is a written date.
