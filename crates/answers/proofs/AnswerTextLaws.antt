@@ -8,7 +8,6 @@ use mathlib.Core.Bool.{Bool, true, false, cond}
 use lib.Dec.{eqb}
 use lib.ListN.{length, take, drop, length-append, length-take, length-drop}
 use lib.Seq.{take_all, take_at, length-take-le, take-append_seam, take-append-add}
-use borrow.Author.Tests.{ne_eqb, le-leb, lt-leb}
 use Rattle.texts.specs.Lists.{over, written, cursor_after}
 use Rattle.texts.specs.Digits.{decimal}
 use Rattle.texts.proofs.OutLaws.{cursor-moves, written_over}
@@ -67,25 +66,16 @@ module _ (d : List ℕ) (at : ℕ) where
     pub grown-if-not : (used : Bool) → used ≡ false → Grown d at ys r e → Grown d at (cond used xs ys) r e
     grown-if-not used h g = rw h g
 
-  -- the message of a code that a match has found, and of any other
-  module _ (r : ℕ) (e : List ℕ) (n : ℕ) where
-    pub grown-code : (k : ℕ) → n ≡ k → Grown d at (message_of k) r e → Grown d at (message_of n) r e
-    grown-code k h g = rw h g
+  -- the message of a code
+  module _ (code : ℕ) where
+    pub message_told : (words : List ℕ) (r : ℕ) (e : List ℕ) → has_message code ≡ true → words ≡ message_of code
+        → Grown d at (enclosed true (opening message_tag) words (closing message_tag)) r e → Grown d at (message_text code) r e
+    unfolding message_text element
+    message_told words r e h q g = rw (h, ← q) g
 
-    pub grown-other : (n ≡ 30 → ⊥) → (n ≡ 31 → ⊥) → (n ≡ 32 → ⊥) → Grown d at [] r e → Grown d at (message_of n) r e
-    unfolding message_of
-    grown-other a b c g = rw (ne_eqb n 30 a, ne_eqb n 31 b, ne_eqb n 32 c) g
-
--- whether a code has one, by the range that a match has found
-module _ (n : ℕ) where
-  pub message-in : 30 ≤ n → n < 33 → true ≡ has_message n
-  message-in l h = rw (le-leb 30 n l, le-leb n 32 (omega arith)) refl
-
-  pub message-under : n < 30 → false ≡ has_message n
-  message-under h = rw (lt-leb 30 n h) refl
-
-  pub message-over : 33 ≤ n → false ≡ has_message n
-  message-over h = rw (le-leb 30 n (omega arith), lt-leb n 32 h) refl
+    pub message_none : (e : List ℕ) → has_message code ≡ false → e ≡ d → Grown d at (message_text code) at e
+    unfolding message_text
+    message_none e h q = rw h (grown-none e q)
 
 -- ---- what a local text holds
 pub grown-whole : (z xs : List ℕ) (r : ℕ) (e : List ℕ) → Grown z 0 xs r e → length xs ≤ length z → take r e ≡ xs
@@ -111,12 +101,6 @@ module _ (d : List ℕ) (at : ℕ) (used : Bool) (opener c closer : List ℕ) (r
       let fit : 0 + length (decimal n) ≤ length z = omega (arith, decimal-size n) in
       let same : take k a ≡ decimal n = rw (ek, ea, ← cursor-moves z 0 (decimal n) fit, ← written_over z 0 (decimal n) fit) (rw zero-add (take-append_seam (decimal n) _)) in
       rw (← same, ← ec) g
-
-  pub grown-message : (code : ℕ) → used ≡ has_message code → (z : List ℕ) (k : ℕ) (a : List ℕ) → c ≡ take k a → Grown z 0 (message_of code) k a → length z ≡ 20
-      → Grown d at (enclosed (has_message code) opener (message_of code) closer) r e
-  grown-message code eu z k a ec h l =
-      let same : take k a ≡ message_of code = grown-whole z (message_of code) k a h (omega (arith, message-size code)) in
-      rw (← same, ← ec, ← eu) g
 
 -- ---- the whole
 pub code-grown : (code : ℕ) (d : List ℕ) (at r₁ : ℕ) (d₁ : List ℕ) (r : ℕ) (e : List ℕ)
@@ -172,3 +156,17 @@ module _ (x : Answer) where
 
     pub answer-written : (e : List ℕ) → e ≡ written d at c → e ≡ written d at (answer_bytes x)
     answer-written e q = rw (← text-is) q
+
+pub ruleset add_answer_laws = (answer-grown)
+
+pub ruleset add_bytes_laws = (grown-past, grown-put)
+
+pub ruleset add_element_laws = (grown-none, grown-then, grown-if, grown-if-not)
+
+pub ruleset add_end_laws = (grown-then)
+
+pub ruleset add_number_laws = (grown-number)
+
+pub ruleset add_code_laws = (code-grown)
+
+pub ruleset add_start_laws = (grown-then)

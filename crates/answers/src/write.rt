@@ -1,5 +1,5 @@
 // Answers written: piece by piece into a local text, and that at once into the lent buffer.
-ghost use Rattle.std.specs.Prelude.{◌≡◌};
+ghost use Rattle.std.specs.Prelude.{◌≡◌, true, false, MatchOption};
 ghost use Rattle.texts.specs.Digits.{decimal};
 ghost use Rattle.texts.specs.Lists.{written, cursor_after};
 ghost use Rattle.answers.specs.Answer.{has_message, message_of, answer_bytes};
@@ -9,6 +9,7 @@ use payments::Answer;
 use texts::{digits, out, scan};
 
 // Adds src behind the text that ends at the cursor, as far as it has room.
+#[tactic(auto, using(crate::proofs::AnswerTextLaws::add_bytes_laws))]
 fn add_bytes(src: &[u8], dst: &mut [u8], at: usize) -> usize
     ensures { Grown dst.old at src.now result dst.new }
 {
@@ -19,6 +20,7 @@ fn add_bytes(src: &[u8], dst: &mut [u8], at: usize) -> usize
 }
 
 // Adds an element, where it is used.
+#[tactic(auto, using(crate::proofs::AnswerTextLaws::add_element_laws))]
 fn add_element(
     used: bool,
     opener: &[u8],
@@ -39,6 +41,7 @@ fn add_element(
 }
 
 // Adds a number's element, where it is used.
+#[tactic(auto, using(crate::proofs::AnswerTextLaws::add_number_laws))]
 fn add_number(used: bool, opener: &[u8], n: u64, closer: &[u8], dst: &mut [u8], at: usize) -> usize
     ensures { Grown dst.old at (enclosed used opener.now (decimal n) closer.now) result dst.new }
 {
@@ -47,53 +50,40 @@ fn add_number(used: bool, opener: &[u8], n: u64, closer: &[u8], dst: &mut [u8], 
     add_element(used, opener, scan::first_bytes(&a, k), closer, dst, at)
 }
 
-// Whether a code has a message.
-fn has_message(code: u64) -> bool
-    ensures { result ≡ has_message code }
+// The words of a code's message, where it has one.
+#[tactic(auto, unfolding(crate::specs::Answer::message_of))]
+fn message_of(code: u64) -> Option<&'static [u8]>
+    ensures { MatchOption result (has_message code ≡ false) (λ m. (has_message code ≡ true) × (m.now ≡ message_of code)) }
 {
     match code {
-        30..=32 => true,
-        _ => false,
-    }
-}
-
-// Adds the text of a code's message.
-fn add_text(code: u64, dst: &mut [u8], at: usize) -> usize
-    ensures { Grown dst.old at (message_of code) result dst.new }
-{
-    match code {
-        30 => add_bytes(b"table full", dst, at),
-        31 => add_bytes(b"bad request", dst, at),
-        32 => add_bytes(b"bad reason", dst, at),
-        _ => at,
+        30 => Some(b"table full"),
+        31 => Some(b"bad request"),
+        32 => Some(b"bad reason"),
+        _ => None,
     }
 }
 
 // Adds a code's message, where it has one.
+#[tactic(auto, using(crate::proofs::AnswerTextLaws::message_told, crate::proofs::AnswerTextLaws::message_none))]
 fn add_message(code: u64, dst: &mut [u8], at: usize) -> usize
     ensures { Grown dst.old at (message_text code) result dst.new }
 {
-    let mut text = [0u8; 20];
-    let k = add_text(code, &mut text, 0);
-    add_element(
-        has_message(code),
-        b"<message>",
-        scan::first_bytes(&text, k),
-        b"</message>",
-        dst,
-        at,
-    )
+    match message_of(code) {
+        Some(words) => add_element(true, b"<message>", words, b"</message>", dst, at),
+        None => at,
+    }
 }
 
 // Adds a date, where it is used.
-fn add_date(used: bool, date: [u8; 19], dst: &mut [u8], at: usize) -> usize
-    ensures { Grown dst.old at (date_text used date) result dst.new }
+#[tactic(auto, unfolding(crate::specs::AnswerText::date_text, crate::specs::Answer::element))]
+fn add_date(used: bool, date: &[u8], dst: &mut [u8], at: usize) -> usize
+    ensures { Grown dst.old at (date_text used date.now) result dst.new }
 {
-    let d = date;
-    add_element(used, b"<date>", &d, b"</date>", dst, at)
+    add_element(used, b"<date>", date, b"</date>", dst, at)
 }
 
 // Adds the start of an answer, to its code.
+#[tactic(auto, using(crate::proofs::AnswerTextLaws::add_code_laws))]
 fn add_code(code: u64, dst: &mut [u8], at: usize) -> usize
     ensures { Grown dst.old at (code_text code) result dst.new }
 {
@@ -106,6 +96,7 @@ fn add_code(code: u64, dst: &mut [u8], at: usize) -> usize
 }
 
 // Adds the start of an answer, to its authcode.
+#[tactic(auto, using(crate::proofs::AnswerTextLaws::add_start_laws), unfolding(crate::specs::AnswerText::start_text, crate::specs::Answer::element))]
 fn add_start(code: u64, authorized: bool, authcode: u64, dst: &mut [u8], at: usize) -> usize
     ensures { Grown dst.old at (start_text code authorized authcode) result dst.new }
 {
@@ -114,6 +105,7 @@ fn add_start(code: u64, authorized: bool, authcode: u64, dst: &mut [u8], at: usi
 }
 
 // Adds the end of an answer, behind its date.
+#[tactic(auto, using(crate::proofs::AnswerTextLaws::add_end_laws), unfolding(crate::specs::AnswerText::end_text))]
 fn add_end(code: u64, dst: &mut [u8], at: usize) -> usize
     ensures { Grown dst.old at (end_text code) result dst.new }
 {
@@ -122,12 +114,12 @@ fn add_end(code: u64, dst: &mut [u8], at: usize) -> usize
 }
 
 // Adds an answer.
+#[tactic(auto, using(crate::proofs::AnswerTextLaws::add_answer_laws))]
 fn add_answer(x: Answer, dst: &mut [u8], at: usize) -> usize
     ensures { Grown dst.old at (answer_bytes x) result dst.new }
 {
     let a = add_start(x.code, x.authorized, x.authcode, dst, at);
-    let date = x.date;
-    let b = add_date(x.dated, date, dst, a);
+    let b = add_date(x.dated, &x.date, dst, a);
     add_end(x.code, dst, b)
 }
 
