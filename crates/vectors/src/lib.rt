@@ -5,3 +5,4 @@ pub mod given;
 pub mod input;
 pub mod line;
 pub mod show;
+pub mod walk;
