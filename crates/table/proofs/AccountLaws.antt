@@ -22,16 +22,6 @@ use Rattle.table.specs.Accounts.{is_account, accounts_of, find_account, no_accou
 use Rattle.lists.proofs.ListLaws.{search-hit, search-miss, search-end, search-within, found-fits}
 use Rattle.table.proofs.SignedLaws.{back}
 
--- ---- one account
-module _ (n : Number) (k : ℕ) (a : Account) where
-  pub other-kind : (a.kind ≡ k → ⊥) → false ≡ is_account n k a
-  unfolding is_account
-  other-kind d = simp (ne_eqb _ _ d)
-
-  pub same_kind : a.kind ≡ k → (t : Bool) → t ≡ same_number a.number n → t ≡ is_account n k a
-  unfolding is_account
-  same_kind e t q = q ∙ simp (eq-eqb _ _ e)
-
 -- ---- the accounts in use
 pub accounts-size : {B : Type 0} (f : Account → B) (l : List Account) → length (map f l) ≡ 256 → length l ≡ 256
 accounts-size f l h = sym (length-map l f) ∙ h

@@ -16,14 +16,6 @@ use Rattle.table.specs.declared.Record.{Record}
 use Rattle.table.specs.Table.{Rows, record_at, records_of}
 use Rattle.table.specs.Daily.{stands_on, records_on, total_of}
 
--- ---- whether a record stands on a day
-module _ (day : Day) (state : ℕ) (r : Record) where
-  pub stands-other : (r.state ≡ state → ⊥) → false ≡ stands_on day state r
-  stands-other n = rw (ne_eqb _ _ n)
-
-  pub stands_of : r.state ≡ state → (b : Bool) → b ≡ on_day day (date_day r.date) → b ≡ stands_on day state r
-  stands_of e b eb = rw (eq-eqb _ _ e) eb
-
 -- ---- one list of records behind another
 module _ (day : Day) (state : ℕ) where
   pub on-append : (rs ss : List Record) → records_on day state (rs ++ ss) ≡ records_on day state rs ++ records_on day state ss

@@ -13,26 +13,6 @@ use Rattle.fields.specs.Number.{same_number}
 use Rattle.table.specs.declared.Record.{Record}
 use Rattle.table.specs.Table.{same_payment}
 
-module _ (n : Number) (k m : ℕ) (d : List ℕ) (r : Record) where
-  -- ---- field by field, as the code compares them
-  module _ (s : Bool) (es : s ≡ same_number r.number n) where
-    pub other-number : not s ≡ true → false ≡ same_payment n k m d r
-    unfolding same_payment
-    other-number h = rw (← es, not-true s h)
-
-    module _ (same : not s ≡ false) where
-      pub other-type : (r.kind ≡ k → ⊥) → false ≡ same_payment n k m d r
-      unfolding same_payment
-      other-type x = rw (← es, not-false s same, ne_eqb _ _ x)
-
-      pub other-amount : r.kind ≡ k → (r.amount ≡ m → ⊥) → false ≡ same_payment n k m d r
-      unfolding same_payment
-      other-amount ek x = rw (← es, not-false s same, eq-eqb _ _ ek, ne_eqb _ _ x)
-
-      pub same-date : r.kind ≡ k → r.amount ≡ m → (t : Bool) → t ≡ eq_list r.date d → t ≡ same_payment n k m d r
-      unfolding same_payment
-      same-date ek ea t e = e ∙ rw (← es, not-false s same, eq-eqb _ _ ek, eq-eqb _ _ ea)
-
 -- ---- it holds exactly where all four are the same
 pub record SameFour (n : Number) (k m : ℕ) (d : List ℕ) (r : Record) : Type 0 where
   pub number : same_number r.number n ≡ true

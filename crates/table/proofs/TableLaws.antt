@@ -1,5 +1,7 @@
 -- Laws of the table's rows: what store leaves is the list of records with one of them set.
-use Rattle.std.specs.Prelude.{Option, Some, None}
+use Rattle.std.specs.Prelude.{Bool, cond, Option, Some, None, eqb, nat_eq}
+use Rattle.std.specs.List.{position, position_from}
+use Rattle.std.proofs.lemmas.Iterator.Adapters.{position_from-zero}
 use mathlib.Core.Path.{◌≡◌, refl, sym, ap, ◌∙◌}
 use mathlib.Core.Logic.{◌≢◌}
 use mathlib.Core.List.{List, [], ◌∷◌, ◌++◌, map}
@@ -10,7 +12,7 @@ use borrow.Author.Tests.{eq-eqb, ne_eqb, eqb-true}
 use lib.ListN.{length, take, drop, get_or, set, length-set, length-append, take-append-drop}
 use lib.Seq.{get_or-set_same, get_or-set_other, ext_get_or}
 use Rattle.table.specs.declared.Record.{Record}
-use Rattle.lists.specs.Lists.{first_from}
+use Rattle.lists.specs.Lists.{tab, first_from}
 use Rattle.table.specs.Table.{Rows, record_at, records_of, nums_of, dates_of, rows_with, rows_from, Whole, has_receipt, find_record}
 use Rattle.lists.proofs.ListLaws.{length-tab, get_d-tab, map-tab, tab-same, tab-take, list-six, list-three, search-hit, search-miss, search-end, search-within, found-fits}
 use Rattle.lists.proofs.ColumnLaws.{tab-put, tab-add, column-back, column-more, column-set, column-next, column-at, column-size}
@@ -56,24 +58,30 @@ pub get_d-records : (t : Rows) (n i : ℕ) (z : Record) → i < n → get_or (re
 unfolding records_of
 get_d-records t n i z h = get_d-tab n (record_at t) i z h
 
--- ---- the first record with a receipt: a loop that has passed i records
-module _ (t : Rows) (n x i : ℕ) (passed : find_record x (records_of t n) ≡ first_from (has_receipt x) i (drop i (records_of t n))) where
-  pub receipt-here : i < n → get_or (get_or t.nums i []) 0 0 ≡ x → Some i ≡ find_record x (records_of t n)
-  receipt-here h e =
-      sym (passed ∙ search-hit (has_receipt x) i (records_of t n) (record_at t i) (omega (arith, length-records t n))
-      (ap (has_receipt x) (get_d-records t n i (record_at t i) h) ∙ eq-eqb _ _ e))
+-- ---- the first record with a receipt, by the numbers alone
+first-by : {A B : Type 0} (f : A → B) (p : B → Bool) (i : ℕ) (l : List A) → first_from (λ a. p (f a)) i l ≡ position_from p i (map f l)
+unfolding first_from
+first-by f p i [] = refl
+first-by f p i (a ∷ l) = ap (cond (p (f a)) (Some i)) (first-by f p (i + 1) l)
 
-  pub receipt-other : i < n → (get_or (get_or t.nums i []) 0 0 ≡ x → ⊥) → find_record x (records_of t n) ≡ first_from (has_receipt x) (i + 1) (drop (i + 1) (records_of t n))
-  receipt-other h d =
-      passed ∙ search-miss (has_receipt x) i (records_of t n) (record_at t i) (omega (arith, length-records t n))
-      (ap (has_receipt x) (get_d-records t n i (record_at t i) h) ∙ ne_eqb _ _ d)
+position-by : {A B : Type 0} (f : A → B) (p : B → Bool) (i : ℕ) (l : List A) → position_from (λ a. p (f a)) i l ≡ position_from p i (map f l)
+position-by f p i [] = refl
+position-by f p i (a ∷ l) = ap (cond (p (f a)) (Some i)) (position-by f p (i + 1) l)
 
-  pub receipt-none : n ≤ i → None ≡ find_record x (records_of t n)
-  receipt-none h = sym (passed ∙ search-end (has_receipt x) i (records_of t n) (record_at t i) (omega (arith, length-records t n)))
-
-pub receipt-start : (t : Rows) (n x : ℕ) → find_record x (records_of t n) ≡ first_from (has_receipt x) 0 (drop 0 (records_of t n))
-unfolding find_record
-receipt-start t n x = refl
+pub receipt_position : (t : Rows) (n x : ℕ) (r : Option ℕ) → r ≡ position (λ w. nat_eq (get_or w 0 0) x) (take n t.nums) → n ≤ length t.nums → r ≡ find_record x (records_of t n)
+unfolding find_record records_of
+receipt_position t n x r e h =
+    e ∙
+    position_from-zero (λ w. eqb (get_or w 0 0) x) (take n t.nums)
+    ∙ position-by (λ (w : List ℕ). get_or w 0 0) (λ y. eqb y x) 0 (take n t.nums)
+    ∙ ap (position_from (λ y. eqb y x) 0) same
+    ∙ sym (first-by (λ (r : Record). r.receipt) (λ y. eqb y x) 0 (records_of t n))
+  where
+    same : map (λ (w : List ℕ). get_or w 0 0) (take n t.nums) ≡ map (λ (r : Record). r.receipt) (tab n (record_at t))
+    same =
+        ap (map (λ (w : List ℕ). get_or w 0 0)) (sym (tab-take n t.nums [] h))
+        ∙ map-tab n (λ i. get_or t.nums i []) (λ (w : List ℕ). get_or w 0 0)
+        ∙ sym (map-tab n (record_at t) (λ (r : Record). r.receipt))
 
 module _ (t : Rows) (n x i : ℕ) (f : Option ℕ) (e : f ≡ find_record x (records_of t n)) (h : f ≡ Some i) where
   pub receipt-within : i < n

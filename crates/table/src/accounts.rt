@@ -14,14 +14,11 @@ pub struct Holding {
 }
 
 // Whether a is the account of this number and type.
+#[tactic(auto, unfolding(crate::specs::Accounts::is_account))]
 pub fn is_account(n: Number, kind: u64, a: Account) -> bool
     ensures { result ≡ is_account n kind a }
 {
-    if a.kind != kind {
-        return false;
-    }
-    let m = a.number;
-    m.same(n)
+    a.kind == kind && a.number.same(n)
 }
 
 // b + n

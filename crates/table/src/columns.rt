@@ -4,7 +4,7 @@ ghost use Rattle.table.specs.Accounts.{no_account, accounts_of, find_account, ho
 ghost use Rattle.table.specs.Columns.{accounts_in, gate_of, head_of, counted_head, columns_of};
 
 use crate::accounts::Holding;
-use crate::{Account, Gate, Head, accounts};
+use crate::{ACCOUNTS_MOST, Account, Gate, Head, accounts};
 use fields::number::Number;
 
 // The account at i.
@@ -17,15 +17,13 @@ pub fn account_at(
     requires { i < 256 }
     ensures { result ≡ get_or (accounts_in (columns_of names.now keys.now balances.now)) i no_account }
 {
-    let bytes = names[i];
-    let w = keys[i];
-    let number = Number {
-        bytes,
-        len: w[0] as usize,
-    };
+    let [len, kind] = keys[i];
     Account {
-        number,
-        kind: w[1],
+        number: Number {
+            bytes: names[i],
+            len: len as usize,
+        },
+        kind,
         balance: balances[i],
     }
 }
@@ -42,9 +40,7 @@ pub fn look_up(
     requires { h.count ≤ 256 }
     ensures { result ≡ holding_of (gate_of h (columns_of names.now keys.now balances.now)) (find_account n kind (accounts_of (gate_of h (columns_of names.now keys.now balances.now)))) }
 {
-    let count = h.count;
-    let mut i: usize = 0;
-    while i < count {
+    for i in 0..h.count {
         let a = account_at(names, keys, balances, i);
         if accounts::is_account(n, kind, a) {
             return Holding {
@@ -52,7 +48,6 @@ pub fn look_up(
                 balance: a.balance,
             };
         }
-        i += 1;
     }
     Holding {
         at: None,
@@ -72,8 +67,7 @@ pub fn find_account(
     requires { h.count ≤ 256 }
     ensures { result ≡ find_account n kind (accounts_of (gate_of h (columns_of names.now keys.now balances.now))) }
 {
-    let x = look_up(names, keys, balances, h, n, kind);
-    x.at
+    look_up(names, keys, balances, h, n, kind).at
 }
 
 // Columns in which nothing stands yet.
@@ -99,10 +93,9 @@ pub fn empty_balances() -> [i64; 256]
 pub fn head_of(g: Gate) -> Head
     ensures { result ≡ head_of g }
 {
-    let closed = g.closed;
     Head {
         count: g.count,
-        closed,
+        closed: g.closed,
         used: g.used,
     }
 }
@@ -112,16 +105,10 @@ pub fn unpack(g: Gate, names: &mut [[u8; 30]], keys: &mut [[u64; 2]], balances: 
     requires { (256 ≡ length names.old) × (256 ≡ length keys.old) × (256 ≡ length balances.old) }
     ensures { gate_of (head_of g) (columns_of names.new keys.new balances.new) ≡ g }
 {
-    let mut i: usize = 0;
-    while i < 256 {
-        let a = g.accounts[i];
-        let n = a.number;
-        let bytes = n.bytes;
-        names[i] = bytes;
-        keys[i] = [n.len as u64, a.kind];
-        let b = a.balance;
-        balances[i] = b;
-        i += 1;
+    for (i, a) in g.accounts.iter().enumerate() {
+        names[i] = a.number.bytes;
+        keys[i] = [a.number.len as u64, a.kind];
+        balances[i] = a.balance;
     }
 }
 
@@ -131,16 +118,13 @@ pub fn pack(h: Head, names: &[[u8; 30]; 256], keys: &[[u64; 2]; 256], balances: 
 {
     let first = account_at(names, keys, balances, 0);
     let mut accounts = [first; 256];
-    let mut i: usize = 1;
-    while i < 256 {
+    for i in 1..ACCOUNTS_MOST {
         accounts[i] = account_at(names, keys, balances, i);
-        i += 1;
     }
-    let closed = h.closed;
     Gate {
         accounts,
         count: h.count,
-        closed,
+        closed: h.closed,
         used: h.used,
     }
 }
@@ -165,8 +149,8 @@ pub fn put_account(
     requires { (256 ≡ length names.old) × (256 ≡ length keys.old) × (256 ≡ length balances.old) × (i < 256) }
     ensures { (h : Head) → h.count ≡ i → gate_of (counted_head h (i + 1)) (columns_of names.new keys.new balances.new) ≡ opened (gate_of h (columns_of names.old keys.old balances.old)) n kind }
 {
-    let bytes = n.bytes;
+    let Number { bytes, len } = n;
     names[i] = bytes;
-    keys[i] = [n.len as u64, kind];
+    keys[i] = [len as u64, kind];
     balances[i] = 0;
 }

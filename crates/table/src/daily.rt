@@ -10,9 +10,5 @@ use days::calendar::Day;
 pub fn stands_on(r: Record, day: Day, state: u64) -> bool
     ensures { result ≡ stands_on day state r }
 {
-    if r.state != state {
-        return false;
-    }
-    let d = r.date;
-    date::is_on(day, d)
+    r.state == state && date::is_on(day, r.date)
 }

@@ -7,19 +7,9 @@ use dates::date;
 use fields::number::Number;
 
 // Whether a record is of this number, type, amount and date.
+#[tactic(auto, unfolding(crate::specs::Table::same_payment))]
 pub fn same_payment(n: Number, kind: u64, amount: u64, date: [u8; 19], r: Record) -> bool
     ensures { result ≡ same_payment n kind amount date r }
 {
-    let m = r.number;
-    if !m.same(n) {
-        return false;
-    }
-    if r.kind != kind {
-        return false;
-    }
-    if r.amount != amount {
-        return false;
-    }
-    let d = r.date;
-    date::same_date(d, date)
+    r.number.same(n) && r.kind == kind && r.amount == amount && date::same_date(r.date, date)
 }

@@ -1,5 +1,5 @@
 // The payment table: three lent rows, read and written a record at a time.
-ghost use Rattle.std.specs.Prelude.{◌≡◌, [], ◌<◌, ◌≤◌, length, get_or};
+ghost use Rattle.std.specs.Prelude.{◌≡◌, ◌==◌, slice_index, position, [], ◌<◌, ◌≤◌, length, get_or};
 ghost use Rattle.table.specs.Table.{record_from, record_at, rows_with, records_of, find_record};
 ghost use Rattle.table.specs.Lent.{lent};
 
@@ -11,23 +11,21 @@ fn record_of(w: [u64; 6], bytes: [u8; 30], d: [[u8; 19]; 3]) -> Record
     ensures value { result ≡ record_from w bytes d }
     ensures w_len { (length w ≡ 6) × (length d ≡ 3) }
 {
-    let date = d[0];
-    let credit = d[1];
-    let cancel = d[2];
-    let number = Number {
-        bytes: bytes,
-        len: w[1] as usize,
-    };
+    let [receipt, len, kind, amount, state, authcode] = w;
+    let [date, credit, cancel] = d;
     Record {
-        receipt: w[0],
-        number: number,
-        kind: w[2],
-        amount: w[3],
-        date: date,
-        state: w[4],
-        authcode: w[5],
-        credit: credit,
-        cancel: cancel,
+        receipt,
+        number: Number {
+            bytes,
+            len: len as usize,
+        },
+        kind,
+        amount,
+        date,
+        state,
+        authcode,
+        credit,
+        cancel,
     }
 }
 
@@ -38,10 +36,7 @@ pub fn load(nums: &[[u64; 6]], numbers: &[[u8; 30]], dates: &[[[u8; 19]; 3]], i:
     ensures i_len { (length (get_or nums.now i []) ≡ 6) × (length (get_or dates.now i []) ≡ 3) }
     ensures bytes_len { (length result.number.bytes ≡ 30) × (length result.date ≡ 19) × (length result.credit ≡ 19) × (length result.cancel ≡ 19) }
 {
-    let w = nums[i];
-    let bytes = numbers[i];
-    let d = dates[i];
-    record_of(w, bytes, d)
+    record_of(nums[i], numbers[i], dates[i])
 }
 
 // Puts r at i.
@@ -55,17 +50,18 @@ pub fn store(
     requires { (i < length nums.old) × (i < length numbers.old) × (i < length dates.old) }
     ensures { lent nums.new numbers.new dates.new ≡ rows_with (lent nums.old numbers.old dates.old) i r }
 {
-    let number = r.number;
-    let len = number.len as u64;
-    let w = [r.receipt, len, r.kind, r.amount, r.state, r.authcode];
-    nums[i] = w;
-    let bytes = number.bytes;
+    let Number { bytes, len } = r.number;
+    nums[i] = [r.receipt, len as u64, r.kind, r.amount, r.state, r.authcode];
     numbers[i] = bytes;
-    let date = r.date;
-    let credit = r.credit;
-    let cancel = r.cancel;
-    let d = [date, credit, cancel];
-    dates[i] = d;
+    let (date, credit, cancel) = (r.date, r.credit, r.cancel);
+    dates[i] = [date, credit, cancel];
+}
+
+// The first row that begins with this receipt.
+fn place_of(nums: &[[u64; 6]], receipt: u64) -> Option<usize>
+    ensures { result ≡ position (λ w. slice_index w 0 == receipt) nums.now }
+{
+    nums.iter().position(|w| w[0] == receipt)
 }
 
 // The first of the first `used` records that has this receipt.
@@ -79,12 +75,5 @@ pub fn find_record(
     requires { used ≤ length nums.now }
     ensures { result ≡ find_record receipt (records_of (lent nums.now numbers.now dates.now) used) }
 {
-    let mut i: usize = 0;
-    while i < used {
-        if nums[i][0] == receipt {
-            return Some(i);
-        }
-        i += 1;
-    }
-    None
+    place_of(&nums[..used], receipt)
 }
