@@ -11,9 +11,7 @@ use lib.ListN.{length, drop, get_or, length-map, length-take}
 use lib.Seq.{length-take-le, get_or-take}
 use mir.Syntax.{w64}
 use mir.Val.{to_z, of_z}
-use borrow.Author.Tests.{eq-eqb, ne_eqb}
 use Rattle.fields.specs.declared.number.Number.{Number}
-use Rattle.fields.specs.Number.{same_number}
 use Rattle.table.specs.declared.Account.{Account}
 use Rattle.table.specs.declared.Gate.{Gate}
 use Rattle.table.specs.declared.accounts.Holding.{Holding}

@@ -1,11 +1,10 @@
 -- Laws of the comparison of a payment with a record.
 use Prim.Native.Nat.{ℕ}
-use mathlib.Core.Path.{◌≡◌, ◌∙◌}
-use mathlib.Core.Bool.{Bool, true, false, not}
+use mathlib.Core.Path.{◌≡◌}
+use mathlib.Core.Bool.{true}
 use mathlib.Core.List.{List}
 use lib.Dec.{eqb}
-use borrow.Author.Tests.{eq-eqb, ne_eqb, eqb-true, not-true, not-false}
-use Rattle.texts.specs.Lists.{eq_list}
+use borrow.Author.Tests.{eq-eqb, eqb-true}
 use Rattle.texts.proofs.Tests.{both}
 use Rattle.texts.proofs.ScanLaws.{eq_list-true, eq_list-refl}
 use Rattle.fields.specs.declared.number.Number.{Number}

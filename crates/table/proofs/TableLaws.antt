@@ -1,5 +1,5 @@
 -- Laws of the table's rows: what store leaves is the list of records with one of them set.
-use Rattle.std.specs.Prelude.{Bool, cond, Option, Some, None, eqb, nat_eq}
+use Rattle.std.specs.Prelude.{Bool, cond, Option, Some, eqb, nat_eq}
 use Rattle.std.specs.List.{position, position_from}
 use Rattle.std.proofs.lemmas.Iterator.Adapters.{position_from-zero}
 use mathlib.Core.Path.{◌≡◌, refl, sym, ap, ◌∙◌}
@@ -8,13 +8,13 @@ use mathlib.Core.List.{List, [], ◌∷◌, ◌++◌, map}
 use Prim.Native.Nat.{ℕ, ◌+◌, ◌-◌, ◌<◌, ◌≤◌}
 use native.Mathlib.Omega.{arith}
 use borrow.Author.Count.{below_none, below_more}
-use borrow.Author.Tests.{eq-eqb, ne_eqb, eqb-true}
-use lib.ListN.{length, take, drop, get_or, set, length-set, length-append, take-append-drop}
+use borrow.Author.Tests.{eqb-true}
+use lib.ListN.{length, take, get_or, set, length-set, length-append, take-append-drop}
 use lib.Seq.{get_or-set_same, get_or-set_other, ext_get_or}
 use Rattle.table.specs.declared.Record.{Record}
 use Rattle.lists.specs.Lists.{tab, first_from}
 use Rattle.table.specs.Table.{Rows, record_at, records_of, nums_of, dates_of, rows_with, rows_from, Whole, has_receipt, find_record}
-use Rattle.lists.proofs.ListLaws.{length-tab, get_d-tab, map-tab, tab-same, tab-take, list-six, list-three, search-hit, search-miss, search-end, search-within, found-fits}
+use Rattle.lists.proofs.ListLaws.{length-tab, get_d-tab, map-tab, tab-same, tab-take, list-six, list-three, search-within, found-fits}
 use Rattle.lists.proofs.ColumnLaws.{tab-put, tab-add, column-back, column-more, column-set, column-next, column-at, column-size}
 
 -- the rows are long enough for record i

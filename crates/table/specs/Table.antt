@@ -2,7 +2,7 @@
 use Rattle.std.specs.Prelude.{Bool, ◌&&◌, ◌≡◌, List, [], ◌∷◌, ◌++◌, map, ℕ, ◌<◌, ◌≤◌, eqb, length, drop, get_or, set, Option}
 use Rattle.texts.specs.Lists.{eq_list}
 use Rattle.fields.specs.declared.number.Number.{Number}
-use Rattle.fields.specs.Number.{no_number, same_number}
+use Rattle.fields.specs.Number.{empty_number, same_number}
 use Rattle.dates.specs.Date.{empty_date}
 use Rattle.table.specs.declared.Record.{Record}
 use Rattle.lists.specs.Lists.{tab, first_from}
@@ -19,7 +19,7 @@ abbrev pub no_record : Record
 no_record =
     record {
       receipt = 0;
-      number = no_number.number;
+      number = empty_number;
       kind = 0;
       amount = 0;
       date = empty_date;
