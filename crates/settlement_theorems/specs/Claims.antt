@@ -40,7 +40,7 @@ pub record K : Type 0 where
   pub k5-long : (at_start receipt_long).code ≡ 4
   pub k5-zero : (at_start receipt_zero).code ≡ 4
   -- K6: 2024-02-29 reads; 2023-02-29 gives 5
-  pub k6 : (date_fault (date_read F.leap_date) ≡ 0) × (date_read F.leap_date ≡ record { ok = true; date = F.leap_date }) × (date_fault (date_read F.no_leap_date) ≡ 5)
+  pub k6 : (date_fault (date_read F.leap_date) ≡ 0) × (date_read F.leap_date ≡ Some F.leap_date) × (date_fault (date_read F.no_leap_date) ≡ 5)
   pub k6-leap : (at_start leap_date).code ≡ 0
   pub k6-none : (at_start no_leap_date).code ≡ 5
   -- K7: K1, draw 1, cancel: 9
