@@ -1,5 +1,6 @@
 -- Laws of the fields of a request.
-use Rattle.std.specs.Prelude.{Option, Some, None}
+use Rattle.std.specs.Prelude.{Option, Some, None, is_some, Result, Ok, Err}
+use Rattle.std.specs.Option.{ok_or}
 use Prim.Native.Nat.{ℕ, suc, ◌+◌, ◌*◌, ◌≤◌, ◌<◌}
 use native.Mathlib.Omega.{arith}
 use mathlib.Core.Path.{◌≡◌, refl, sym, ap, ◌∙◌}
@@ -8,31 +9,28 @@ use mathlib.Core.Bool.{Bool, true, false, cond, not}
 use lib.Dec.{leb, eqb}
 use lib.ListN.{length, get_or, take, drop, length-drop}
 use lib.Seq.{length-take-le}
-use borrow.Author.Tests.{not-true, not-false, leb-true, leb-false, eqb-true, eqb-false}
+use borrow.Author.Tests.{not-true, not-false, leb-true, leb-false}
 use Rattle.texts.specs.Digits.{digits_read, range_read}
 use Rattle.fields.specs.Amount.{kopecks_after, kopecks_from, amount_of, amount_read}
 use Rattle.fields.specs.Codes.{receipt_read, kind_read, reason_read}
 use Rattle.texts.specs.Lists.{find, eq_list}
 use Rattle.fields.specs.declared.number.Number.{Number}
-use Rattle.fields.specs.declared.number.NumberRead.{NumberRead}
-use Rattle.dates.specs.declared.date.DateRead.{DateRead}
-use Rattle.fields.specs.Number.{is_number_text, number_of, no_number, number_read}
-use Rattle.dates.specs.Date.{is_written, empty_date, no_date, date_read}
+use Rattle.fields.specs.Number.{is_number_text, number_of, number_read}
+use Rattle.dates.specs.Date.{is_written, empty_date, date_read}
 use Rattle.texts.proofs.Tests.{cond-elim}
 use Rattle.texts.proofs.DigitLaws.{read-long}
-use Rattle.fields.proofs.NumberLaws.{number-empty, number-long, number_short, number-good}
-use Rattle.dates.proofs.DateLaws.{date-size, written-parts}
+use Rattle.fields.proofs.NumberLaws.{text-empty, text-long, number_short, number-good, number-bad}
+use Rattle.dates.proofs.DateLaws.{date-size, date-again, written-parts}
 use Rattle.texts.proofs.ScanLaws.{find-le, lengths_differ}
 use Rattle.coding.specs.Url.{hex_value, decoded, decoded_within}
 use Rattle.payments.specs.declared.Action.{Action}
 use Rattle.payments.specs.declared.Action.TheVariants.{Check, Payment, Status, Cancel}
-use Rattle.parameters.specs.Names.{action_word, action_of, has_account, has_date}
+use Rattle.parameters.specs.Names.{action_word, action_of, has_account, has_receipt, has_date, has_reason}
 use Rattle.parameters.specs.Slots.{Slot, Absent, Holds}
-use Rattle.parameters.specs.SlotWalk.{clipped_text}
-use Rattle.message.specs.declared.request.Reader.{Reader}
-use Rattle.message.specs.declared.request.Reader.TheVariants.{Receipt, Kind, Amount, Reason}
-use Rattle.message.specs.RequestWalk.{read_by}
-use Rattle.message.specs.Request.{held, field_of, unused_number, number_field, date_field, first_fault}
+use Rattle.parameters.specs.SlotWalk.{slots_in, is_given, clipped_text}
+use Rattle.parameters.proofs.SlotLaws.{not-given, is-given}
+use Rattle.message.specs.declared.request.Fault.{Fault}
+use Rattle.message.specs.Request.{held, field_of, unused_number, receipt_field, number_field, kind_field, amount_field, date_field, reason_field, fault_in, first_fault}
 
 -- ---- decoding shortens a text at most to a third
 decoded-least : (s : List ℕ) → length s ≤ 3 * length (decoded s)
@@ -87,17 +85,23 @@ range-long most low high m w h = rw (digits_long most m w h)
 receipt-long : (w : List ℕ) → 32 < length w → receipt_read w ≡ receipt_read []
 receipt-long = range-long 15 1 999999999999999 (omega arith)
 
-kind-long : (w : List ℕ) → 32 < length w → kind_read w ≡ kind_read []
+pub kind-long : (w : List ℕ) → 32 < length w → kind_read w ≡ kind_read []
 kind-long = range-long 3 0 999 (omega arith)
 
 reason-long : (w : List ℕ) → 32 < length w → reason_read w ≡ reason_read []
 reason-long = range-long 1 1 5 (omega arith)
 
+number-empty : number_read [] ≡ None
+number-empty = sym (number-bad [] false (text-empty [] refl) refl)
+
 number-none : (w : List ℕ) → 32 < length w → number_read w ≡ number_read []
-number-none w h = sym (number-long w no_number refl (omega arith)) ∙ number-empty [] no_number refl refl
+number-none w h = sym (number-bad w false (text-long w (omega arith)) refl) ∙ sym number-empty
+
+date-empty : date_read [] ≡ None
+date-empty = sym (date-size [] (λ e. omega arith))
 
 date-none : (w : List ℕ) → 32 < length w → date_read w ≡ date_read []
-date-none w h = sym (date-size w no_date refl (λ e. omega arith)) ∙ date-size [] no_date refl (λ e. omega arith)
+date-none w h = sym (date-size w (λ e. omega arith)) ∙ sym date-empty
 
 pub action-none : (w : List ℕ) → 32 < length w → action_of w ≡ action_of []
 unfolding action_of action_word eq_list
@@ -132,116 +136,167 @@ amount-none w h = go (leb (find 46 w) 7) refl
         let l : 7 < length (take (find 46 w) w) = rw size (leb-false (find 46 w) 7 t) in
         rw (← read-long 7 (take (find 46 w) w) l)
 
-number_ok : (b : List ℕ) → is_number_text b ≡ (number_read b).ok
-unfolding number_read
-number_ok b = go (is_number_text b)
-  where
-    go : (c : Bool) → c ≡ (cond c (record { ok = true; number = number_of b }) no_number).ok
-    go true = refl
-    go false = refl
+-- ---- what the digit readers make of nothing
+receipt-empty : receipt_read [] ≡ None
+unfolding range_read digits_read
+receipt-empty = refl
 
-date-ok : (b : List ℕ) → is_written b ≡ (date_read b).ok
-unfolding date_read
-date-ok b = go (is_written b)
-  where
-    go : (c : Bool) → c ≡ (cond c (record { ok = true; date = b }) no_date).ok
-    go true = refl
-    go false = refl
+amount-empty : amount_read [] ≡ None
+unfolding amount_read digits_read find
+amount-empty = refl
 
-date-whole : (b : List ℕ) → is_written b ≡ true → b ≡ (date_read b).date
-unfolding date_read
-date-whole b e = rw e
-
--- ---- number and date, judged and then kept: parts of what a field reads as
-module _ {R P : Type 0} (pick : R → P) (used : Bool) (fixed absent : R) (read : List ℕ → R) (u : Bool) (is : u ≡ used) where
-  part-lacks : (z : Slot) (r : P) → r ≡ pick fixed → not u ≡ true → r ≡ pick (field_of used fixed absent read z)
-  part-lacks z r q h = q ∙ ap pick (field-lacks used fixed absent read u is z fixed refl h)
-
-  part-read : ((w : List ℕ) → 32 < length w → read w ≡ read []) → read [] ≡ absent → not u ≡ false
-      → (z : Slot) (b : List ℕ) → b ≡ clipped_text z → pick (read b) ≡ pick (field_of used fixed absent read z)
-  part-read none empty h z b eb = ap pick (field-read used fixed absent read u is none empty h z b eb (read b) refl)
-
-module _ (a : Action) (t : List Slot) (u : Bool) (is : u ≡ has_account a) where
-  pub number-lacked : not u ≡ true → true ≡ (number_field a t).ok
-  number-lacked = part-lacks (λ (r : NumberRead). r.ok) (has_account a) (record { ok = true; number = unused_number }) no_number number_read u is (get_or t 1 Absent) true refl
-
-  pub number-unused : (r : Number) → r ≡ unused_number → not u ≡ true → r ≡ (number_field a t).number
-  number-unused = part-lacks (λ (r : NumberRead). r.number) (has_account a) (record { ok = true; number = unused_number }) no_number number_read u is (get_or t 1 Absent)
-
-  module _ (has : not u ≡ false) (b : List ℕ) (eb : b ≡ clipped_text (get_or t 1 Absent)) where
-    number-part : {P : Type 0} (pick : NumberRead → P) → pick (number_read b) ≡ pick (number_field a t)
-    number-part pick =
-        part-read pick (has_account a) (record { ok = true; number = unused_number }) no_number number_read u is number-none (sym (number-empty [] no_number refl refl)) has (get_or t 1 Absent) b eb
-
-    number-judge : is_number_text b ≡ (number_field a t).ok
-    number-judge = number_ok b ∙ number-part (λ (r : NumberRead). r.ok)
-
-    pub number-judged : (r : Bool) → r ≡ is_number_text b → r ≡ (number_field a t).ok
-    number-judged r q = q ∙ number-judge
-
-    module _ (good : (number_field a t).ok ≡ true) where
-      pub number_fits : length b ≤ 30
-      number_fits = number_short b (is_number_text b) refl (number-judge ∙ good)
-
-      pub number-kept : (r : Number) → r ≡ number_of b → r ≡ (number_field a t).number
-      number-kept r q = ap (λ (r : NumberRead). r.number) (number-good b (is_number_text b) refl (number-judge ∙ good) r q) ∙ number-part (λ (r : NumberRead). r.number)
-
-module _ (a : Action) (t : List Slot) (u : Bool) (is : u ≡ has_date a) where
-  pub date-lacked : not u ≡ true → true ≡ (date_field a t).ok
-  date-lacked = part-lacks (λ (r : DateRead). r.ok) (has_date a) (record { ok = true; date = empty_date }) no_date date_read u is (get_or t 5 Absent) true refl
-
-  pub date-unused : (r : List ℕ) → r ≡ empty_date → not u ≡ true → r ≡ (date_field a t).date
-  date-unused = part-lacks (λ (r : DateRead). r.date) (has_date a) (record { ok = true; date = empty_date }) no_date date_read u is (get_or t 5 Absent)
-
-  module _ (has : not u ≡ false) (b : List ℕ) (eb : b ≡ clipped_text (get_or t 5 Absent)) where
-    date-part : {P : Type 0} (pick : DateRead → P) → pick (date_read b) ≡ pick (date_field a t)
-    date-part pick =
-        part-read pick (has_date a) (record { ok = true; date = empty_date }) no_date date_read u is date-none (sym (date-size [] no_date refl (λ e. omega arith))) has (get_or t 5 Absent) b eb
-
-    date-judge : is_written b ≡ (date_field a t).ok
-    date-judge = date-ok b ∙ date-part (λ (r : DateRead). r.ok)
-
-    pub date-judged : (r : Bool) → r ≡ is_written b → r ≡ (date_field a t).ok
-    date-judged r q = q ∙ date-judge
-
-    module _ (good : (date_field a t).ok ≡ true) where
-      pub date-fits : length b ≡ 19
-      date-fits = (written-parts b (date-judge ∙ good)).size
-
-      pub date-kept : (r : List ℕ) → r ≡ b → r ≡ (date_field a t).date
-      date-kept r q = q ∙ date-whole b (date-judge ∙ good) ∙ date-part (λ (r : DateRead). r.date)
-
--- ---- no fault in a list of faults
-pub fault-none : (f : ℕ) (fs : List ℕ) → first_fault (f ∷ fs) ≡ 0 → (f ≡ 0) × (first_fault fs ≡ 0)
-unfolding first_fault
-fault-none f fs = go (eqb f 0) refl
-  where
-    go : (b : Bool) → eqb f 0 ≡ b → cond b (first_fault fs) f ≡ 0 → (f ≡ 0) × (first_fault fs ≡ 0)
-    go true e h = (eqb-true f 0 e, h)
-    go false e h = absurd (eqb-false f 0 e h)
-
-pub ok-true : (b : Bool) (code : ℕ) → cond b 0 (suc code) ≡ 0 → b ≡ true
-ok-true true code e = refl
-ok-true false code e = absurd (omega arith)
-
--- ---- the readers together
-pub read_at : (k k' : Reader) (s : List ℕ) (r : Option ℕ) → k ≡ k' → r ≡ read_by k' s → r ≡ read_by k s
-read_at k k' s r e q = q ∙ rw e
-
-pub digits-empty : (k : Reader) → read_by k [] ≡ None
-unfolding read_by range_read digits_read amount_read find
-digits-empty Receipt = refl
-digits-empty Kind = refl
-digits-empty Amount = refl
-digits-empty Reason = refl
+reason-empty : reason_read [] ≡ None
+unfolding range_read digits_read
+reason-empty = refl
 
 pub action-empty : action_of [] ≡ None
 unfolding action_of action_word eq_list
 action-empty = refl
 
-pub digits-none : (k : Reader) (w : List ℕ) → 32 < length w → read_by k w ≡ read_by k []
-unfolding read_by
-digits-none Receipt w h = receipt-long w h
-digits-none Kind w h = kind-long w h
-digits-none Amount w h = amount-none w h
-digits-none Reason w h = reason-long w h
+-- ---- the digit fields
+module _ (a : Action) (t : List Slot) (u : Bool) where
+  pub receipt-lacks : u ≡ has_receipt a → not u ≡ true → Some 0 ≡ receipt_field a t
+  receipt-lacks is h = field-lacks (has_receipt a) (Some 0) None receipt_read u is (get_or t 4 Absent) (Some 0) refl h
+
+  pub receipt-is : u ≡ has_receipt a → not u ≡ false → (b : List ℕ) → b ≡ clipped_text (get_or t 4 Absent) → (r : Option ℕ) → r ≡ receipt_read b → r ≡ receipt_field a t
+  receipt-is is h = field-read (has_receipt a) (Some 0) None receipt_read u is receipt-long receipt-empty h (get_or t 4 Absent)
+
+  pub amount-lacks : u ≡ has_account a → not u ≡ true → Some 0 ≡ amount_field a t
+  amount-lacks is h = field-lacks (has_account a) (Some 0) None amount_read u is (get_or t 3 Absent) (Some 0) refl h
+
+  pub amount-is : u ≡ has_account a → not u ≡ false → (b : List ℕ) → b ≡ clipped_text (get_or t 3 Absent) → (r : Option ℕ) → r ≡ amount_read b → r ≡ amount_field a t
+  amount-is is h = field-read (has_account a) (Some 0) None amount_read u is amount-none amount-empty h (get_or t 3 Absent)
+
+  pub reason-lacks : u ≡ has_reason a → not u ≡ true → Some 0 ≡ reason_field a t
+  reason-lacks is h = field-lacks (has_reason a) (Some 0) None reason_read u is (get_or t 6 Absent) (Some 0) refl h
+
+  pub reason-is : u ≡ has_reason a → not u ≡ false → (b : List ℕ) → b ≡ clipped_text (get_or t 6 Absent) → (r : Option ℕ) → r ≡ reason_read b → r ≡ reason_field a t
+  reason-is is h = field-read (has_reason a) (Some 0) None reason_read u is reason-long reason-empty h (get_or t 6 Absent)
+
+  pub kind-lacks : u ≡ has_account a → not u ≡ true → Some 0 ≡ kind_field a t
+  kind-lacks is h = field-lacks (has_account a) (Some 0) (Some 1) kind_read u is (get_or t 2 Absent) (Some 0) refl h
+
+-- the type: an absent one is 1
+module _ (a : Action) (s : List ℕ) (t : List (List ℕ)) (sizes : 7 ≡ length t) (u : Bool) (has : u ≡ has_account a) (used : not u ≡ false) (g : Bool) (given : g ≡ is_given t 2) where
+  pub kind-absent : not g ≡ true → Some 1 ≡ kind_field a (slots_in s t)
+  unfolding field_of held
+  kind-absent h = rw (not-given s t 2 (omega arith) sizes (sym given ∙ not-true g h), ← has, not-false u used)
+
+  pub kind-given : not g ≡ false → (b : List ℕ) → b ≡ clipped_text (get_or (slots_in s t) 2 Absent) → (r : Option ℕ) → r ≡ kind_read b → r ≡ kind_field a (slots_in s t)
+  unfolding field_of held
+  kind-given h b eb r q =
+      q ∙ rw (eb, ← has, not-false u used) (go (get_or (slots_in s t) 2 Absent) (is-given s t 2 (omega arith) sizes (sym given ∙ not-false g h)))
+    where
+      go : (z : Slot) → (z ≡ Absent → ⊥) → kind_read (clipped_text z) ≡ held (Some 1) kind_read z
+      go Absent n = absurd (n refl)
+      go (Holds v) n = clipped-same (kind_read []) kind_read kind-long refl v
+
+-- ---- number and date, judged and then kept
+number_ok : (b : List ℕ) → is_number_text b ≡ is_some (number_read b)
+unfolding number_read
+number_ok b = go (is_number_text b)
+  where
+    go : (c : Bool) → c ≡ is_some (cond c (Some (number_of b)) None)
+    go true = refl
+    go false = refl
+
+date-ok : (b : List ℕ) → is_written b ≡ is_some (date_read b)
+unfolding date_read
+date-ok b = go (is_written b)
+  where
+    go : (c : Bool) → c ≡ is_some (cond c (Some b) None)
+    go true = refl
+    go false = refl
+
+module _ (a : Action) (t : List Slot) (u : Bool) (is : u ≡ has_account a) where
+  lacked : not u ≡ true → number_field a t ≡ Some unused_number
+  lacked h = sym (field-lacks (has_account a) (Some unused_number) None number_read u is (get_or t 1 Absent) (Some unused_number) refl h)
+
+  pub number-lacked : not u ≡ true → true ≡ is_some (number_field a t)
+  number-lacked h = rw (lacked h)
+
+  pub number-unused : not u ≡ true → (r : Number) → r ≡ unused_number → number_field a t ≡ Some r
+  number-unused h r q = lacked h ∙ rw q
+
+  module _ (has : not u ≡ false) (b : List ℕ) (eb : b ≡ clipped_text (get_or t 1 Absent)) where
+    number-is : number_read b ≡ number_field a t
+    number-is = field-read (has_account a) (Some unused_number) None number_read u is number-none number-empty has (get_or t 1 Absent) b eb (number_read b) refl
+
+    number-judge : is_number_text b ≡ is_some (number_field a t)
+    number-judge = number_ok b ∙ ap is_some number-is
+
+    pub number-judged : (r : Bool) → r ≡ is_number_text b → r ≡ is_some (number_field a t)
+    number-judged r q = q ∙ number-judge
+
+    module _ (good : is_some (number_field a t) ≡ true) where
+      pub number_fits : length b ≤ 30
+      number_fits = number_short b (is_number_text b) refl (number-judge ∙ good)
+
+      pub number-kept : (r : Number) → r ≡ number_of b → number_field a t ≡ Some r
+      number-kept r q = sym number-is ∙ sym (number-good b (is_number_text b) refl (number-judge ∙ good) r q)
+
+module _ (a : Action) (t : List Slot) (u : Bool) (is : u ≡ has_date a) where
+  undated : not u ≡ true → date_field a t ≡ Some empty_date
+  undated h = sym (field-lacks (has_date a) (Some empty_date) None date_read u is (get_or t 5 Absent) (Some empty_date) refl h)
+
+  pub date-lacked : not u ≡ true → true ≡ is_some (date_field a t)
+  date-lacked h = rw (undated h)
+
+  pub date-unused : not u ≡ true → (r : List ℕ) → r ≡ empty_date → date_field a t ≡ Some r
+  date-unused h r q = undated h ∙ rw q
+
+  module _ (has : not u ≡ false) (b : List ℕ) (eb : b ≡ clipped_text (get_or t 5 Absent)) where
+    date-is : date_read b ≡ date_field a t
+    date-is = field-read (has_date a) (Some empty_date) None date_read u is date-none date-empty has (get_or t 5 Absent) b eb (date_read b) refl
+
+    date-judge : is_written b ≡ is_some (date_field a t)
+    date-judge = date-ok b ∙ ap is_some date-is
+
+    pub date-judged : (r : Bool) → r ≡ is_written b → r ≡ is_some (date_field a t)
+    date-judged r q = q ∙ date-judge
+
+    module _ (good : is_some (date_field a t) ≡ true) where
+      pub date-fits : length b ≡ 19
+      date-fits = (written-parts b (date-judge ∙ good)).size
+
+      pub date-kept : (r : List ℕ) → r ≡ b → date_field a t ≡ Some r
+      date-kept r q = sym date-is ∙ date-again b (date-judge ∙ good) ∙ rw q
+
+pub ruleset receipt_laws = (receipt-lacks, receipt-is)
+
+pub ruleset kind_laws = (kind-lacks, kind-absent, kind-given)
+
+pub ruleset amount_laws = (amount-lacks, amount-is)
+
+pub ruleset reason_laws = (reason-lacks, reason-is)
+
+pub ruleset number_laws = (number-lacked, number-judged, number-unused, number_fits, number-kept)
+
+pub ruleset date_laws = (date-lacked, date-judged, date-unused, date-fits, date-kept)
+
+-- ---- no fault in a list of faults
+pub fault-none : (f : Option Fault) (fs : List (Option Fault)) → first_fault (f ∷ fs) ≡ None → (f ≡ None) × (first_fault fs ≡ None)
+unfolding first_fault
+fault-none None fs h = (refl, h)
+fault-none (Some f) fs h = let z : ◌≡◌ {A = ℕ} 0 1 = cc in absurd (omega arith)
+
+module _ {A : Type 0} where
+  -- a field without a fault is read
+  pub field-some : (fault : Fault) (x : Option A) → fault_in fault x ≡ None → is_some x ≡ true
+  field-some fault (Some v) h = refl
+  field-some fault None h = let z : ◌≡◌ {A = ℕ} 0 1 = cc in absurd (omega arith)
+
+  module _ (x : Option A) (fault : Fault) (y : Result A Fault) (is : y ≡ ok_or x fault) where
+    pub was-some : (v : A) → y ≡ Ok v → x ≡ Some v
+    was-some v q = go x (sym is ∙ q)
+      where
+        go : (z : Option A) → ok_or z fault ≡ Ok v → z ≡ Some v
+        go (Some w) e = cc
+        go None e = cc
+
+    pub was-none : (e : Fault) → y ≡ Err e → (x ≡ None) × (fault ≡ e)
+    was-none e q = go x (sym is ∙ q)
+      where
+        go : (z : Option A) → ok_or z fault ≡ Err e → (z ≡ None) × (fault ≡ e)
+        go (Some w) h = let z : ◌≡◌ {A = ℕ} 0 1 = cc in absurd (omega arith)
+        go None h = (refl, cc)

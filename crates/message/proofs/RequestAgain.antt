@@ -1,5 +1,5 @@
 -- A request that is written from well formed fields reads back as those fields, and is short.
-use Rattle.std.specs.Prelude.{Some, None}
+use Rattle.std.specs.Prelude.{Some, None, Ok}
 use Prim.Native.Nat.{ℕ, ◌^◌, ◌≤◌, ◌<◌}
 use native.Mathlib.Nat.{le_trans}
 use native.Mathlib.Omega.{arith}
@@ -13,8 +13,8 @@ use Rattle.texts.specs.Lists.{every, eq_list}
 use Rattle.texts.specs.Digits.{is_digit, within, decimal}
 use Rattle.fields.specs.Amount.{is_amount, amount_read, amount_bytes}
 use Rattle.fields.specs.Codes.{is_receipt, receipt_read, is_kind, kind_read, is_reason, reason_read}
-use Rattle.fields.specs.Number.{number_byte, number_text, number_of, is_number, no_number, number_read}
-use Rattle.dates.specs.Date.{is_written, empty_date, no_date, date_read}
+use Rattle.fields.specs.Number.{number_byte, number_text, number_of, is_number, number_read}
+use Rattle.dates.specs.Date.{is_written, empty_date, date_read}
 use Rattle.texts.proofs.Tests.{and_left, and_right, both}
 use Rattle.texts.proofs.ListLaws.{every-weaker}
 use Rattle.texts.proofs.DigitLaws.{within_low, within-high}
@@ -30,7 +30,7 @@ use Rattle.payments.specs.declared.Action.TheVariants.{Check, Payment, Status, C
 use Rattle.message.specs.declared.request.Asked.{Asked}
 use Rattle.parameters.specs.Names.{action_name, number_name, kind_name, amount_name, receipt_name, date_name, reason_name, name_index, action_word, action_of, has_account, has_receipt, has_date, has_reason}
 use Rattle.parameters.specs.Slots.{Slot, Values, gathered}
-use Rattle.message.specs.Request.{held, field_of, unused_number, receipt_field, number_field, kind_field, amount_field, date_field, reason_field, first_fault, field_fault, asked_of, fields_read, request_read}
+use Rattle.message.specs.Request.{held, field_of, unused_number, receipt_field, number_field, kind_field, amount_field, date_field, reason_field, first_fault, field_fault, fields_asked, fields_read, request_read}
 use Rattle.message.specs.RequestText.{is_asked, pair, request_bytes, asked_again}
 use Rattle.message.proofs.PairLaws.{Entry, entry, entry_slot, text_of, slots_for, size_of, named, text-size, gather-all, field-again, plain_entry}
 
@@ -104,10 +104,10 @@ asked-parts q h =
 
 -- fields that are all read leave no fault
 fields-again : (a : Action) (t : List Slot) (r k m y : ℕ) (n : Number) (d : List ℕ)
-    → receipt_field a t ≡ Some r → number_field a t ≡ record { ok = true; number = n } → kind_field a t ≡ Some k
-    → amount_field a t ≡ Some m → date_field a t ≡ record { ok = true; date = d } → reason_field a t ≡ Some y
-    → fields_read a t ≡ record { fault = 0; asked = record { action = a; number = n; kind = k; amount = m; receipt = r; date = d; reason = y } }
-unfolding field_fault first_fault fields_read asked_of
+    → receipt_field a t ≡ Some r → number_field a t ≡ Some n → kind_field a t ≡ Some k
+    → amount_field a t ≡ Some m → date_field a t ≡ Some d → reason_field a t ≡ Some y
+    → fields_read a t ≡ Ok (record { action = a; number = n; kind = k; amount = m; receipt = r; date = d; reason = y })
+unfolding field_fault first_fault fields_read fields_asked
 fields-again a t r k m y n d er en ek em ed ey = rw (er, en, ek, em, ed, ey)
 
 -- ---- the request
@@ -162,7 +162,7 @@ module _ (q : Asked) (dated : length q.date ≡ 19) (good : is_asked q ≡ true)
   gathered-is = gather-all entries (request_bytes q) refl refl text-is
 
   -- what is written is read back
-  pub request-again : request_read (request_bytes q) ≡ record { fault = 0; asked = asked_again q }
+  pub request-again : request_read (request_bytes q) ≡ Ok (asked_again q)
   unfolding request_read slots_for asked_again
   request-again =
       let l : length (request_bytes q) ≤ 2048 = omega (arith, request-length) in
@@ -170,11 +170,11 @@ module _ (q : Asked) (dated : length q.date ≡ 19) (good : is_asked q ≡ true)
       rw (le-leb _ _ l, gathered-is, a)
       (fields-again q.action (slots_for entries) _ _ _ _ _ _
       (field-again Some q.receipt 0 None receipt_read of_receipt (λ e. receipt-again q.receipt (parts.receipt e)))
-      (field-again (λ n. record { ok = true; number = n }) (number_of (number_text q.number)) unused_number no_number number_read of_number
+      (field-again Some (number_of (number_text q.number)) unused_number None number_read of_number
       (λ e. number-again q.number (parts.number e)))
       (field-again Some q.kind 0 (Some 1) kind_read of_kind (λ e. kind-again q.kind (parts.kind e)))
       (field-again Some q.amount 0 None amount_read of_amount (λ e. amount-read (parts.amount e)))
-      (field-again (λ d. record { ok = true; date = d }) q.date empty_date no_date date_read of_date (λ e. date-again q.date (parts.date e)))
+      (field-again Some q.date empty_date None date_read of_date (λ e. date-again q.date (parts.date e)))
       (field-again Some q.reason 0 None reason_read of_reason (λ e. reason-again q.reason (parts.reason e))))
     where
       amount-read : is_amount q.amount ≡ true → amount_read (amount_bytes q.amount) ≡ Some q.amount

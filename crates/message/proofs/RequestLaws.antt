@@ -1,177 +1,195 @@
 -- Laws of a request, at each way out of its reader.
-use Rattle.std.specs.Prelude.{Option, Some, None}
+use Rattle.std.specs.Prelude.{Option, Some, None, is_some, Result, Ok, Err}
+use Rattle.std.specs.Option.{ok_or}
 use Prim.Native.Nat.{ℕ, ◌≤◌, ◌<◌}
 use native.Mathlib.Omega.{arith}
-use mathlib.Core.Path.{◌≡◌, refl, sym, ap, ◌∙◌}
+use mathlib.Core.Path.{◌≡◌, refl, sym, ◌∙◌}
 use mathlib.Core.List.{List, [], ◌∷◌}
-use mathlib.Core.Bool.{Bool, true, false, cond, not}
-use lib.Dec.{eqb}
+use mathlib.Core.Bool.{Bool, true, false, not}
 use lib.ListN.{length, get_or, replicate}
-use borrow.Author.Tests.{not-true, not-false, le-leb, lt-leb, eq-eqb, ne_eqb, eqb-true}
+use borrow.Author.Tests.{not-true, not-false, le-leb, lt-leb}
 use Rattle.fields.specs.declared.number.Number.{Number}
+use Rattle.fields.specs.Amount.{amount_fault}
+use Rattle.fields.specs.Codes.{receipt_fault, kind_fault, reason_fault}
+use Rattle.fields.specs.Number.{number_fault}
+use Rattle.dates.specs.Date.{date_fault}
 use Rattle.payments.specs.declared.Action.{Action}
 use Rattle.payments.specs.declared.Action.TheVariants.{Check}
+use Rattle.message.specs.declared.request.Asked.{Asked}
+use Rattle.message.specs.declared.request.Refusal.{Refusal}
 use Rattle.message.specs.declared.request.Figures.{Figures}
-use Rattle.message.specs.declared.request.RequestRead.{RequestRead}
-use Rattle.fields.specs.Codes.{kind_read}
-use Rattle.dates.specs.Date.{empty_date}
+use Rattle.message.specs.declared.request.Fault.{Fault}
+use Rattle.message.specs.declared.request.Fault.TheVariants.{NoAction, Account, Amount, Receipt, Date, Malformed, Reason}
 use Rattle.coding.specs.Params.{pieces}
-use Rattle.parameters.specs.Names.{action_of, has_account, has_receipt, has_reason}
-use Rattle.parameters.specs.Slots.{Slot, Absent, Holds, gather_from, gathered}
-use Rattle.parameters.specs.SlotWalk.{slot_at, slots_in, scanned, is_given}
-use Rattle.parameters.proofs.SlotLaws.{not-given, is-given}
-use Rattle.message.specs.declared.request.Reader.TheVariants.{Receipt, Kind, Amount, Reason}
-use Rattle.message.specs.RequestWalk.{read_by, faulty, later_fault, later_figures, figures_of}
-use Rattle.message.specs.Request.{held, field_of, unused_number, value_in, receipt_field, number_field, kind_field, amount_field, date_field, reason_field, refused, first_fault, field_fault, asked_of, fields_read, request_read}
-use Rattle.message.proofs.FieldLaws.{fault-none, ok-true}
+use Rattle.parameters.specs.Names.{action_of}
+use Rattle.parameters.specs.Slots.{Slot, Absent, gather_from, gathered}
+use Rattle.parameters.specs.SlotWalk.{slot_at, slots_in, scanned}
+use Rattle.message.specs.RequestWalk.{figured, figures_of}
+use Rattle.message.specs.Request.{held, value_in, receipt_field, number_field, kind_field, amount_field, date_field, reason_field, refused, fault_in, first_fault, field_fault, fault_code, fault_number, asked_of, fields_asked, fields_read, request_read}
+use Rattle.message.proofs.FieldLaws.{fault-none, field-some, was-some, was-none}
 
-pub refused-is : (f : ℕ) (a : Action) (r : RequestRead) → r ≡ record { fault = f; asked = record { action = a; number = unused_number; kind = 0; amount = 0; receipt = 0; date = empty_date; reason = 0 } } → r ≡ refused f a
-unfolding refused
-refused-is f a r q = q
+-- ---- a request that was read, and one that was not
+pub code-some : (f : Fault) → fault_code f ≡ 0 → ⊥
+code-some NoAction e = omega arith
+code-some Account e = omega arith
+code-some Amount e = omega arith
+code-some Receipt e = omega arith
+code-some Date e = omega arith
+code-some Malformed e = omega arith
+code-some Reason e = omega arith
 
--- ---- the digit fields, as their one function reads them
-module _ (a : Action) (t : List Slot) (u : Bool) (r : Option ℕ) where
-  pub is-receipt : u ≡ has_receipt a → r ≡ field_of u (Some 0) None (read_by Receipt) (get_or t 4 Absent) → r ≡ receipt_field a t
-  unfolding read_by
-  is-receipt e q = q ∙ rw e
-
-  pub is-amount : u ≡ has_account a → r ≡ field_of u (Some 0) None (read_by Amount) (get_or t 3 Absent) → r ≡ amount_field a t
-  unfolding read_by
-  is-amount e q = q ∙ rw e
-
-  pub is-reason : u ≡ has_reason a → r ≡ field_of u (Some 0) None (read_by Reason) (get_or t 6 Absent) → r ≡ reason_field a t
-  unfolding read_by
-  is-reason e q = q ∙ rw e
-
--- an absent type is 1
-module _ (a : Action) (s : List ℕ) (t : List (List ℕ)) (sizes : 7 ≡ length t) (u : Bool) (has : u ≡ has_account a) (g : Bool) (given : g ≡ is_given t 2) (r : Option ℕ) where
-  pub kind-given : g ≡ true → r ≡ field_of u (Some 0) None (read_by Kind) (get_or (slots_in s t) 2 Absent) → r ≡ kind_field a (slots_in s t)
-  unfolding read_by field_of held
-  kind-given h q =
-      q ∙ rw has (go (get_or (slots_in s t) 2 Absent) (is-given s t 2 (omega arith) sizes (sym given ∙ h)))
+module _ (r : Result Asked Refusal) where
+  pub read-ok : fault_number r ≡ 0 → r ≡ Ok (asked_of r)
+  read-ok = go r
     where
-      go : (z : Slot) → (z ≡ Absent → ⊥) → field_of (has_account a) (Some 0) None kind_read z ≡ field_of (has_account a) (Some 0) (Some 1) kind_read z
-      go Absent n = absurd (n refl)
-      go (Holds v) n = refl
+      go : (x : Result Asked Refusal) → fault_number x ≡ 0 → x ≡ Ok (asked_of x)
+      go (Ok q) e = refl
+      go (Err x) e = absurd (code-some x.fault e)
 
-  absent-kind : g ≡ false → kind_field a (slots_in s t) ≡ cond u (Some 1) (Some 0)
-  unfolding field_of held
-  absent-kind h = rw (not-given s t 2 (omega arith) sizes (sym given ∙ h), ← has)
+  module _ (q : Asked) (is : r ≡ Ok q) where
+    pub ok-number : fault_number r ≡ 0
+    ok-number = rw is
 
-  pub kind-absent : g ≡ false → u ≡ true → r ≡ Some 1 → r ≡ kind_field a (slots_in s t)
-  kind-absent h y q = q ∙ sym (absent-kind h ∙ rw y)
+    pub ok-asked : asked_of r ≡ q
+    ok-asked = rw is
 
-  pub kind-lacks : g ≡ false → u ≡ false → r ≡ Some 0 → r ≡ kind_field a (slots_in s t)
-  kind-lacks h n q = q ∙ sym (absent-kind h ∙ rw n)
+-- what holds of 0 and of each fault's number holds of the number of any request
+pub number-by : (P : ℕ → Type 0) → P 0 → P 1 → P 2 → P 3 → P 4 → P 5 → P 31 → P 32 → (r : Result Asked Refusal) → P (fault_number r)
+number-by P none action account amount receipt date text reason (Ok q) = none
+number-by P none action account amount receipt date text reason (Err x) = go x.fault
+  where
+    go : (f : Fault) → P (fault_code f)
+    go NoAction = action
+    go Account = account
+    go Amount = amount
+    go Receipt = receipt
+    go Date = date
+    go Malformed = text
+    go Reason = reason
+
+-- ---- the number of a field's fault is the one that the field has by its own definition
+abbrev pub code_in : Option Fault → ℕ
+code_in None = 0
+code_in (Some f) = fault_code f
+
+pub number-code : (x : Option Number) → code_in (fault_in Account x) ≡ number_fault x
+number-code None = refl
+number-code (Some v) = refl
+
+pub date-code : (x : Option (List ℕ)) → code_in (fault_in Date x) ≡ date_fault x
+date-code None = refl
+date-code (Some v) = refl
+
+pub digit-codes : (x : Option ℕ)
+    → (code_in (fault_in Receipt x) ≡ receipt_fault x) × (code_in (fault_in Account x) ≡ kind_fault x) × (code_in (fault_in Amount x) ≡ amount_fault x) × (code_in (fault_in Reason x) ≡ reason_fault x)
+digit-codes None = (refl, refl, refl, refl)
+digit-codes (Some v) = (refl, refl, refl, refl)
 
 -- ---- the figures in their order: the first field that is malformed decides
-module _ (a : Action) (t : List Slot) (r : Figures) where
-  -- amount, date and reason
-  module _ (receipt kind : ℕ) where
-    later-fails : (n : ℕ) → later_fault a t ≡ n → eqb n 0 ≡ false → r ≡ faulty n → r ≡ later_figures a t receipt kind
-    unfolding later_figures
-    later-fails n e z q = q ∙ rw (e, z)
+missing : {A : Type 0} (x : Option A) (g : Bool) → g ≡ is_some x → g ≡ false → x ≡ None
+missing (Some v) g e h = let z : ◌≡◌ {A = ℕ} 0 1 = cc in absurd (omega arith)
+missing None g e h = refl
 
-    module _ (am : Option ℕ) (ea : am ≡ amount_field a t) where
-      pub no-amount : am ≡ None → r ≡ faulty 3 → r ≡ later_figures a t receipt kind
-      unfolding later_fault first_fault
-      no-amount b q = later-fails 3 (rw (← ea, b)) refl q
+sound : {A : Type 0} (x : Option A) (f : Fault) (g : Bool) → g ≡ is_some x → g ≡ true → fault_in f x ≡ None
+sound (Some v) f g e h = refl
+sound None f g e h = let z : ◌≡◌ {A = ℕ} 0 1 = cc in absurd (omega arith)
 
-      module _ (m : ℕ) (va : am ≡ Some m) (dg : Bool) (ed : dg ≡ (date_field a t).ok) where
-        pub no-date : not dg ≡ true → r ≡ faulty 5 → r ≡ later_figures a t receipt kind
-        unfolding later_fault first_fault
-        no-date b q = later-fails 5 (rw (← ea, va, ← ed, not-true dg b)) refl q
-
-        module _ (od : not dg ≡ false) (rs : Option ℕ) (er : rs ≡ reason_field a t) where
-          pub no-reason : rs ≡ None → r ≡ faulty 32 → r ≡ later_figures a t receipt kind
-          unfolding later_fault first_fault
-          no-reason b q = later-fails 32 (rw (← ea, va, ← ed, not-false dg od, ← er, b)) refl q
-
-          pub all-later : (y : ℕ) → rs ≡ Some y → r ≡ record { fault = 0; receipt = receipt; kind = kind; amount = m; reason = y } → r ≡ later_figures a t receipt kind
-          unfolding later_fault first_fault later_figures
-          all-later y vr q = q ∙ rw (← ea, va, ← ed, not-false dg od, ← er, vr)
-
-  -- receipt, number and type before them
-  fails : (n : ℕ) → field_fault a t ≡ n → eqb n 0 ≡ false → r ≡ faulty n → r ≡ figures_of a t
+module _ (a : Action) (t : List Slot) where
+  fails : (f : Fault) → field_fault a t ≡ Some f → Err f ≡ figures_of a t
   unfolding figures_of
-  fails n e z q = q ∙ rw (e, z)
+  fails f e = rw e
 
-  module _ (rc : Option ℕ) (ec : rc ≡ receipt_field a t) where
-    pub no-receipt : rc ≡ None → r ≡ faulty 4 → r ≡ figures_of a t
+  module _ (x : Option ℕ) (ex : x ≡ receipt_field a t) (y : Result ℕ Fault) (ey : y ≡ ok_or x Receipt) where
+    pub no-receipt : (e : Fault) → y ≡ Err e → Err e ≡ figures_of a t
     unfolding field_fault first_fault
-    no-receipt b q = fails 4 (rw (← ec, b)) refl q
+    no-receipt e q = let n = was-none x Receipt y ey e q in fails e (rw (← ex, n.0, n.1))
 
-    module _ (x : ℕ) (vc : rc ≡ Some x) (ng : Bool) (en : ng ≡ (number_field a t).ok) where
-      pub no-number : not ng ≡ true → r ≡ faulty 2 → r ≡ figures_of a t
+    module _ (receipt : ℕ) (vr : y ≡ Ok receipt) (ng : Bool) (en : ng ≡ is_some (number_field a t)) where
+      pub no-number : ng ≡ false → Err Account ≡ figures_of a t
       unfolding field_fault first_fault
-      no-number b q = fails 2 (rw (← ec, vc, ← en, not-true ng b)) refl q
+      no-number h = fails Account (rw (← ex, was-some x Receipt y ey receipt vr, missing (number_field a t) ng en h))
 
-      module _ (on : not ng ≡ false) (kd : Option ℕ) (ek : kd ≡ kind_field a t) where
-        pub no_kind : kd ≡ None → r ≡ faulty 2 → r ≡ figures_of a t
+      module _ (on : ng ≡ true) (k : Option ℕ) (ek : k ≡ kind_field a t) (z : Result ℕ Fault) (ez : z ≡ ok_or k Account) where
+        pub no_kind : (e : Fault) → z ≡ Err e → Err e ≡ figures_of a t
         unfolding field_fault first_fault
-        no_kind b q = fails 2 (rw (← ec, vc, ← en, not-false ng on, ← ek, b)) refl q
+        no_kind e q =
+            let n = was-none k Account z ez e q in
+            fails e (rw (← ex, was-some x Receipt y ey receipt vr, sound (number_field a t) Account ng en on, ← ek, n.0, n.1))
 
-        pub then-later : (k : ℕ) → kd ≡ Some k → r ≡ later_figures a t x k → r ≡ figures_of a t
-        unfolding field_fault first_fault later_fault figures_of later_figures
-        then-later k vk q = q ∙ rw (← ec, vc, ← en, not-false ng on, ← ek, vk)
+        module _ (kind : ℕ) (vk : z ≡ Ok kind) (m : Option ℕ) (em : m ≡ amount_field a t) (w : Result ℕ Fault) (ew : w ≡ ok_or m Amount) where
+          pub no-amount : (e : Fault) → w ≡ Err e → Err e ≡ figures_of a t
+          unfolding field_fault first_fault
+          no-amount e q =
+              let n = was-none m Amount w ew e q in
+              fails e (rw (← ex, was-some x Receipt y ey receipt vr, sound (number_field a t) Account ng en on, ← ek, was-some k Account z ez kind vk, ← em, n.0, n.1))
+
+          module _ (amount : ℕ) (va : w ≡ Ok amount) (dg : Bool) (ed : dg ≡ is_some (date_field a t)) where
+            pub no-date : dg ≡ false → Err Date ≡ figures_of a t
+            unfolding field_fault first_fault
+            no-date h =
+                fails Date
+                (rw (← ex, was-some x Receipt y ey receipt vr, sound (number_field a t) Account ng en on, ← ek, was-some k Account z ez kind vk, ← em, was-some m Amount w ew amount va, missing (date_field a t) dg ed h))
+
+            module _ (od : dg ≡ true) (n : Option ℕ) (er : n ≡ reason_field a t) (v : Result ℕ Fault) (ev : v ≡ ok_or n Reason) where
+              pub no-reason : (e : Fault) → v ≡ Err e → Err e ≡ figures_of a t
+              unfolding field_fault first_fault
+              no-reason e q =
+                  let o = was-none n Reason v ev e q in
+                  fails e
+                  (rw (← ex, was-some x Receipt y ey receipt vr, sound (number_field a t) Account ng en on, ← ek, was-some k Account z ez kind vk, ← em, was-some m Amount w ew amount va, sound (date_field a t) Date dg ed od, ← er, o.0, o.1))
+
+              pub all-figures : (reason : ℕ) → v ≡ Ok reason → Ok (record { receipt = receipt; kind = kind; amount = amount; reason = reason }) ≡ figures_of a t
+              unfolding field_fault first_fault figures_of
+              all-figures reason q =
+                  rw (← ex, was-some x Receipt y ey receipt vr, sound (number_field a t) Account ng en on, ← ek, was-some k Account z ez kind vk, ← em, was-some m Amount w ew amount va, sound (date_field a t) Date dg ed od, ← er, was-some n Reason v ev reason q)
+
+pub ruleset figures_laws = (no-receipt, no-number, no_kind, no-amount, no-date, no-reason, all-figures)
 
 -- ---- the fields, once the figures are read
-module _ (a : Action) (t : List Slot) (f : Figures) (ef : f ≡ figures_of a t) where
-  fault-is : f.fault ≡ field_fault a t
-  unfolding figures_of
-  fault-is = ap (λ (x : Figures). x.fault) ef ∙ go (eqb (field_fault a t) 0) refl
-    where
-      go : (b : Bool) → eqb (field_fault a t) 0 ≡ b
-          → (cond b (record {
-            fault = 0;
-            receipt = value_in (receipt_field a t);
-            kind = value_in (kind_field a t);
-            amount = value_in (amount_field a t);
-            reason = value_in (reason_field a t);
-          }) (faulty (field_fault a t))).fault ≡ field_fault a t
-      go true e = sym (eqb-true (field_fault a t) 0 e)
-      go false e = refl
+figured-ok : (o : Option Fault) (x f : Figures) → Ok f ≡ figured o x → (o ≡ None) × (f ≡ x)
+figured-ok None x f e = (refl, cc)
+figured-ok (Some fault) x f e = let z : ◌≡◌ {A = ℕ} 0 1 = cc in absurd (omega arith)
 
-  pub is-faulty : (r : RequestRead) → (f.fault ≡ 0 → ⊥) → r ≡ refused f.fault a → r ≡ fields_read a t
-  unfolding fields_read
-  is-faulty r n q =
-      let m : (field_fault a t ≡ 0 → ⊥) = λ z. n (fault-is ∙ z) in
-      q ∙ rw (fault-is, ne_eqb _ _ m)
+figured-err : (o : Option Fault) (x : Figures) (e : Fault) → Err e ≡ figured o x → o ≡ Some e
+figured-err (Some fault) x e q = cc
+figured-err None x e q = let z : ◌≡◌ {A = ℕ} 0 1 = cc in absurd (omega arith)
 
-  module _ (none : f.fault ≡ 0) where
-    no-fault : field_fault a t ≡ 0
-    no-fault = sym fault-is ∙ none
+module _ (a : Action) (t : List Slot) (r : Result Figures Fault) (er : r ≡ figures_of a t) where
+  pub is-faulty : (fault : Fault) → r ≡ Err fault → refused fault a ≡ fields_read a t
+  unfolding fields_read figures_of
+  is-faulty fault q = rw (figured-err (field_fault a t) _ fault (sym q ∙ er))
 
-    figures-are : f ≡ record {
-      fault = 0;
-      receipt = value_in (receipt_field a t);
-      kind = value_in (kind_field a t);
-      amount = value_in (amount_field a t);
-      reason = value_in (reason_field a t);
-    }
+  module _ (f : Figures) (ok : r ≡ Ok f) where
+    figures-are : (field_fault a t ≡ None) × (f ≡ record {
+      receipt = value_in 0 (receipt_field a t);
+      kind = value_in 0 (kind_field a t);
+      amount = value_in 0 (amount_field a t);
+      reason = value_in 0 (reason_field a t);
+    })
     unfolding figures_of
-    figures-are = ef ∙ rw (eq-eqb _ _ no-fault)
+    figures-are = figured-ok (field_fault a t) _ f (sym ok ∙ er)
 
-    pub number-readable : (number_field a t).ok ≡ true
+    pub number-readable : is_some (number_field a t) ≡ true
     unfolding field_fault
-    number-readable = ok-true _ 1 (fault-none _ _ (fault-none _ _ no-fault).1).0
+    number-readable = field-some Account (number_field a t) (fault-none _ _ (fault-none _ _ figures-are.0).1).0
 
-    pub date-readable : (date_field a t).ok ≡ true
+    pub date-readable : is_some (date_field a t) ≡ true
     unfolding field_fault
     date-readable =
-        let kind = fault-none _ _ (fault-none _ _ (fault-none _ _ no-fault).1).1 in
+        let kind = fault-none _ _ (fault-none _ _ (fault-none _ _ figures-are.0).1).1 in
         let amount = fault-none _ _ kind.1 in
-        ok-true _ 4 (fault-none _ _ amount.1).0
+        field-some Date (date_field a t) (fault-none _ _ amount.1).0
 
-    pub all_read : (n : Number) → n ≡ (number_field a t).number → (d : List ℕ) → d ≡ (date_field a t).date → (r : RequestRead)
-        → r ≡ record { fault = 0; asked = record { number = n; kind = f.kind; amount = f.amount; receipt = f.receipt; reason = f.reason; date = d; action = a } }
-        → r ≡ fields_read a t
-    unfolding fields_read asked_of
-    all_read n en d ed r q = q ∙ rw (en, ed, figures-are, eq-eqb _ _ no-fault)
+    pub all_read : (n : Number) → number_field a t ≡ Some n → (d : List ℕ) → date_field a t ≡ Some d
+        → Ok (record { number = n; kind = f.kind; amount = f.amount; receipt = f.receipt; reason = f.reason; date = d; action = a }) ≡ fields_read a t
+    unfolding fields_read fields_asked
+    all_read n en d ed = rw (figures-are.1, figures-are.0, en, ed)
+
+pub ruleset fields_laws = (is-faulty, number-readable, date-readable, all_read)
 
 -- ---- the whole text
-module _ (s : List ℕ) (r : RequestRead) where
-  pub too_long : 2048 < length s → r ≡ refused 31 Check → r ≡ request_read s
+module _ (s : List ℕ) (r : Result Asked Refusal) where
+  pub too_long : 2048 < length s → r ≡ refused Malformed Check → r ≡ request_read s
   unfolding request_read
   too_long h q = q ∙ rw (lt-leb _ _ h)
 
@@ -181,15 +199,17 @@ module _ (s : List ℕ) (r : RequestRead) where
     unfolding gathered slots_in slot_at
     whole = eg ∙ rw empty
 
-    pub is-broken : not g ≡ true → r ≡ refused 31 Check → r ≡ request_read s
+    pub is-broken : not g ≡ true → r ≡ refused Malformed Check → r ≡ request_read s
     unfolding request_read scanned
     is-broken b q = q ∙ rw (le-leb _ _ short, ← whole, not-true g b)
 
     module _ (good : not g ≡ false) (x : Option Action) (ex : x ≡ held None action_of (get_or (slots_in s t) 0 Absent)) where
-      pub no-action : x ≡ None → r ≡ refused 1 Check → r ≡ request_read s
+      pub no-action : x ≡ None → r ≡ refused NoAction Check → r ≡ request_read s
       unfolding request_read scanned
       no-action b q = q ∙ rw (le-leb _ _ short, ← whole, not-false g good, ← ex, b)
 
       pub by-action : (a : Action) → x ≡ Some a → r ≡ fields_read a (slots_in s t) → r ≡ request_read s
       unfolding request_read scanned
       by-action a b q = q ∙ rw (le-leb _ _ short, ← whole, not-false g good, ← ex, b)
+
+pub ruleset request_laws = (too_long, is-broken, no-action, by-action)

@@ -1,10 +1,11 @@
-// Requests: what they ask, or their first fault.
-ghost use Rattle.std.specs.Prelude.{◌≡◌, true, ◌<◌, length, get_or};
+// Requests: what they ask, or why they are refused.
+ghost use Rattle.std.specs.Prelude.{◌≡◌, Some, length, get_or, is_some, None, true};
+ghost use Rattle.payments.specs.declared.Action.TheVariants.{Check};
 ghost use Rattle.parameters.specs.Names.{action_of};
 ghost use Rattle.parameters.specs.Slots.{Absent};
 ghost use Rattle.parameters.specs.SlotWalk.{slots_in};
-ghost use Rattle.message.specs.Request.{held, field_of, refused, receipt_field, number_field, kind_field, amount_field, date_field, reason_field, fields_read, request_read};
-ghost use Rattle.message.specs.RequestWalk.{read_by, faulty, later_figures, figures_of};
+ghost use Rattle.message.specs.Request.{held, fault_code, nothing_asked, receipt_field, number_field, kind_field, amount_field, date_field, reason_field, refused, fields_read, request_read};
+ghost use Rattle.message.specs.RequestWalk.{figures_of};
 
 use dates::date;
 use fields::number::Number;
@@ -27,50 +28,60 @@ pub struct Asked {
     pub action: Action,
 }
 
-// What a request asks, with fault 0; or its fault and nothing asked. With 31 and 1 no action is known, and Check stands there.
-#[derive(Clone, Copy)]
-pub struct RequestRead {
-    pub fault: u64,
-    pub asked: Asked,
+// The first fault of a request, with its number.
+#[derive(Clone, Copy, PartialEq, Eq)]
+pub enum Fault {
+    NoAction = 1,
+    Account = 2,
+    Amount = 3,
+    Receipt = 4,
+    Date = 5,
+    Malformed = 31,
+    Reason = 32,
 }
 
-// The fields that are figures, with fault 0; or the first fault of all fields.
+// Why a request is refused. With Malformed and NoAction no action is known, and Check stands there.
+#[derive(Clone, Copy, PartialEq, Eq)]
+pub struct Refusal {
+    pub fault: Fault,
+    pub action: Action,
+}
+
+// The fields that are figures.
 #[derive(Clone, Copy)]
 struct Figures {
-    fault: u64,
     receipt: u64,
     kind: u64,
     amount: u64,
     reason: u64,
 }
 
-// The readers of the digit fields.
-#[derive(Clone, Copy)]
-enum Reader {
-    Receipt,
-    Kind,
-    Amount,
-    Reason,
+impl From<Fault> for u64 {
+    ghost from_gives = { λ fault n. n ≡ fault_code fault };
+
+    fn from(fault: Fault) -> u64 {
+        fault as u64
+    }
 }
 
-// A request that is refused.
-fn refuse(fault: u64, a: Action) -> RequestRead
-    ensures { result ≡ refused fault a }
-{
-    RequestRead {
-        fault,
-        asked: Asked {
+impl Asked {
+    // What stands for a request that is refused: nothing is asked, but for its action.
+    #[tactic(auto, unfolding(crate::specs::Request::nothing_asked))]
+    pub fn nothing(action: Action) -> Asked
+        ensures { result ≡ nothing_asked action }
+    {
+        Asked {
             number: Number {
-                bytes: [0u8; 30],
+                bytes: [0; 30],
                 len: 0,
             },
             kind: 0,
             amount: 0,
             receipt: 0,
             reason: 0,
-            date: [0u8; 19],
-            action: a,
-        },
+            date: [0; 19],
+            action,
+        }
     }
 }
 
@@ -83,70 +94,64 @@ fn action_field(s: &[u8], t: &[[usize; 2]]) -> Option<Action>
     action::read_action(slots::text_of(s, t, action::ACTION, &mut room))
 }
 
-// The value that one of the four digit readers makes of bytes.
-fn read_by(reader: Reader, s: &[u8]) -> Option<u64>
-    ensures { result ≡ read_by reader s.now }
-{
-    match reader {
-        Reader::Receipt => codes::read_receipt(s),
-        Reader::Kind => codes::read_kind(s),
-        Reader::Amount => amount::read_amount(s),
-        Reader::Reason => codes::read_reason(s),
-    }
-}
-
-// A digit field: 0 where the action lacks it, malformed where the request does.
-fn digits_field(reader: Reader, used: bool, s: &[u8], t: &[[usize; 2]], k: usize) -> Option<u64>
-    requires { (k < 7) × (7 ≡ length t.now) }
-    ensures { result ≡ field_of used (Some 0) None (read_by reader) (get_or (slots_in s.now t.now) k Absent) }
-{
-    if !used {
-        return Some(0);
-    }
-    let mut room = [0u8; 96];
-    read_by(reader, slots::text_of(s, t, k, &mut room))
-}
-
+// The receipt: 0 where the action lacks it, malformed where the request does. So are amount and reason.
+#[tactic(auto, using(crate::proofs::FieldLaws::receipt_laws))]
 fn receipt_field(a: Action, s: &[u8], t: &[[usize; 2]]) -> Option<u64>
     requires { 7 ≡ length t.now }
     ensures { result ≡ receipt_field a (slots_in s.now t.now) }
 {
-    let used = action::has_receipt(a);
-    digits_field(Reader::Receipt, used, s, t, action::RECEIPT)
+    if !action::has_receipt(a) {
+        return Some(0);
+    }
+    let mut room = [0u8; 96];
+    codes::read_receipt(slots::text_of(s, t, action::RECEIPT, &mut room))
 }
 
 // The type; an absent one is 1.
+#[tactic(auto, using(crate::proofs::FieldLaws::kind_laws))]
 fn kind_field(a: Action, s: &[u8], t: &[[usize; 2]]) -> Option<u64>
     requires { 7 ≡ length t.now }
     ensures { result ≡ kind_field a (slots_in s.now t.now) }
 {
-    let used = action::has_account(a);
-    if slots::is_given(t, action::KIND) {
-        return digits_field(Reader::Kind, used, s, t, action::KIND);
+    if !action::has_account(a) {
+        return Some(0);
     }
-    if used { Some(1) } else { Some(0) }
+    if !slots::is_given(t, action::KIND) {
+        return Some(1);
+    }
+    let mut room = [0u8; 96];
+    codes::read_kind(slots::text_of(s, t, action::KIND, &mut room))
 }
 
+#[tactic(auto, using(crate::proofs::FieldLaws::amount_laws))]
 fn amount_field(a: Action, s: &[u8], t: &[[usize; 2]]) -> Option<u64>
     requires { 7 ≡ length t.now }
     ensures { result ≡ amount_field a (slots_in s.now t.now) }
 {
-    let used = action::has_account(a);
-    digits_field(Reader::Amount, used, s, t, action::AMOUNT)
+    if !action::has_account(a) {
+        return Some(0);
+    }
+    let mut room = [0u8; 96];
+    amount::read_amount(slots::text_of(s, t, action::AMOUNT, &mut room))
 }
 
+#[tactic(auto, using(crate::proofs::FieldLaws::reason_laws))]
 fn reason_field(a: Action, s: &[u8], t: &[[usize; 2]]) -> Option<u64>
     requires { 7 ≡ length t.now }
     ensures { result ≡ reason_field a (slots_in s.now t.now) }
 {
-    let used = action::has_reason(a);
-    digits_field(Reader::Reason, used, s, t, action::REASON)
+    if !action::has_reason(a) {
+        return Some(0);
+    }
+    let mut room = [0u8; 96];
+    codes::read_reason(slots::text_of(s, t, action::REASON, &mut room))
 }
 
 // Whether the number can be read, where the action has one.
+#[tactic(auto, using(crate::proofs::FieldLaws::number_laws))]
 fn number_good(a: Action, s: &[u8], t: &[[usize; 2]]) -> bool
     requires { 7 ≡ length t.now }
-    ensures { result ≡ (number_field a (slots_in s.now t.now)).ok }
+    ensures { result ≡ is_some (number_field a (slots_in s.now t.now)) }
 {
     if !action::has_account(a) {
         return true;
@@ -156,9 +161,10 @@ fn number_good(a: Action, s: &[u8], t: &[[usize; 2]]) -> bool
 }
 
 // Whether the date can be read, where the action has one.
+#[tactic(auto, using(crate::proofs::FieldLaws::date_laws))]
 fn date_good(a: Action, s: &[u8], t: &[[usize; 2]]) -> bool
     requires { 7 ≡ length t.now }
-    ensures { result ≡ (date_field a (slots_in s.now t.now)).ok }
+    ensures { result ≡ is_some (date_field a (slots_in s.now t.now)) }
 {
     if !action::has_date(a) {
         return true;
@@ -168,13 +174,14 @@ fn date_good(a: Action, s: &[u8], t: &[[usize; 2]]) -> bool
 }
 
 // The number, once it is known that it can be read; no bytes where the action lacks it.
+#[tactic(auto, using(crate::proofs::FieldLaws::number_laws))]
 fn number_field(a: Action, s: &[u8], t: &[[usize; 2]]) -> Number
-    requires { (7 ≡ length t.now) × ((number_field a (slots_in s.now t.now)).ok ≡ true) }
-    ensures { result ≡ (number_field a (slots_in s.now t.now)).number }
+    requires { (7 ≡ length t.now) × (is_some (number_field a (slots_in s.now t.now)) ≡ true) }
+    ensures { number_field a (slots_in s.now t.now) ≡ Some result }
 {
     if !action::has_account(a) {
         return Number {
-            bytes: [0u8; 30],
+            bytes: [0; 30],
             len: 0,
         };
     }
@@ -183,106 +190,87 @@ fn number_field(a: Action, s: &[u8], t: &[[usize; 2]]) -> Number
 }
 
 // The date, once it is known that it can be read; zeros where the action lacks it.
+#[tactic(auto, using(crate::proofs::FieldLaws::date_laws))]
 fn date_field(a: Action, s: &[u8], t: &[[usize; 2]]) -> [u8; 19]
-    requires { (7 ≡ length t.now) × ((date_field a (slots_in s.now t.now)).ok ≡ true) }
-    ensures { result ≡ (date_field a (slots_in s.now t.now)).date }
+    requires { (7 ≡ length t.now) × (is_some (date_field a (slots_in s.now t.now)) ≡ true) }
+    ensures { date_field a (slots_in s.now t.now) ≡ Some result }
 {
     if !action::has_date(a) {
-        return [0u8; 19];
+        return [0; 19];
     }
     let mut room = [0u8; 96];
     date::nineteen(slots::text_of(s, t, action::DATE, &mut room))
 }
 
-// No figures, but a fault.
-fn faulty(fault: u64) -> Figures
-    ensures { result ≡ faulty fault }
-{
-    Figures {
-        fault,
-        receipt: 0,
-        kind: 0,
-        amount: 0,
-        reason: 0,
-    }
-}
-
-// The figures once receipt and type are read, or the first fault of amount, date and reason.
-fn later_figures(a: Action, s: &[u8], t: &[[usize; 2]], receipt: u64, kind: u64) -> Figures
+// The figures of an action, or the first fault of its fields.
+#[tactic(auto, using(crate::proofs::RequestLaws::figures_laws))]
+fn read_figures(a: Action, s: &[u8], t: &[[usize; 2]]) -> Result<Figures, Fault>
     requires { 7 ≡ length t.now }
-    ensures { result ≡ later_figures a (slots_in s.now t.now) receipt kind }
+    ensures { result ≡ figures_of a (slots_in s.now t.now) }
 {
-    let Some(amount) = amount_field(a, s, t) else {
-        return faulty(3);
-    };
-    if !date_good(a, s, t) {
-        return faulty(5);
+    let receipt = receipt_field(a, s, t).ok_or(Fault::Receipt)?;
+    if !number_good(a, s, t) {
+        return Err(Fault::Account);
     }
-    let Some(reason) = reason_field(a, s, t) else {
-        return faulty(32);
-    };
-    Figures {
-        fault: 0,
+    let kind = kind_field(a, s, t).ok_or(Fault::Account)?;
+    let amount = amount_field(a, s, t).ok_or(Fault::Amount)?;
+    if !date_good(a, s, t) {
+        return Err(Fault::Date);
+    }
+    let reason = reason_field(a, s, t).ok_or(Fault::Reason)?;
+    Ok(Figures {
         receipt,
         kind,
         amount,
         reason,
-    }
-}
-
-// The figures of an action, or the first fault of its fields.
-fn read_figures(a: Action, s: &[u8], t: &[[usize; 2]]) -> Figures
-    requires { 7 ≡ length t.now }
-    ensures { result ≡ figures_of a (slots_in s.now t.now) }
-{
-    let Some(receipt) = receipt_field(a, s, t) else {
-        return faulty(4);
-    };
-    if !number_good(a, s, t) {
-        return faulty(2);
-    }
-    let Some(kind) = kind_field(a, s, t) else {
-        return faulty(2);
-    };
-    later_figures(a, s, t, receipt, kind)
+    })
 }
 
 // What an action asks, or the first fault of its fields. Number and date are judged first and copied once, into what is handed back.
-fn read_fields(a: Action, s: &[u8], t: &[[usize; 2]]) -> RequestRead
+#[tactic(auto, using(crate::proofs::RequestLaws::fields_laws))]
+fn read_fields(a: Action, s: &[u8], t: &[[usize; 2]]) -> Result<Asked, Refusal>
     requires { 7 ≡ length t.now }
     ensures { result ≡ fields_read a (slots_in s.now t.now) }
 {
-    let f = read_figures(a, s, t);
-    if f.fault != 0 {
-        return refuse(f.fault, a);
-    }
-    RequestRead {
-        fault: 0,
-        asked: Asked {
-            number: number_field(a, s, t),
-            kind: f.kind,
-            amount: f.amount,
-            receipt: f.receipt,
-            reason: f.reason,
-            date: date_field(a, s, t),
-            action: a,
-        },
-    }
+    let f = match read_figures(a, s, t) {
+        Ok(f) => f,
+        Err(fault) => return Err(Refusal { fault, action: a }),
+    };
+    Ok(Asked {
+        number: number_field(a, s, t),
+        kind: f.kind,
+        amount: f.amount,
+        receipt: f.receipt,
+        reason: f.reason,
+        date: date_field(a, s, t),
+        action: a,
+    })
 }
 
-// What a request asks, or its fault; at most 2,048 bytes are looked at.
-pub fn read_request(s: &[u8]) -> RequestRead
+// A refusal of a request whose action is not known.
+fn refuse(fault: Fault) -> Result<Asked, Refusal>
+    ensures { result ≡ refused fault Check }
+{
+    Err(Refusal {
+        fault,
+        action: Action::Check,
+    })
+}
+
+// What a request asks, or why it is refused; at most 2,048 bytes are looked at.
+#[tactic(auto, using(crate::proofs::RequestLaws::request_laws))]
+pub fn read_request(s: &[u8]) -> Result<Asked, Refusal>
     ensures { result ≡ request_read s.now }
 {
     if PARAMETERS_MOST < s.len() {
-        return refuse(31, Action::Check);
+        return refuse(Fault::Malformed);
     }
     let mut t = [[0usize; 2]; 7];
     if !slots::gather(s, &mut t) {
-        return refuse(31, Action::Check);
+        return refuse(Fault::Malformed);
     }
     let Some(a) = action_field(s, &t) else {
-        return refuse(1, Action::Check);
+        return refuse(Fault::NoAction);
     };
     read_fields(a, s, &t)
 }

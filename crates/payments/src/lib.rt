@@ -2,7 +2,7 @@
 // What the two ends tell each other, whatever the wire: an action with the details of its payment, and an answer.
 use fields::number::Number;
 
-#[derive(Clone, Copy)]
+#[derive(Clone, Copy, PartialEq, Eq)]
 pub enum Action {
     Check,
     Payment,
