@@ -1,3 +1,2 @@
 pub mod DigestLaws
-pub mod FillLaws
 pub mod FindLaws

@@ -5,23 +5,14 @@ ghost use Rattle.directory.specs.Directory.{mixed, digest_of};
 use fields::number::Number;
 use texts::scan;
 
-// A byte as a number.
-fn wide(b: u8) -> u64
-    ensures { (result ≡ b) × (result < 256) }
-{
-    b as u64
-}
-
 // The bytes mixed into h, one after the other.
 fn mix(h: u64, s: &[u8]) -> u64
     requires { h < 4294967296 }
     ensures { result ≡ mixed h s.now }
 {
     let mut x = h;
-    let mut i: usize = 0;
-    while i < s.len() {
-        x = (x * 33 + wide(s[i])) % 4294967296;
-        i += 1;
+    for b in s {
+        x = (x * 33 + u64::from(*b)) % 4294967296;
     }
     x
 }
@@ -30,7 +21,5 @@ fn mix(h: u64, s: &[u8]) -> u64
 pub(crate) fn make_digest(n: Number, kind: u64) -> u64
     ensures { result ≡ digest_of n kind }
 {
-    let len = n.len;
-    let bytes = n.bytes;
-    mix(kind % 4294967296, scan::first_bytes(&bytes, len))
+    mix(kind % 4294967296, scan::first_bytes(&n.bytes, n.len))
 }

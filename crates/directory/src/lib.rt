@@ -28,15 +28,13 @@ pub fn fill(names: &mut [[u8; 30]], keys: &mut [[u64; 3]], g: Gate)
     requires { (g.count ≤ 256) × (g.count ≤ length names.old) × (g.count ≤ length keys.old) }
     ensures { Listed (take g.count names.new) (take g.count keys.new) g }
 {
-    let count = g.count;
-    let mut i: usize = 0;
-    while i < count {
-        let a = g.accounts[i];
-        let n = a.number;
-        let bytes = n.bytes;
-        names[i] = bytes;
-        keys[i] = [n.len as u64, a.kind, digest::make_digest(n, a.kind)];
-        i += 1;
+    for (i, a) in g.accounts[..g.count].iter().enumerate() {
+        names[i] = a.number.bytes;
+        keys[i] = [
+            a.number.len as u64,
+            a.kind,
+            digest::make_digest(a.number, a.kind),
+        ];
     }
 }
 
@@ -45,14 +43,13 @@ fn holder_at(names: &[[u8; 30]], keys: &[[u64; 3]], i: usize) -> Account
     requires { (i < length names.now) × (i < length keys.now) }
     ensures { result ≡ holder_at names.now keys.now i }
 {
-    let bytes = names[i];
-    let w = keys[i];
+    let [len, kind, _] = keys[i];
     Account {
         number: Number {
-            bytes,
-            len: w[0] as usize,
+            bytes: names[i],
+            len: len as usize,
         },
-        kind: w[1],
+        kind,
         balance: 0,
     }
 }
@@ -63,17 +60,10 @@ pub fn find(names: &[[u8; 30]], keys: &[[u64; 3]], n: Number, kind: u64) -> Opti
     ensures { result ≡ find_account n kind (holders_of names.now keys.now) }
 {
     let d = digest::make_digest(n, kind);
-    let mut i: usize = 0;
-    while i < names.len() {
-        if keys[i][2] != d {
-            i += 1;
-            continue;
-        }
-        let a = holder_at(names, keys, i);
-        if accounts::is_account(n, kind, a) {
+    for (i, &[_, _, own]) in keys.iter().enumerate() {
+        if own == d && accounts::is_account(n, kind, holder_at(names, keys, i)) {
             return Some(i);
         }
-        i += 1;
     }
     None
 }
