@@ -1,3 +1,3 @@
 #![tactic(auto)]
-// The lines of a registry, read from its text once and held in rows.
+// The lines of a registry, read from its text once and held.
 pub mod reading;

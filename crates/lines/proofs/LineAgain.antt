@@ -10,7 +10,6 @@ use lib.Dec.{leb, eqb}
 use lib.ListN.{length}
 use lib.Seq.{take-append_seam, drop-append-add}
 use borrow.Author.Tests.{eq-eqb, ne_eqb, leb-true}
-use Rattle.fields.specs.declared.number.NumberRead.{NumberRead}
 use Rattle.texts.specs.Lists.{every, find}
 use Rattle.texts.specs.Digits.{is_digit, decimal}
 use Rattle.fields.specs.Amount.{amount_bytes}
@@ -25,7 +24,7 @@ use Rattle.fields.proofs.NumberLaws.{byte-above-blank, text-bytes, number-again}
 use Rattle.texts.proofs.FindLaws.{find-behind}
 use Rattle.dates.proofs.DateLaws.{date-again, date-bytes}
 use Rattle.lines.specs.declared.line.Line.{Line}
-use Rattle.lines.specs.Line.{LineRead, field, after_field, is_line, line_read, line_body, line_again}
+use Rattle.lines.specs.Line.{field, after_field, is_line, line_read, line_body, line_again}
 use Rattle.lines.proofs.LineLaws.{line-fields}
 use Rattle.lines.proofs.LineParts.{is-line}
 
@@ -74,7 +73,7 @@ module _ (x : Line) (good : is_line x ≡ true) where
       let l : 13 < 33 = omega arith in
       simp (every_append, number-other 13 l x good, decimal-other 13 l, date-other 13 l x good, amount-other 13 l x good)
 
-  pub line-again : line_read (line_body x) ≡ record { ok = true; line = line_again x }
+  pub line-again : line_read (line_body x) ≡ Some (line_again x)
   unfolding line_body line_again
   line-again =
       let h = is-line x good in
@@ -86,14 +85,13 @@ module _ (x : Line) (good : is_line x ≡ true) where
       let s₃ = a ++ (9 ∷ r) in
       let s₂ = x.date ++ (9 ∷ s₃) in
       let s₁ = k ++ (9 ∷ s₂) in
-      let number : NumberRead = record { ok = true; number = number_of n } in
-      let line : LineRead = record { ok = true; line = record { number = number_of n; kind = x.kind; date = x.date; amount = x.amount; receipt = x.receipt } } in
+      let line : Line = record { number = number_of n; kind = x.kind; date = x.date; amount = x.amount; receipt = x.receipt } in
       let fn = number-other 9 l x good in
       let fk = decimal-other 9 l x.kind in
       let fd = date-other 9 l x good in
       let fa = amount-other 9 l x good in
       sym (line-fields (n ++ (9 ∷ s₁)) s₁ s₂ s₃ n k x.date a r
-      number (Some x.kind) (record { ok = true; date = x.date }) (Some x.amount) (Some x.receipt) line
+      (Some (number_of n)) (Some x.kind) (Some x.date) (Some x.amount) (Some x.receipt) (Some line)
       (sym (field-seam n s₁ fn)) (sym (number-again x.number h.number))
       (sym (after-seam n s₁ fn)) (sym (field-seam k s₂ fk)) (sym (kind-again x.kind h.kind))
       (sym (after-seam k s₂ fk)) (sym (field-seam x.date s₃ fd)) (sym (date-again x.date h.date))

@@ -16,13 +16,12 @@ use Rattle.texts.proofs.FindLaws.{find-behind}
 use Rattle.texts.proofs.ScanLaws.{find-le}
 use mathlib.Core.Path.{◌≡◌, refl, sym, ap, ◌∙◌}
 use mathlib.Core.List.{List, ◌∷◌, ◌++◌}
-use mathlib.Core.Bool.{Bool, true, false, cond, not, ◌&&◌, and-false}
+use mathlib.Core.Bool.{Bool, true, false, cond, not}
 use borrow.Author.Tests.{ne_eqb, leb-true, not-true, not-false}
-use Rattle.fields.specs.declared.number.NumberRead.{NumberRead}
-use Rattle.dates.specs.declared.date.DateRead.{DateRead}
-use Rattle.fields.specs.Amount.{is_amount, amount_read}
-use Rattle.fields.specs.Codes.{is_receipt, receipt_read, is_kind, kind_read}
-use Rattle.fields.specs.Number.{is_number, is_number_text, number_of, number_read}
+use Rattle.fields.specs.declared.number.Number.{Number}
+use Rattle.fields.specs.Amount.{amount_read}
+use Rattle.fields.specs.Codes.{receipt_read, kind_read}
+use Rattle.fields.specs.Number.{is_number_text, number_of, number_read}
 use Rattle.fields.proofs.NumberLaws.{number_short}
 use Rattle.days.specs.declared.calendar.Day.{Day}
 use Rattle.days.specs.Calendar.{on_day}
@@ -31,8 +30,8 @@ use Rattle.dates.proofs.DateLaws.{on-written, written-parts, date-bytes}
 use Rattle.lines.specs.declared.line.Line.{Line}
 use Rattle.lines.specs.declared.line.Found.{Found}
 use Rattle.lines.specs.declared.line.Paid.{Paid}
-use Rattle.lines.specs.Line.{LineRead, field, after_field, no_line, line_of, line_read, is_line}
-use Rattle.lines.specs.LineText.{EndsDate, line_kept, line_read_on, line_with, PaidIn, FoundIn}
+use Rattle.lines.specs.Line.{field, after_field, line_of, line_read, is_read_on}
+use Rattle.lines.specs.LineText.{EndsDate, line_kept, line_read_on, line_with, line_paid, PaidIn, FoundIn}
 
 pub behind-fits : (s : List ℕ) (p : ℕ) → p ≡ find 9 s → length s * 1 < 2 ^ 63 → Fits w64 (p + 1)
 behind-fits s p e h = let l : p ≤ length s = rw e (find-le 9 s) in omega arith
@@ -94,47 +93,39 @@ pub end_fits : (s : List ℕ) (p : ℕ) → EndsDate s p → length s * 1 < 2 ^ 
 end_fits s p ends h = omega (arith, ends.2)
 
 -- ---- a line of five fields
-pub line-fields : (s s₁ s₂ s₃ f₁ f₂ f₃ f₄ f₅ : List ℕ) (n : NumberRead) (k : Option ℕ) (d : DateRead) (a r : Option ℕ) (x : LineRead)
+pub line-fields : (s s₁ s₂ s₃ f₁ f₂ f₃ f₄ f₅ : List ℕ) (n : Option Number) (k : Option ℕ) (d : Option (List ℕ)) (a r : Option ℕ) (x : Option Line)
     → f₁ ≡ field s → n ≡ number_read f₁ → s₁ ≡ after_field s → f₂ ≡ field s₁ → k ≡ kind_read f₂ → s₂ ≡ after_field s₁ → f₃ ≡ field s₂ → d ≡ date_read f₃
     → s₃ ≡ after_field s₂ → f₄ ≡ field s₃ → a ≡ amount_read f₄ → f₅ ≡ after_field s₃ → r ≡ receipt_read f₅ → x ≡ line_of n k d a r → x ≡ line_read s
 unfolding line_read
 line-fields s s₁ s₂ s₃ f₁ f₂ f₃ f₄ f₅ n k d a r x g₁ en e₁ g₂ ek e₂ g₃ ed e₃ g₄ ea g₅ er e =
     e ∙ rw (en, ek, ed, ea, er, g₁, g₂, g₃, g₄, g₅, e₃, e₂, e₁)
 
--- a field that is malformed
-of_none : (n : NumberRead) (k : Option ℕ) (d : DateRead) (a r : Option ℕ) → n.ok ≡ false → line_of n k d a r ≡ no_line
-of_none n None d a r e = refl
-of_none n (Some k) d None r e = refl
-of_none n (Some k) d (Some a) None e = refl
-of_none n (Some k) d (Some a) (Some r) e = rw e
-
 -- ---- a line of the day
 module _ (day : Day) where
   -- a date that is not on the day
-  of-off : (n : NumberRead) (k : Option ℕ) (f : List ℕ) (a r : Option ℕ) → on_day day (date_day f) ≡ false → line_kept day (line_of n k (date_read f) a r) ≡ no_line
-  of-off n None f a r o = refl
-  of-off n (Some k) f None r o = refl
-  of-off n (Some k) f (Some a) None o = refl
-  of-off n (Some k) f (Some a) (Some r) o = go n.ok refl (is_written f) refl
+  of-off : (n : Option Number) (k : Option ℕ) (f : List ℕ) (a r : Option ℕ) → on_day day (date_day f) ≡ false → line_kept day (line_of n k (date_read f) a r) ≡ None
+  of-off None k f a r o = refl
+  of-off (Some n) None f a r o = refl
+  of-off (Some n) (Some k) f a r o = go (is_written f) refl a r
     where
-      go : (p : Bool) → n.ok ≡ p → (q : Bool) → is_written f ≡ q → line_kept day (line_of n (Some k) (date_read f) (Some a) (Some r)) ≡ no_line
-      go false en q ew = rw en
-      go true en false ew = unfold date_read in rw (en, ew)
-      go true en true ew = unfold date_read in rw (en, ew, o)
+      go : (q : Bool) → is_written f ≡ q → (a r : Option ℕ) → line_kept day (line_of (Some n) (Some k) (date_read f) a r) ≡ None
+      go false ew a r = unfold date_read in rw ew
+      go true ew None r = unfold date_read in rw ew
+      go true ew (Some a) None = unfold date_read in rw ew
+      go true ew (Some a) (Some r) = unfold date_read in rw (ew, o)
 
   -- ---- the text of date, amount and receipt
   module _ (s : List ℕ) where
-    unpaid : (x : Paid) → x.ok ≡ false → ((name : List ℕ) (k : ℕ) → no_line ≡ line_with day name k s) → PaidIn day s x
-    unpaid x none bad = record { line = λ name k. rw none (bad name k); room = λ h. no-claim (sym none ∙ h) }
+    unpaid : ((name : List ℕ) (k : ℕ) → None ≡ line_with day name k s) → PaidIn day s None
+    unpaid bad = record { line = bad; room = λ y h. cc }
 
     module _ (p : ℕ) (ends : EndsDate s p) (f : List ℕ) (ef : f ≡ take p s) (t : Bool) (judged : t ≡ on_day day (date_day f)) where
-      pub paid-off : not t ≡ true → (x : Paid) → x.ok ≡ false → PaidIn day s x
+      pub paid-off : not t ≡ true → PaidIn day s None
       unfolding line_with
-      paid-off h x none =
+      paid-off h =
           let s₁ = after_field s in
           let off : on_day day (date_day (field s)) ≡ false = ap (on_day day) (sym (ap date_day ef ∙ ends.0)) ∙ sym judged ∙ not-true t h in
-          unpaid x none
-          (λ name k. sym (of-off (record { ok = true; number = number_of name }) (Some k) (field s) (amount_read (field s₁)) (receipt_read (after_field s₁)) off))
+          unpaid (λ name k. sym (of-off (Some (number_of name)) (Some k) (field s) (amount_read (field s₁)) (receipt_read (after_field s₁)) off))
 
       module _ (held : not t ≡ false) where
         on-day : on_day day (date_day f) ≡ true
@@ -157,128 +148,121 @@ module _ (day : Day) where
           amount-is : a ≡ amount_read (field (after_field s))
           amount-is = ea ∙ ap amount_read (g₁ ∙ rw (tab, behind))
 
-          pub paid-no-amount : a ≡ None → (x : Paid) → x.ok ≡ false → PaidIn day s x
+          date-is : date_read (field s) ≡ Some f
+          unfolding date_read
+          date-is = let g : field s ≡ f = rw (← date-ends) (sym ef) in rw (g, written)
+
+          pub paid-no-amount : a ≡ None → (x : Option Paid) → x ≡ None → PaidIn day s x
           unfolding line_with
-          paid-no-amount m x none = let z : amount_read (field (after_field s)) ≡ None = sym amount-is ∙ m in unpaid x none (λ name k. rw z)
+          paid-no-amount m x none = let z : amount_read (field (after_field s)) ≡ None = sym amount-is ∙ m in rw none (unpaid (λ name k. rw (date-is, z)))
 
           module _ (w : ℕ) (aw : a ≡ Some w) (f₂ : List ℕ) (g₂ : f₂ ≡ drop (q + 1) s₁) (r : Option ℕ) (er : r ≡ receipt_read f₂) where
             receipt-is : r ≡ receipt_read (after_field (after_field s))
             receipt-is = er ∙ ap receipt_read (g₂ ∙ rw (tab, add-one, behind))
 
-            pub paid-no-receipt : r ≡ None → (x : Paid) → x.ok ≡ false → PaidIn day s x
+            pub paid-no-receipt : r ≡ None → (x : Option Paid) → x ≡ None → PaidIn day s x
             unfolding line_with
             paid-no-receipt m x none =
                 let za : amount_read (field (after_field s)) ≡ Some w = sym amount-is ∙ aw in
                 let zr : receipt_read (after_field (after_field s)) ≡ None = sym receipt-is ∙ m in
-                unpaid x none (λ name k. rw (za, zr))
+                rw none (unpaid (λ name k. rw (date-is, za, zr)))
 
-            pub paid-good : (u : ℕ) → r ≡ Some u → PaidIn day s (record { ok = true; amount = w; receipt = u })
-            unfolding line_with date_read
+            pub paid-good : (u : ℕ) → r ≡ Some u → PaidIn day s (Some (record { amount = w; receipt = u }))
+            unfolding line_with
             paid-good u ru =
                 let za : amount_read (field (after_field s)) ≡ Some w = sym amount-is ∙ aw in
                 let zr : receipt_read (after_field (after_field s)) ≡ Some u = sym receipt-is ∙ ru in
                 let date : take 19 s ≡ f = rw (← nineteen) (sym ef) in
-                let g : field s ≡ f = rw (← date-ends) (sym ef) in
-                record { line = λ name k. rw (za, zr, date, g, written, on-day); room = λ _. omega (arith, nineteen, ends.2) }
+                record { line = λ name k. rw (za, zr, date, date-is, on-day); room = λ _ _. omega (arith, nineteen, ends.2) }
 
   -- ---- the whole text
   module _ (s : List ℕ) where
-    unfound : (x : Found) → x.ok ≡ false → no_line ≡ line_read_on day s → FoundIn day s x
-    unfound x none bad = record { line = rw none bad; stands = λ h. no-claim (sym none ∙ h) }
+    unfound : None ≡ line_read_on day s → FoundIn day s None
+    unfound bad = record { line = bad; stands = λ y h. cc }
 
     module _ (p : ℕ) (tab : p ≡ find 9 s) (f : List ℕ) (ef : f ≡ take p s) (t : Bool) (judged : t ≡ is_number_text f) where
       first_field : f ≡ field s
       first_field = ef ∙ rw tab
 
-      pub found-no-number : not t ≡ true → (x : Found) → x.ok ≡ false → FoundIn day s x
+      pub found-no-number : not t ≡ true → FoundIn day s None
       unfolding line_read line_read_on number_read
-      found-no-number h x none =
+      found-no-number h =
           let z : is_number_text (field s) ≡ false = rw (← first_field, ← judged) (not-true t h) in
-          let o : (number_read (field s)).ok ≡ false = rw z in
-          let s₁ = after_field s in
-          let s₂ = after_field s₁ in
-          let s₃ = after_field s₂ in
-          unfound x none
-          (rw (of_none (number_read (field s)) (kind_read (field s₁)) (date_read (field s₂)) (amount_read (field s₃)) (receipt_read (after_field s₃)) o))
+          unfound (rw z)
 
-      module _ (s₁ : List ℕ) (e₁ : s₁ ≡ drop (p + 1) s) (q : ℕ) (tab₁ : q ≡ find 9 s₁) (f₁ : List ℕ) (g₁ : f₁ ≡ take q s₁) (k : Option ℕ) (ek : k ≡ kind_read f₁) where
+      module _ (held : not t ≡ false) (s₁ : List ℕ) (e₁ : s₁ ≡ drop (p + 1) s) (q : ℕ) (tab₁ : q ≡ find 9 s₁) (f₁ : List ℕ) (g₁ : f₁ ≡ take q s₁) (k : Option ℕ) (ek : k ≡ kind_read f₁) where
         behind-number : s₁ ≡ after_field s
         behind-number = e₁ ∙ rw (tab, add-one)
 
         kind-is : k ≡ kind_read (field (after_field s))
         kind-is = ek ∙ ap kind_read (g₁ ∙ rw (tab₁, behind-number))
 
-        pub found-no-kind : k ≡ None → (x : Found) → x.ok ≡ false → FoundIn day s x
-        unfolding line_read line_read_on
-        found-no-kind m x none = let z : kind_read (field (after_field s)) ≡ None = sym kind-is ∙ m in unfound x none (rw z)
+        number-is : number_read (field s) ≡ Some (number_of f)
+        unfolding number_read
+        number-is =
+            let z : is_number_text (field s) ≡ true = rw (← first_field, ← judged) (not-false t held) in
+            rw z (ap (λ (u : List ℕ). Some (number_of u)) (sym first_field))
 
-        module _ (held : not t ≡ false) (v : ℕ) (kv : k ≡ Some v) (s₂ : List ℕ) (e₂ : s₂ ≡ drop (q + 1) s₁) (y : Paid) (paid : PaidIn day s₂ y) where
+        pub found-no-kind : k ≡ None → (x : Option Found) → x ≡ None → FoundIn day s x
+        unfolding line_read line_read_on
+        found-no-kind m x none = let z : kind_read (field (after_field s)) ≡ None = sym kind-is ∙ m in rw none (unfound (rw (number-is, z)))
+
+        module _ (v : ℕ) (kv : k ≡ Some v) (s₂ : List ℕ) (e₂ : s₂ ≡ drop (q + 1) s₁) (y : Option Paid) (paid : PaidIn day s₂ y) where
           read-with : line_with day f v s₂ ≡ line_read_on day s
-          unfolding line_read line_read_on line_with number_read
+          unfolding line_read line_read_on line_with
           read-with =
               let zk : kind_read (field (after_field s)) ≡ Some v = sym kind-is ∙ kv in
-              let zn : is_number_text (field s) ≡ true = rw (← first_field, ← judged) (not-false t held) in
               let zs : s₂ ≡ after_field (after_field s) = e₂ ∙ rw (tab₁, add-one, behind-number) in
-              rw (zk, zn, zs, first_field)
+              rw (zk, number-is, zs)
 
           date-at : drop (p + q + 2) s ≡ s₂
           date-at =
               let n : p + q + 2 ≡ p + 1 + (q + 1) = omega arith in
               rw (n, e₂, e₁) (sym (drop-drop (q + 1) (p + 1) s))
 
-          pub found-line : (x : Found) → x ≡ record { ok = y.ok; len = p; kind = v; date = p + q + 2; amount = y.amount; receipt = y.receipt } → FoundIn day s x
-          found-line x e =
-              rw e
-              (record {
-                line = rw (date-at, ← ef) (paid.line f v ∙ read-with);
-                stands = λ h.
+          pub found-unpaid : y ≡ None → (x : Option Found) → x ≡ None → FoundIn day s x
+          found-unpaid e x none = rw none (unfound (sym (ap (line_paid f v s₂) e) ∙ paid.line f v ∙ read-with))
+
+          pub found-line : (z : Paid) → y ≡ Some z → FoundIn day s (Some (record { len = p; kind = v; date = p + q + 2; amount = z.amount; receipt = z.receipt }))
+          found-line z e =
+              record {
+                line = rw (date-at, ← ef) (sym (ap (line_paid f v s₂) e) ∙ paid.line f v ∙ read-with);
+                stands = λ w h.
                     let l : length s₂ ≡ length s - (p + q + 2) = rw (← date-at) (length-drop (p + q + 2) s) in
+                    let len : w.len ≡ p = cc in
+                    let date : w.date ≡ p + q + 2 = cc in
                     record {
-                      short = omega (arith, tab, size, number_short f t judged (not-false t held));
-                      number = rw tab (find-le 9 s);
-                      date = omega (arith, l, paid.room h);
+                      short = omega (arith, len, tab, size, number_short f t judged (not-false t held));
+                      number = rw (len, tab) (find-le 9 s);
+                      date = omega (arith, l, date, paid.room z e);
                     };
-              })
+              }
             where
               size : length f ≡ p
               size = ap length ef ∙ length-take-le p s (rw tab (find-le 9 s))
 
   -- ---- a line that was read
-  module _ (l : List ℕ) (x : LineRead) (read : x ≡ line_read_on day l) where
-    pub on-ok : x.ok ≡ (line_read l).ok && on_day day (date_day (line_read l).line.date)
+  none-on : (z : Option Line) → None ≡ line_kept day z → is_read_on day z ≡ false
+  none-on None e = refl
+  none-on (Some x) e = go (on_day day (date_day x.date)) e
+    where
+      go : (t : Bool) → None ≡ cond t (Some x) None → t ≡ false
+      go true q = cc
+      go false q = refl
+
+  some-on : (y : Line) (z : Option Line) → Some y ≡ line_kept day z → (Some y ≡ z) × (on_day day (date_day y.date) ≡ true)
+  some-on y None e = cc
+  some-on y (Some x) e = go (on_day day (date_day x.date)) refl e
+    where
+      go : (t : Bool) → on_day day (date_day x.date) ≡ t → Some y ≡ cond t (Some x) None → (Some y ≡ Some x) × (on_day day (date_day y.date) ≡ true)
+      go true o q = let p : y ≡ x = cc in (q, rw p o)
+      go false o q = cc
+
+  module _ (l : List ℕ) where
+    pub off-read : None ≡ line_read_on day l → is_read_on day (line_read l) ≡ false
     unfolding line_read_on
-    on-ok = ap (λ (y : LineRead). y.ok) read ∙ go (line_read l).ok refl (on_day day (date_day (line_read l).line.date))
-      where
-        go : (p : Bool) → (line_read l).ok ≡ p → (t : Bool) → (cond (p && t) (line_read l) no_line).ok ≡ p && t
-        go false e t = refl
-        go true e false = refl
-        go true e true = e
+    off-read = none-on (line_read l)
 
-    pub on_read : x.ok ≡ true → x ≡ line_read l
+    pub on_read : (y : Line) → Some y ≡ line_read_on day l → (Some y ≡ line_read l) × (on_day day (date_day y.date) ≡ true)
     unfolding line_read_on
-    on_read h = read ∙ rw (sym on-ok ∙ h)
-
--- ---- whether every field is well formed
-module _ (x : Line) (n : Bool) (en : n ≡ is_number x.number) where
-  pub bad-number : not n ≡ true → false ≡ is_line x
-  unfolding is_line
-  bad-number h = rw (← en, not-true n h)
-
-  module _ (k : Bool) (ek : k ≡ is_kind x.kind) where
-    pub bad_kind : not k ≡ true → false ≡ is_line x
-    unfolding is_line
-    bad_kind h = rw (← ek, not-true k h) (simp and-false)
-
-    module _ (d : Bool) (ed : d ≡ is_written x.date) where
-      pub bad-date : not d ≡ true → false ≡ is_line x
-      unfolding is_line
-      bad-date h = rw (← ed, not-true d h) (simp and-false)
-
-      module _ (a : Bool) (ea : a ≡ is_amount x.amount) where
-        pub bad-amount : not a ≡ true → false ≡ is_line x
-        unfolding is_line
-        bad-amount h = rw (← ea, not-true a h) (simp and-false)
-
-        pub last-receipt : not n ≡ false → not k ≡ false → not d ≡ false → not a ≡ false → (r : Bool) → r ≡ is_receipt x.receipt → r ≡ is_line x
-        unfolding is_line
-        last-receipt h i j l r e = e ∙ rw (← en, ← ek, ← ed, ← ea, not-false n h, not-false k i, not-false d j, not-false a l)
+    on_read y = some-on y (line_read l)

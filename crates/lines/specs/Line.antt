@@ -1,13 +1,14 @@
 -- Document 01, "Registry": one line of a registry.
-use Rattle.std.specs.Prelude.{ℕ, suc, List, [], ◌∷◌, ◌++◌, Bool, true, false, cond, ◌&&◌, take, drop, replicate, Option, Some, None}
-use Rattle.fields.specs.declared.number.NumberRead.{NumberRead}
-use Rattle.dates.specs.declared.date.DateRead.{DateRead}
+use Rattle.std.specs.Prelude.{ℕ, suc, List, [], ◌∷◌, ◌++◌, Bool, false, cond, ◌&&◌, take, drop, Option, Some, None}
+use Rattle.fields.specs.declared.number.Number.{Number}
+use Rattle.days.specs.declared.calendar.Day.{Day}
+use Rattle.days.specs.Calendar.{on_day}
 use Rattle.texts.specs.Lists.{find}
 use Rattle.texts.specs.Digits.{decimal}
 use Rattle.fields.specs.Amount.{is_amount, amount_read, amount_bytes}
 use Rattle.fields.specs.Codes.{is_receipt, receipt_read, is_kind, kind_read}
-use Rattle.fields.specs.Number.{is_number, number_text, number_of, number_read}
-use Rattle.dates.specs.Date.{is_written, date_read, empty_date}
+use Rattle.fields.specs.Number.{is_number, number_text, number_of, number_read, empty_number}
+use Rattle.dates.specs.Date.{date_day, is_written, date_read, empty_date}
 use Rattle.lines.specs.declared.line.Line.{Line}
 
 -- a field ends before the first 09, and the next begins behind it
@@ -17,33 +18,32 @@ field s = take (find 9 s) s
 abbrev pub after_field : List ℕ → List ℕ
 after_field s = drop (suc (find 9 s)) s
 
--- a line, or `ok` false and zeros
-pub record LineRead : Type 0 where
-  pub ok : Bool
-  pub line : Line
-
-abbrev pub no_line : LineRead
-no_line =
-    record {
-      ok = false;
-      line = record { number = record { bytes = replicate 30 0; len = 0 }; kind = 0; date = empty_date; amount = 0; receipt = 0 };
-    }
-
 -- all five fields are there and well formed
-abbrev pub line_of : NumberRead → Option ℕ → DateRead → Option ℕ → Option ℕ → LineRead
-line_of n None d a r = no_line
-line_of n (Some k) d None r = no_line
-line_of n (Some k) d (Some a) None = no_line
-line_of n (Some k) d (Some a) (Some r) =
-    cond (n.ok && d.ok) (record { ok = true; line = record { number = n.number; kind = k; date = d.date; amount = a; receipt = r } }) no_line
+abbrev pub line_of : Option Number → Option ℕ → Option (List ℕ) → Option ℕ → Option ℕ → Option Line
+line_of None k d a r = None
+line_of (Some n) None d a r = None
+line_of (Some n) (Some k) None a r = None
+line_of (Some n) (Some k) (Some d) None r = None
+line_of (Some n) (Some k) (Some d) (Some a) None = None
+line_of (Some n) (Some k) (Some d) (Some a) (Some r) = Some (record { number = n; kind = k; date = d; amount = a; receipt = r })
 
 -- number, type, date, amount, receipt; an absent field is empty, and no empty field is well formed
-unfoldable pub line_read : List ℕ → LineRead
+unfoldable pub line_read : List ℕ → Option Line
 line_read s =
     let s₁ = after_field s in
     let s₂ = after_field s₁ in
     let s₃ = after_field s₂ in
     line_of (number_read (field s)) (kind_read (field s₁)) (date_read (field s₂)) (amount_read (field s₃)) (receipt_read (after_field s₃))
+
+-- it is a line, and its date is on the day
+abbrev pub is_read_on : Day → Option Line → Bool
+is_read_on day None = false
+is_read_on day (Some x) = on_day day (date_day x.date)
+
+-- the line, or zeros where there is none
+abbrev pub line_or_zeros : Option Line → Line
+line_or_zeros None = record { number = empty_number; kind = 0; date = empty_date; amount = 0; receipt = 0 }
+line_or_zeros (Some x) = x
 
 -- ---- writing one
 unfoldable pub is_line : Line → Bool

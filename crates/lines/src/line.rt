@@ -1,5 +1,5 @@
 // One line of a registry: number, type, date, amount and receipt, split by 09.
-ghost use Rattle.std.specs.Prelude.{◌≡◌, true, false};
+ghost use Rattle.std.specs.Prelude.{◌≡◌, true};
 ghost use Rattle.texts.specs.Lists.{written, cursor_after};
 ghost use Rattle.lines.specs.LineText.{EndsDate, PaidIn, FoundIn, row_of9, account_part};
 ghost use Rattle.lines.specs.Line.{is_line, line_bytes, line_text};
@@ -19,11 +19,10 @@ pub struct Line {
     pub receipt: u64,
 }
 
-// A line in its text, or `ok` false: its number is the first `len` bytes, its date the nineteen from `date` on. Neither is copied here,
+// A line in its text: its number is the first `len` bytes, its date the nineteen from `date` on. Neither is copied here,
 // so that each is copied once, to where it is held.
 #[derive(Clone, Copy)]
 pub struct Found {
-    pub ok: bool,
     pub len: usize,
     pub kind: u64,
     pub date: usize,
@@ -31,119 +30,71 @@ pub struct Found {
     pub receipt: u64,
 }
 
-// Amount and receipt of a line, or `ok` false.
+// Amount and receipt of a line.
 #[derive(Clone, Copy)]
 struct Paid {
-    ok: bool,
     amount: u64,
     receipt: u64,
-}
-
-// What a text that is no line gives.
-fn no_line() -> Found
-    ensures { result.ok ≡ false }
-{
-    Found {
-        ok: false,
-        len: 0,
-        kind: 0,
-        date: 0,
-        amount: 0,
-        receipt: 0,
-    }
-}
-
-// What a text that has no amount and receipt of the day gives.
-fn not_paid() -> Paid
-    ensures { result.ok ≡ false }
-{
-    Paid {
-        ok: false,
-        amount: 0,
-        receipt: 0,
-    }
 }
 
 // Where the date that a text begins with ends: it has nineteen bytes, so a 09 behind these is looked for first.
 fn date_end(s: &[u8]) -> usize
     ensures { EndsDate s.now result }
 {
-    if s.len() < 20 {
-        return scan::find_byte(s, b'\t');
+    if 20 <= s.len() && s[19] == b'\t' {
+        19
+    } else {
+        scan::find_byte(s, b'\t')
     }
-    if s[19] == b'\t' {
-        return 19;
-    }
-    scan::find_byte(s, b'\t')
 }
 
 // Amount and receipt, from the text of date, amount and receipt, the date on the day.
-fn read_paid(day: Day, s: &[u8]) -> Paid
+fn read_paid(day: Day, s: &[u8]) -> Option<Paid>
     ensures { PaidIn day s.now result }
 {
     let p = date_end(s);
     if !date::is_text_on(day, scan::first_bytes(s, p)) {
-        return not_paid();
+        return None;
     }
     let s1 = scan::bytes_from(s, p + 1);
     let q = scan::find_byte(s1, b'\t');
-    let Some(amount) = amount::read_amount(scan::first_bytes(s1, q)) else {
-        return not_paid();
-    };
-    let Some(receipt) = codes::read_receipt(scan::bytes_from(s1, q + 1)) else {
-        return not_paid();
-    };
-    Paid {
-        ok: true,
-        amount,
-        receipt,
-    }
+    let amount = amount::read_amount(scan::first_bytes(s1, q))?;
+    let receipt = codes::read_receipt(scan::bytes_from(s1, q + 1))?;
+    Some(Paid { amount, receipt })
 }
 
 // Where a line of the day, without its end, has its fields.
-pub fn find_line(day: Day, s: &[u8]) -> Found
+pub fn find_line(day: Day, s: &[u8]) -> Option<Found>
     ensures { FoundIn day s.now result }
 {
     let p = scan::find_byte(s, b'\t');
     if !number::is_text(scan::first_bytes(s, p)) {
-        return no_line();
+        return None;
     }
     let s1 = scan::bytes_from(s, p + 1);
     let q = scan::find_byte(s1, b'\t');
-    let Some(kind) = codes::read_kind(scan::first_bytes(s1, q)) else {
-        return no_line();
-    };
-    let paid = read_paid(day, scan::bytes_from(s1, q + 1));
-    Found {
-        ok: paid.ok,
+    let kind = codes::read_kind(scan::first_bytes(s1, q))?;
+    let paid = read_paid(day, scan::bytes_from(s1, q + 1))?;
+    Some(Found {
         len: p,
         kind,
         date: p + q + 2,
         amount: paid.amount,
         receipt: paid.receipt,
-    }
+    })
 }
 
 impl Line {
     // Whether every field is well formed.
+    #[tactic(auto, unfolding(crate::specs::Line::is_line))]
     pub fn is_valid(self) -> bool
         ensures { result ≡ is_line self }
     {
-        let number = self.number;
-        if !number.is_valid() {
-            return false;
-        }
-        if !codes::is_kind(self.kind) {
-            return false;
-        }
-        let date = self.date;
-        if !date::is_written(date) {
-            return false;
-        }
-        if !amount::is_amount(self.amount) {
-            return false;
-        }
-        codes::is_receipt(self.receipt)
+        self.number.is_valid()
+            && codes::is_kind(self.kind)
+            && date::is_written(self.date)
+            && amount::is_amount(self.amount)
+            && codes::is_receipt(self.receipt)
     }
 
     // Writes number, type and date into a row of 09, in which the separators stand already.

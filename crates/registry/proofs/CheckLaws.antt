@@ -1,4 +1,5 @@
 -- Laws of the count of lines and of the check of a registry, at each way out.
+use Rattle.std.specs.Prelude.{Some, None}
 use Prim.Native.Nat.{ℕ, suc, ◌+◌, ◌-◌, ◌≤◌, ◌<◌}
 use native.Mathlib.Omega.{arith}
 use mathlib.Core.Path.{◌≡◌, refl, sym, ◌∙◌}
@@ -9,10 +10,11 @@ use lib.ListN.{length, take, drop, length-drop, drop_of_length-le}
 use lib.Seq.{drop-drop}
 use borrow.Author.Tests.{le-leb, lt-leb, ltb-true, ltb-false}
 use Rattle.days.specs.declared.calendar.Day.{Day}
-use Rattle.lines.specs.Line.{LineRead, line_read}
+use Rattle.lines.specs.declared.line.Line.{Line}
+use Rattle.lines.specs.Line.{line_read, is_read_on}
 use Rattle.lines.specs.LineText.{line_read_on}
-use Rattle.lines.proofs.LineLaws.{on-ok}
-use Rattle.registry.specs.Registry.{line_end, split_lines, count_of, line_count, good_line, good_lines, held_lines, registry_lines, rising, registry_fault}
+use Rattle.lines.proofs.LineLaws.{off-read, on_read}
+use Rattle.registry.specs.Registry.{line_end, split_lines, count_of, line_count, good_line, good_lines, held_lines, registry_lines, rising, Fault, BadLine, TooMany, fault_code, registry_fault}
 use Rattle.registry.proofs.SplitLaws.{end-room, count-line, count-rest, good-line, good-rest, held-line}
 
 -- ---- one line
@@ -66,21 +68,23 @@ module _ (s : List ℕ) (at e : ℕ) (here : at < length s) (ends : e ≡ at + l
     rest-bad : length s ≤ e → good_lines day (split_lines s) ≡ false
     rest-bad h = passed ∙ good-rest day (drop at s) some_left (rest-left h)
 
-    module _ (x : LineRead) (read : x ≡ line_read_on day (take (line_end (drop at s)) (drop at s))) where
-      first_good : e < length s → good_lines day (split_lines s) ≡ x.ok && good_lines day (split_lines (drop (e + 2) s))
-      unfolding good_line
-      first_good h = passed ∙ good-line day (drop at s) (line-left h) ∙ rw (behind, ← on-ok day _ x read)
+    abbrev own : List ℕ
+    own = take (line_end (drop at s)) (drop at s)
 
-      pub good-pass : e < length s → x.ok ≡ true → good_lines day (split_lines s) ≡ good_lines day (split_lines (drop (e + 2) s))
-      good-pass h g = first_good h ∙ rw g
+    first_good : e < length s → good_lines day (split_lines s) ≡ is_read_on day (line_read own) && good_lines day (split_lines (drop (e + 2) s))
+    unfolding good_line
+    first_good h = passed ∙ good-line day (drop at s) (line-left h) ∙ rw behind
 
-      line-bad : e < length s → x.ok ≡ false → good_lines day (split_lines s) ≡ false
-      line-bad h g = first_good h ∙ rw g
+    pub good-pass : e < length s → (x : Line) → Some x ≡ line_read_on day own → good_lines day (split_lines s) ≡ good_lines day (split_lines (drop (e + 2) s))
+    good-pass h x read = let r = on_read day own x read in first_good h ∙ rw (← r.0, r.1)
+
+    line-bad : e < length s → None ≡ line_read_on day own → good_lines day (split_lines s) ≡ false
+    line-bad h none = first_good h ∙ rw (off-read day own none)
 
   pub rise-pass : (rose : Bool) (last : ℕ) → rising 0 (registry_lines s) ≡ rose && rising last (registry_lines (drop at s))
-      → (x : LineRead) → x ≡ line_read (take (line_end (drop at s)) (drop at s)) → e < length s
-      → (q : Bool) → q ≡ rose && ltb last x.line.receipt
-      → rising 0 (registry_lines s) ≡ q && rising x.line.receipt (registry_lines (drop (e + 2) s))
+      → (x : Line) → Some x ≡ line_read (take (line_end (drop at s)) (drop at s)) → e < length s
+      → (q : Bool) → q ≡ rose && ltb last x.receipt
+      → rising 0 (registry_lines s) ≡ q && rising x.receipt (registry_lines (drop (e + 2) s))
   unfolding registry_lines rising
   rise-pass rose last passed x read h q eq = passed ∙ rw (held-line (drop at s) (line-left h), behind, ← read, eq) (sym (and_assoc rose _ _))
 
@@ -107,39 +111,43 @@ module _ (s : List ℕ) (at : ℕ) (h : length s ≤ at) where
 
 -- ---- the fault
 module _ (s : List ℕ) (at n c : ℕ) (few : n ≤ 512) (t : List ℕ) (rest : t ≡ drop at s) (count : c ≡ line_count t) where
-  pub behind-many : 512 - n < c → ◌≡◌ {A = ℕ} 53 (cond (leb (n + line_count (drop at s)) 512) 52 53)
+  pub behind-many : 512 - n < c → TooMany ≡ cond (leb (n + line_count (drop at s)) 512) BadLine TooMany
   behind-many h = let l : 512 < n + c = omega arith in rw (← rest, ← count, lt-leb (n + c) 512 l)
 
-  pub behind-few : c ≤ 512 - n → ◌≡◌ {A = ℕ} 52 (cond (leb (n + line_count (drop at s)) 512) 52 53)
+  pub behind-few : c ≤ 512 - n → BadLine ≡ cond (leb (n + line_count (drop at s)) 512) BadLine TooMany
   behind-few h = let l : n + c ≤ 512 = omega arith in rw (← rest, ← count, le-leb (n + c) 512 l)
 
 module _ (day : Day) (s : List ℕ) (n at : ℕ) (count : line_count s ≡ n + line_count (drop at s)) where
   -- 512 lines and another
-  pub too_many : 512 ≤ n → at < length s → (r : ℕ) → r ≡ cond (leb (n + line_count (drop at s)) 512) 52 53 → r ≡ registry_fault day s
+  pub too_many : 512 ≤ n → at < length s → (r : Fault) → r ≡ cond (leb (n + line_count (drop at s)) 512) BadLine TooMany → registry_fault day s ≡ fault_code r
   unfolding registry_fault
   too_many h g r q =
       let c = some-line (drop at s) (rw length-drop (omega arith)) in
       let l : 512 < n + line_count (drop at s) = omega arith in
-      q ∙ rw (count, lt-leb (n + line_count (drop at s)) 512 l)
+      rw (q, count, lt-leb (n + line_count (drop at s)) 512 l)
 
-  bad : good_lines day (split_lines s) ≡ false → (r : ℕ) → r ≡ cond (leb (n + line_count (drop at s)) 512) 52 53 → r ≡ registry_fault day s
+  bad : good_lines day (split_lines s) ≡ false → (r : Fault) → r ≡ cond (leb (n + line_count (drop at s)) 512) BadLine TooMany → registry_fault day s ≡ fault_code r
   unfolding registry_fault
-  bad g r q = q ∙ rw (← count, g)
+  bad g r q = rw (q, ← count, g) (go (leb (line_count s) 512))
+    where
+      go : (b : Bool) → ◌≡◌ {A = ℕ} (cond b 52 53) (fault_code (cond b BadLine TooMany))
+      go true = refl
+      go false = refl
 
   module _ (passed : good_lines day (split_lines s) ≡ good_lines day (split_lines (drop at s))) where
     module _ (e : ℕ) (here : at < length s) (ends : e ≡ at + line_end (drop at s)) where
-      pub fault-rest : length s ≤ e → (r : ℕ) → r ≡ cond (leb (n + line_count (drop at s)) 512) 52 53 → r ≡ registry_fault day s
+      pub fault-rest : length s ≤ e → (r : Fault) → r ≡ cond (leb (n + line_count (drop at s)) 512) BadLine TooMany → registry_fault day s ≡ fault_code r
       fault-rest h = bad (rest-bad s at e here ends day passed h)
 
-      pub fault-line : (x : LineRead) → x ≡ line_read_on day (take (line_end (drop at s)) (drop at s)) → e < length s → x.ok ≡ false
-          → (r : ℕ) → r ≡ cond (leb (n + line_count (drop at s)) 512) 52 53 → r ≡ registry_fault day s
-      fault-line x read h g = bad (line-bad s at e here ends day passed x read h g)
+      pub fault-line : None ≡ line_read_on day (take (line_end (drop at s)) (drop at s)) → e < length s
+          → (r : Fault) → r ≡ cond (leb (n + line_count (drop at s)) 512) BadLine TooMany → registry_fault day s ≡ fault_code r
+      fault-line none h = bad (line-bad s at e here ends day passed h none)
 
     pub fault-end : n ≤ 512 → (rose : Bool) (last : ℕ) → rising 0 (registry_lines s) ≡ rose && rising last (registry_lines (drop at s))
-        → length s ≤ at → (r : ℕ) → r ≡ cond rose 0 54 → r ≡ registry_fault day s
+        → length s ≤ at → registry_fault day s ≡ cond rose 0 54
     unfolding registry_fault
-    fault-end few rose last rises h r q =
+    fault-end few rose last rises h =
         let l : line_count s ≤ 512 = omega (arith, count-end s at h n count) in
-        q ∙ rw (le-leb (line_count s) 512 l, good-end s at h day passed, rise-end s at h rose last rises)
+        rw (le-leb (line_count s) 512 l, good-end s at h day passed, rise-end s at h rose last rises)
 
 pub ruleset fault_behind_laws = (behind-many, behind-few)

@@ -4,22 +4,22 @@ use Prim.Native.Nat.{ℕ, suc, ◌≤◌, ◌<◌}
 use native.Mathlib.Omega.{arith}
 use mathlib.Core.Path.{◌≡◌, refl, sym, ap, ◌∙◌}
 use mathlib.Core.List.{List, [], ◌∷◌}
-use mathlib.Core.Bool.{Bool, true, false, cond, ◌&&◌}
+use mathlib.Core.Bool.{Bool, true, false, cond}
 use lib.Dec.{leb}
 use lib.ListN.{length}
 use borrow.Author.Tests.{leb-true}
 use Rattle.days.specs.declared.calendar.Day.{Day}
-use Rattle.fields.specs.declared.number.NumberRead.{NumberRead}
-use Rattle.dates.specs.declared.date.DateRead.{DateRead}
+use Rattle.fields.specs.declared.number.Number.{Number}
+use Rattle.lines.specs.declared.line.Line.{Line}
 use Rattle.fields.specs.Amount.{is_amount, amount_read}
 use Rattle.fields.specs.Codes.{is_receipt, receipt_read, is_kind, kind_read}
-use Rattle.fields.specs.Number.{is_number, is_number_text, no_number, number_read}
-use Rattle.dates.specs.Date.{is_written, no_date, date_read}
-use Rattle.texts.proofs.Tests.{both, cond-elim, no-claim}
+use Rattle.fields.specs.Number.{is_number, is_number_text, number_of, number_read}
+use Rattle.dates.specs.Date.{is_written, date_read}
+use Rattle.texts.proofs.Tests.{both, no-claim}
 use Rattle.texts.proofs.DigitLaws.{range-within}
 use Rattle.fields.proofs.AmountLaws.{amount-within}
 use Rattle.fields.proofs.NumberLaws.{text-number}
-use Rattle.lines.specs.Line.{LineRead, field, after_field, no_line, line_of, line_read, is_line}
+use Rattle.lines.specs.Line.{field, after_field, line_of, line_read, is_read_on, line_or_zeros, is_line}
 use Rattle.registry.specs.Registry.{split_lines, count_of, line_count, good_line, good_lines, held_lines, registry_lines, rising, registry_fault}
 use Rattle.registry.specs.Registry.{line_on, every_line}
 use Rattle.lines.proofs.LineParts.{line-is}
@@ -27,34 +27,38 @@ use Rattle.registry.proofs.SplitLaws.{count-more, good_more}
 use Rattle.registry.proofs.TextAgain.{on_line}
 
 -- ---- fields that were read
-abbrev NumberGood : NumberRead → Type 0
-NumberGood r = r.ok ≡ true → is_number r.number ≡ true
-
-number-good : (f : List ℕ) → NumberGood (number_read f)
+number-good : (f : List ℕ) (x : Number) → number_read f ≡ Some x → is_number x ≡ true
 unfolding number_read
-number-good f = cond-elim NumberGood (is_number_text f) _ no_number (λ e _. text-number f e) (λ _ h. no-claim h)
+number-good f x = go (is_number_text f) refl
+  where
+    go : (t : Bool) → is_number_text f ≡ t → cond t (Some (number_of f)) None ≡ Some x → is_number x ≡ true
+    go true e q = let p : number_of f ≡ x = cc in ap is_number (sym p) ∙ text-number f e
+    go false e q = cc
 
-date-good : (f : List ℕ) → (date_read f).ok ≡ true → is_written (date_read f).date ≡ true
+date-good : (f d : List ℕ) → date_read f ≡ Some d → is_written d ≡ true
 unfolding date_read
-date-good f = cond-elim (λ r. r.ok ≡ true → is_written r.date ≡ true) (is_written f) _ no_date (λ e _. e) (λ _ h. no-claim h)
+date-good f d = go (is_written f) refl
+  where
+    go : (t : Bool) → is_written f ≡ t → cond t (Some f) None ≡ Some d → is_written d ≡ true
+    go true e q = let p : f ≡ d = cc in ap is_written (sym p) ∙ e
+    go false e q = cc
 
 -- ---- a line that was read
-abbrev LineGood : LineRead → Type 0
-LineGood r = r.ok ≡ true → is_line r.line ≡ true
+abbrev LineGood : Option Line → Type 0
+LineGood z = (x : Line) → z ≡ Some x → is_line x ≡ true
 
-of-good : (n : NumberRead) (k : Option ℕ) (d : DateRead) (a r : Option ℕ) → NumberGood n → ((v : ℕ) → Some v ≡ k → is_kind v ≡ true)
-    → (d.ok ≡ true → is_written d.date ≡ true) → ((v : ℕ) → Some v ≡ a → is_amount v ≡ true) → ((v : ℕ) → Some v ≡ r → is_receipt v ≡ true)
+of-good : (n : Option Number) (k : Option ℕ) (d : Option (List ℕ)) (a r : Option ℕ) → ((x : Number) → n ≡ Some x → is_number x ≡ true) → ((v : ℕ) → Some v ≡ k → is_kind v ≡ true)
+    → ((x : List ℕ) → d ≡ Some x → is_written x ≡ true) → ((v : ℕ) → Some v ≡ a → is_amount v ≡ true) → ((v : ℕ) → Some v ≡ r → is_receipt v ≡ true)
     → LineGood (line_of n k d a r)
-of-good n None d a r gn gk gd ga gr h = no-claim h
-of-good n (Some k) d None r gn gk gd ga gr h = no-claim h
-of-good n (Some k) d (Some a) None gn gk gd ga gr h = no-claim h
-of-good n (Some k) d (Some a) (Some r) gn gk gd ga gr h =
-    cond-elim LineGood (n.ok && d.ok) _ no_line
-    (λ t _.
-    let p = both n.ok d.ok t in
-    line-is _ (record { number = gn p.0; kind = gk k refl; date = gd p.1; amount = ga a refl; receipt = gr r refl }))
-    (λ _ e. no-claim e)
-    h
+of-good None k d a r gn gk gd ga gr x e = cc
+of-good (Some n) None d a r gn gk gd ga gr x e = cc
+of-good (Some n) (Some k) None a r gn gk gd ga gr x e = cc
+of-good (Some n) (Some k) (Some d) None r gn gk gd ga gr x e = cc
+of-good (Some n) (Some k) (Some d) (Some a) None gn gk gd ga gr x e = cc
+of-good (Some n) (Some k) (Some d) (Some a) (Some r) gn gk gd ga gr x e =
+    let y : Line = record { number = n; kind = k; date = d; amount = a; receipt = r } in
+    let p : y ≡ x = cc in
+    ap is_line (sym p) ∙ line-is y (record { number = gn n refl; kind = gk k refl; date = gd d refl; amount = ga a refl; receipt = gr r refl })
 
 line-good : (l : List ℕ) → LineGood (line_read l)
 unfolding line_read
@@ -71,11 +75,13 @@ line-good l =
 
 -- ---- the lines of a good text
 module _ (day : Day) where
-  good-on : (l : List ℕ) → good_line day l ≡ true → line_on day (line_read l).line ≡ true
+  good-on : (l : List ℕ) → good_line day l ≡ true → line_on day (line_or_zeros (line_read l)) ≡ true
   unfolding good_line
-  good-on l h =
-      let p = both (line_read l).ok _ h in
-      on_line day (line_read l).line (record { good = line-good l p.0; on = p.1 })
+  good-on l = go (line_read l) (line-good l)
+    where
+      go : (z : Option Line) → LineGood z → is_read_on day z ≡ true → line_on day (line_or_zeros z) ≡ true
+      go None g h = no-claim h
+      go (Some x) g h = on_line day x (record { good = g x refl; on = h })
 
   held-good : (ls : List (List ℕ)) → good_lines day ls ≡ true → every_line day (held_lines ls) ≡ true
   unfolding every_line held_lines

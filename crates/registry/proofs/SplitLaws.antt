@@ -12,7 +12,7 @@ use borrow.Author.Tests.{eq-eqb, ne_eqb}
 use Rattle.texts.specs.Lists.{find}
 use Rattle.texts.proofs.ListLaws.{drop-next}
 use Rattle.texts.proofs.ScanLaws.{find-le}
-use Rattle.lines.specs.Line.{line_read}
+use Rattle.lines.specs.Line.{line_read, line_or_zeros}
 use Rattle.registry.specs.Registry.{line_end, onto, split_lines, count_of, line_count, good_line, good_lines, held_lines}
 use Rattle.days.specs.declared.calendar.Day.{Day}
 use Rattle.texts.proofs.Tests.{cond-elim}
@@ -133,9 +133,9 @@ fold_line f g e t h =
     rw (split-line t h) (split-some (λ r. f (l ∷ r) ≡ g l (f r)) (e l) (drop (line_end t + 2) t))
 
 module _ (t : List ℕ) where
-  pub held-line : line_end t < length t → held_lines (split_lines t) ≡ (line_read (take (line_end t) t)).line ∷ held_lines (split_lines (drop (line_end t + 2) t))
+  pub held-line : line_end t < length t → held_lines (split_lines t) ≡ line_or_zeros (line_read (take (line_end t) t)) ∷ held_lines (split_lines (drop (line_end t + 2) t))
   unfolding held_lines
-  held-line = fold_line held_lines (λ l xs. (line_read l).line ∷ xs) (λ l m ls. refl) t
+  held-line = fold_line held_lines (λ l xs. line_or_zeros (line_read l) ∷ xs) (λ l m ls. refl) t
 
   pub held-rest : length t ≤ line_end t → held_lines (split_lines t) ≡ []
   unfolding held_lines

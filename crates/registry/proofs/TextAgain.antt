@@ -1,4 +1,5 @@
 -- The text of a list of lines: how long it is, and that it is a good registry which holds these lines.
+use Rattle.std.specs.Prelude.{Some}
 use Prim.Native.Nat.{ℕ, suc, ◌+◌, ◌*◌, ◌≤◌, ◌<◌}
 use native.Mathlib.Nat.{le_refl}
 use native.Mathlib.Omega.{arith}
@@ -80,7 +81,7 @@ module _ (day : Day) (x : Line) (ok : LineOn day x) (ys : List ℕ) where
   rest : drop (line_end (line_bytes x ++ ys) + 2) (line_bytes x ++ ys) ≡ ys
   rest = rw (ends, seam) (drop-append-add (line_body x) (13 ∷ (10 ∷ ys)) 2)
 
-  read : line_read (line_body x) ≡ record { ok = true; line = line_again x }
+  read : line_read (line_body x) ≡ Some (line_again x)
   read = line-again x ok.good
 
   held_first : registry_lines (line_bytes x ++ ys) ≡ line_again x ∷ registry_lines ys

@@ -4,7 +4,9 @@ use Rattle.days.specs.declared.calendar.Day.{Day}
 use Rattle.days.specs.Calendar.{on_day}
 use Rattle.dates.specs.Date.{date_day}
 use Rattle.lines.specs.declared.line.Line.{Line}
-use Rattle.lines.specs.Line.{line_read, line_bytes, is_line}
+use Rattle.lines.specs.Line.{line_read, is_read_on, line_or_zeros, line_bytes, is_line}
+pub use Rattle.registry.specs.declared.text.Fault.{Fault}
+pub use Rattle.registry.specs.declared.text.Fault.TheVariants.{BadLine, TooMany, Unordered}
 
 -- where the first line ends: the index of the first 0D that a 0A follows, or the length
 unfoldable pub line_end : List ℕ → ℕ
@@ -35,7 +37,7 @@ line_count s = count_of (split_lines s)
 
 -- a line is well formed and its date is on the day
 unfoldable pub good_line : Day → List ℕ → Bool
-good_line day l = (line_read l).ok && on_day day (date_day (line_read l).line.date)
+good_line day l = is_read_on day (line_read l)
 
 -- every ended line is good, and the rest is empty
 unfoldable pub good_lines : Day → List (List ℕ) → Bool
@@ -48,7 +50,7 @@ good_lines day (l ∷ (m ∷ ls)) = good_line day l && good_lines day (m ∷ ls)
 unfoldable pub held_lines : List (List ℕ) → List Line
 held_lines [] = []
 held_lines (l ∷ []) = []
-held_lines (l ∷ (m ∷ ls)) = (line_read l).line ∷ held_lines (m ∷ ls)
+held_lines (l ∷ (m ∷ ls)) = line_or_zeros (line_read l) ∷ held_lines (m ∷ ls)
 
 unfoldable pub registry_lines : List ℕ → List Line
 registry_lines s = held_lines (split_lines s)
@@ -57,6 +59,12 @@ registry_lines s = held_lines (split_lines s)
 unfoldable pub rising : ℕ → List Line → Bool
 rising before [] = true
 rising before (x ∷ xs) = ltb before x.receipt && rising x.receipt xs
+
+-- the code of each fault
+abbrev pub fault_code : Fault → ℕ
+fault_code BadLine = 52
+fault_code TooMany = 53
+fault_code Unordered = 54
 
 -- 53, then 52 over the whole text, then 54
 unfoldable pub registry_fault : Day → List ℕ → ℕ

@@ -1,17 +1,36 @@
 // The text of a registry: lines ended by 0D 0A.
 ghost use Rattle.std.specs.Prelude.{◌+◌, ◌≤◌, ◌≡◌, ◌&&◌, cond, ltb, leb, eqb, take, drop};
-ghost use Rattle.registry.specs.Registry.{line_end, line_count};
+ghost use Rattle.registry.specs.Registry.{line_end, line_count, fault_code, BadLine, TooMany};
 
 use texts::scan;
 
 // How many lines a registry has at most.
 pub const LINES_MOST: usize = 512;
 
+// What is wrong with a registry, with its code.
+#[derive(Clone, Copy, PartialEq, Eq)]
+pub enum Fault {
+    // A line is malformed, not of the day, or not ended.
+    BadLine = 52,
+    // There are more than 512 lines.
+    TooMany = 53,
+    // The receipts of good lines do not rise.
+    Unordered = 54,
+}
+
+impl From<Fault> for u64 {
+    ghost from_gives = { λ fault n. n ≡ fault_code fault };
+
+    fn from(fault: Fault) -> u64 {
+        fault as u64
+    }
+}
+
 // Whether two bytes are 0D 0A.
 pub(crate) fn is_end(b: u8, c: u8) -> bool
     ensures { result ≡ eqb b 13 && eqb c 10 }
 {
-    if b == b'\r' { c == b'\n' } else { false }
+    b == b'\r' && c == b'\n'
 }
 
 // Where the line that begins at the cursor ends: the place of its 0D 0A, or the end of the text.
@@ -21,13 +40,10 @@ pub fn end_of_line(s: &[u8], at: usize) -> usize
     if s.len() <= at {
         return at;
     }
-    let last = s.len() - 1;
-    let mut i = scan::pass_others(s, at, b'\r');
-    while i < last {
+    for i in scan::pass_others(s, at, b'\r')..s.len() - 1 {
         if is_end(s[i], s[i + 1]) {
             return i;
         }
-        i += 1;
     }
     s.len()
 }
@@ -61,25 +77,18 @@ fn count_lines(s: &[u8]) -> usize
 pub fn still_rise(rose: bool, last: u64, next: u64) -> bool
     ensures { result ≡ rose && ltb last next }
 {
-    if rose { last < next } else { false }
-}
-
-// The fault of good lines, whose receipts rose or not.
-pub fn fault_of(rose: bool) -> u64
-    ensures { result ≡ cond rose 0 54 }
-{
-    if rose { 0 } else { 54 }
+    rose && last < next
 }
 
 // The fault of lines that are not all good, n of them before the cursor.
 #[tactic(auto, using(crate::proofs::CheckLaws::fault_behind_laws))]
-pub fn fault_behind(s: &[u8], at: usize, n: usize) -> u64
+pub fn fault_behind(s: &[u8], at: usize, n: usize) -> Fault
     requires { n ≤ 512 }
-    ensures { result ≡ cond (leb (n + line_count (drop at s.now)) 512) 52 53 }
+    ensures { result ≡ cond (leb (n + line_count (drop at s.now)) 512) BadLine TooMany }
 {
     if LINES_MOST - n < count_lines(scan::bytes_from(s, at)) {
-        53
+        Fault::TooMany
     } else {
-        52
+        Fault::BadLine
     }
 }
