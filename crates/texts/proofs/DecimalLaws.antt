@@ -225,9 +225,6 @@ module _ (n : ℕ) (a : List ℕ) (m i : ℕ) (y : Made n a m i) where
       go zero b = absurd (omega arith)
       go (suc j) b = omega arith
 
-  pub place-falls : 0 < m → i - 1 < i
-  place-falls h = omega (arith, place-left h)
-
   pub made-step : 0 < m → Made n (set a (i - 1) (48 + m % 10)) (m / 10) (i - 1)
   made-step left =
       let p : 0 < i = place-left left in

@@ -6,12 +6,10 @@ use native.Mathlib.Numerals.{sub-one}
 use native.Mathlib.Omega.{arith}
 use mathlib.Core.Path.{◌≡◌, refl, sym, ap, ◌∙◌}
 use mathlib.Core.List.{List, [], ◌∷◌, ◌++◌, append_assoc}
-use mathlib.Core.Bool.{Bool, true, false, not, cond, ◌&&◌, and-false}
+use mathlib.Core.Bool.{Bool, true, false, cond, ◌&&◌, and-false}
 use lib.ListN.{length, get_or, set, drop, drop_of_length-le, length-drop}
 use lib.Dec.{leb, ltb, lit<}
-use mir.Syntax.{w64}
-use mir.Val.{Fits}
-use borrow.Author.Tests.{le-leb, lt-leb, lt-ltb, le-ltb, eq-eqb, ne_eqb, leb-true, leb-false, ltb-true, ltb-false, not-true, not-false}
+use borrow.Author.Tests.{le-leb, lt-leb, lt-ltb, le-ltb, eq-eqb, ne_eqb, leb-true, ltb-true, ltb-false}
 use Rattle.texts.specs.Lists.{every}
 use Rattle.texts.specs.Digits.{is_digit, value_after, digits_read, within, bounded, range_read, lead_zeros, fixed}
 use Rattle.texts.proofs.Tests.{and_left, and_right}
@@ -24,26 +22,8 @@ value_grows a (b ∷ s) = le_trans (omega arith) (value_grows (a * 10 + (b - 48)
 
 -- ---- one digit more
 module _ (v d : ℕ) where
-  pub more-small : v < 1844674407370955161 → d < 10 → true ≡ ltb (v * 10 + d) (2 ^ 64)
-  more-small h k = let l : v * 10 + d < 2 ^ 64 = omega arith in sym (lt-ltb _ _ l)
-
-  pub more-large : (r : Bool) → r ≡ leb v ((18446744073709551615 - d) / 10) → d < 10 → r ≡ ltb (v * 10 + d) (2 ^ 64)
-  more-large true e k =
-      let l : v * 10 + d < 2 ^ 64 = omega (arith, leb-true v ((18446744073709551615 - d) / 10) (sym e)) in
-      sym (lt-ltb _ _ l)
-  more-large false e k =
-      let l : 2 ^ 64 ≤ v * 10 + d = omega (arith, leb-false v ((18446744073709551615 - d) / 10) (sym e)) in
-      sym (le-ltb _ _ l)
-
-  module _ (t : Bool) (e : t ≡ ltb (v * 10 + d) (2 ^ 64)) (fits : not t ≡ false) where
-    pub more-below : v * 10 + d < 2 ^ 64
-    more-below = ltb-true _ _ (sym e ∙ not-false t fits)
-
-    pub more-tens : Fits w64 (v * 10)
-    more-tens = omega (arith, more-below)
-
-    pub more-sum : Fits w64 (v * 10 + d)
-    more-sum = omega (arith, more-below)
+  pub more-below : (t : Bool) → t ≡ ltb (v * 10 + d) (2 ^ 64) → t ≡ true → v * 10 + d < 2 ^ 64
+  more-below t e h = ltb-true _ _ (sym e ∙ h)
 
 -- ---- digits_read, at each way out of a reader. A reader at i with `every is_digit s ≡ every is_digit (drop i s)` has passed digits only.
 module _ (most : ℕ) (s : List ℕ) where
@@ -63,24 +43,21 @@ module _ (most : ℕ) (s : List ℕ) where
   unfolding digits_read
   read-big h = simp (le-ltb _ _ h, and-false)
 
-  module _ (i : ℕ) (passed : every is_digit s ≡ every is_digit (drop i s)) (h : i < length s) where
-    pub read_low : get_or s i 0 < 48 → None ≡ digits_read most s
-    read_low l = read-bad (every-fails is_digit s i passed h (simp (lt-leb _ _ l)))
+  module _ (i : ℕ) (passed : every is_digit s ≡ every is_digit (drop i s)) (h : i < length s) (t : Bool) (e : t ≡ is_digit (get_or s i 0)) where
+    pub read-other : t ≡ false → None ≡ digits_read most s
+    read-other n = read-bad (every-fails is_digit s i passed h (sym e ∙ n))
 
-    pub read-high : 57 < get_or s i 0 → None ≡ digits_read most s
-    read-high l = read-bad (every-fails is_digit s i passed h (simp (lt-leb _ _ l, and-false)))
+    pub pass-digit : t ≡ true → every is_digit s ≡ every is_digit (drop (i + 1) s)
+    pass-digit y = every-step is_digit s i passed h (sym e ∙ y)
 
-    pub pass-digit : 48 ≤ get_or s i 0 → get_or s i 0 ≤ 57 → every is_digit s ≡ every is_digit (drop (i + 1) s)
-    pass-digit l m = every-step is_digit s i passed h (simp (le-leb _ _ l, le-leb _ _ m))
+  module _ (i v : ℕ) (passed : value_after 0 s ≡ value_after v (drop i s)) (h : i < length s) (d : ℕ) (ed : d ≡ get_or s i 0 - 48) where
+    pub pass-value : value_after 0 s ≡ value_after (v * 10 + d) (drop (i + 1) s)
+    pass-value = passed ∙ simp (drop-next s i h, ed)
 
-  module _ (i v : ℕ) (passed : value_after 0 s ≡ value_after v (drop i s)) (h : i < length s) where
-    pub pass-value : value_after 0 s ≡ value_after (v * 10 + (get_or s i 0 - 48)) (drop (i + 1) s)
-    pass-value = passed ∙ simp (drop-next s i h)
-
-    pub read-over : (t : Bool) → t ≡ ltb (v * 10 + (get_or s i 0 - 48)) (2 ^ 64) → not t ≡ true → None ≡ digits_read most s
+    pub read-over : (t : Bool) → t ≡ ltb (v * 10 + d) (2 ^ 64) → t ≡ false → None ≡ digits_read most s
     read-over t e n =
-        let g : v * 10 + (get_or s i 0 - 48) ≤ value_after 0 s = rw pass-value (value_grows (v * 10 + (get_or s i 0 - 48)) (drop (i + 1) s)) in
-        let l : 2 ^ 64 ≤ v * 10 + (get_or s i 0 - 48) = ltb-false _ _ (sym e ∙ not-true t n) in
+        let g : v * 10 + d ≤ value_after 0 s = rw pass-value (value_grows (v * 10 + d) (drop (i + 1) s)) in
+        let l : 2 ^ 64 ≤ v * 10 + d = ltb-false _ _ (sym e ∙ n) in
         read-big (omega arith)
 
   pub read-value : (i v : ℕ) → every is_digit s ≡ every is_digit (drop i s) → value_after 0 s ≡ value_after v (drop i s)
@@ -183,27 +160,6 @@ digits-below k s v e =
     omega (arith, h.below, w)
 
 -- ---- a field with a range
-module _ (low high v : ℕ) where
-  pub under : v < low → false ≡ within low high v
-  under h = simp (lt-leb _ _ h)
-
-  pub not-under : low ≤ v → leb v high ≡ within low high v
-  not-under h = simp (le-leb _ _ h)
-
-module _ (most low high : ℕ) (s : List ℕ) (r : Option ℕ) (read : r ≡ digits_read most s) where
-  pub range_none : r ≡ None → None ≡ range_read most low high s
-  unfolding range_read
-  range_none e = rw (← read, e)
-
-  module _ (v : ℕ) (e : r ≡ Some v) (t : Bool) (test : t ≡ within low high v) where
-    pub range-in : t ≡ true → Some v ≡ range_read most low high s
-    unfolding range_read
-    range-in i = rw (← read, e, ← test, i)
-
-    pub range-out : t ≡ false → None ≡ range_read most low high s
-    unfolding range_read
-    range-out i = rw (← read, e, ← test, i)
-
 bounded-value : (low high v : ℕ) (d : Option ℕ) → Some v ≡ bounded low high d → (d ≡ Some v) × (within low high v ≡ true)
 bounded-value low high v None e = let z : ◌≡◌ {A = ℕ} 0 1 = cc in absurd (omega arith)
 bounded-value low high v (Some w) e =

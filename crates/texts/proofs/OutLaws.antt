@@ -5,14 +5,14 @@ use native.Mathlib.Nat.{add-suc, suc-add, add-zero, zero-add, add_assoc}
 use native.Mathlib.Omega.{arith}
 use mathlib.Core.Path.{◌≡◌, refl, ap, sym, ◌∙◌}
 use mathlib.Core.List.{List, [], ◌∷◌, ◌++◌, append_assoc}
-use lib.ListN.{length, get_or, take, drop, set, length-append, length-drop, take-append-drop, drop_of_length-le, get_or-append}
+use lib.ListN.{length, get_or, take, drop, set, length-append, length-drop, take-append-drop, get_or-append}
 use lib.Seq.{take-suc-set, drop-set-lt, length-take-le, take_at, take-append_seam, drop-append-add, drop-drop, get_or-take, get_or-drop, get_or-append-add}
 use borrow.Author.Tests.{le-leb, lt-leb, leb-true}
 use lib.Dec.{leb}
 use mathlib.Core.Bool.{Bool, true, false, cond}
+use borrow.Rule.Slice.PartMut.{put_mid, Post-is}
 use Rattle.texts.specs.Lists.{over, written, cursor_after}
 use Rattle.texts.proofs.Tests.{cond-elim}
-use Rattle.texts.proofs.ListLaws.{drop-next}
 
 pub over-step : (d : List ℕ) (p x : ℕ) (xs : List ℕ) → p < length d → over d p (x ∷ xs) ≡ over (set d p x) (p + 1) xs
 over-step d p x xs h = simp (add-one, take-suc-set d p x h, append_assoc, drop-set-lt (suc (p + length xs)) d p x (omega arith), add-suc, suc-add)
@@ -38,7 +38,7 @@ module _ (d : List ℕ) (at : ℕ) (xs : List ℕ) where
   unfolding written
   written_over h = simp (le-leb _ _ h)
 
--- ---- the loop of put_bytes: what is left to write gives the whole
+-- ---- put_bytes
 module _ (d₀ src : List ℕ) (at : ℕ) where
   pub past_end : length d₀ < at → at ≡ cursor_after d₀ at src
   past_end h = cursor-stays d₀ at src (omega arith)
@@ -55,14 +55,8 @@ module _ (d₀ src : List ℕ) (at : ℕ) where
   pub put-cursor : at ≤ length d₀ → length src ≤ length d₀ - at → at + length src ≡ cursor_after d₀ at src
   put-cursor l h = cursor-moves d₀ at src (omega arith)
 
-  module _ (d : List ℕ) (i : ℕ) (left : over d₀ at src ≡ over d (at + i) (drop i src)) (low : at ≤ length d₀) (fit : length src ≤ length d₀ - at) where
-    pub put_step : length d ≡ length d₀ → i < length src → over d₀ at src ≡ over (set d (at + i) (get_or src i 0)) (at + (i + 1)) (drop (i + 1) src)
-    put_step l h =
-        let b : at + i < length d = omega arith in
-        left ∙ rw (drop-next src i h, over-step d (at + i) (get_or src i 0) (drop (i + 1) src) b) (rw add_assoc)
-
-    pub put-done : length src ≤ i → d ≡ written d₀ at src
-    put-done h = sym (left ∙ rw (drop_of_length-le src h) (over_none d (at + i))) ∙ written_over d₀ at src (omega arith)
+  pub put_done : (part : List ℕ) → part ≡ src → at ≤ length d₀ → length src ≤ length d₀ - at → put_mid at (at + length src - at) d₀ part ≡ written d₀ at src
+  put_done part e l h = rw (e, Post-is at (at + length src) d₀ (omega arith)) (written_over d₀ at src (omega arith))
 
 -- ---- one text after another
 module _ (d : List ℕ) (at : ℕ) (xs : List ℕ) (fit : at + length xs ≤ length d) where

@@ -13,9 +13,6 @@ use Rattle.texts.proofs.ListLaws.{drop-next}
 use Rattle.texts.proofs.FindLaws.{find-append}
 
 -- ---- bytes of which none is b
-pub none-on : (none t : Bool) → none ≡ true → t ≡ none && t
-none-on none t e = rw e
-
 module _ (b : ℕ) where
   abbrev pub is_other : ℕ → Bool
   is_other x = not (eqb x b)
@@ -38,13 +35,13 @@ module _ (b : ℕ) (s : List ℕ) (i : ℕ) (room : i + 16 ≤ length s) where
   near-at j h = get_or-take 16 (drop i s) j 0 h ∙ get_or-drop i s j 0
 
   module _ (j : ℕ) (none : Bool) (passed : every (is_other b) (take 16 (drop i s)) ≡ none && every (is_other b) (drop j (take 16 (drop i s)))) where
-    pub none_more : j < 16 → (r : Bool) → r ≡ none && not (eqb (get_or s (i + j) 0) b)
-        → every (is_other b) (take 16 (drop i s)) ≡ r && every (is_other b) (drop (j + 1) (take 16 (drop i s)))
+    pub none_more : j < 16
+        → every (is_other b) (take 16 (drop i s)) ≡ (none && not (eqb (get_or s (i + j) 0) b)) && every (is_other b) (drop (j + 1) (take 16 (drop i s)))
     unfolding every
-    none_more h r e =
+    none_more h =
         let t = take 16 (drop i s) in
         let l : j < length t = omega (arith, near-size) in
-        passed ∙ rw (drop-next t j l, near-at j h, e, and_assoc)
+        passed ∙ rw (drop-next t j l, near-at j h, and_assoc)
 
     pub none-all : 16 ≤ j → none ≡ eqb (find b (take 16 (drop i s))) 16
     unfolding every

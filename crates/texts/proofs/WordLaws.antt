@@ -1,5 +1,5 @@
 -- Laws of bytes compared eight at a time: one word is one list of bytes, and two lists are equal where their whole words and their tails are.
-use Prim.Native.Nat.{ℕ, zero, suc, ◌+◌, ◌*◌, ◌/◌, ◌%◌, ◌≤◌, ◌<◌}
+use Prim.Native.Nat.{ℕ, zero, suc, ◌+◌, ◌*◌, ◌^◌, ◌/◌, ◌%◌, ◌≤◌, ◌<◌}
 use native.Mathlib.Omega.{arith}
 use mathlib.Core.Path.{◌≡◌, refl, sym, ap, ◌∙◌}
 use mathlib.Core.List.{List, [], ◌∷◌}
@@ -24,17 +24,13 @@ module _ (s : List ℕ) where
   unfolding word_of
   word_next k i j e h = rw (e, part-next k i h)
 
-  -- eight bytes, put together by twos
-  pub word-is : (i p q r t l h : ℕ) → i + 8 ≤ length s
-      → p ≡ get_or s i 0 + 256 * get_or s (i + 1) 0
-      → q ≡ get_or s (i + 2) 0 + 256 * get_or s (i + 3) 0
-      → l ≡ p + 65536 * q
-      → r ≡ get_or s (i + 4) 0 + 256 * get_or s (i + 5) 0
-      → t ≡ get_or s (i + 6) 0 + 256 * get_or s (i + 7) 0
-      → h ≡ r + 65536 * t
-      → l + 4294967296 * h ≡ word_at s i
+  -- eight bytes as one number
+  pub word-is : (i r : ℕ) → i + 8 ≤ length s
+      → r ≡ get_or s i 0 + get_or s (i + 1) 0 * 256 + get_or s (i + 2) 0 * 256 ^ 2 + get_or s (i + 3) 0 * 256 ^ 3
+      + get_or s (i + 4) 0 * 256 ^ 4 + get_or s (i + 5) 0 * 256 ^ 5 + get_or s (i + 6) 0 * 256 ^ 6 + get_or s (i + 7) 0 * 256 ^ 7
+      → r ≡ word_at s i
   unfolding word_at
-  word-is i p q r t l h fit ep eq el er et eh =
+  word-is i r fit er =
       let z : word_of (take 0 (drop (i + 8) s)) ≡ 0 = unfold word_of in refl in
       let n7 = word_next 0 (i + 7) (i + 8) (omega arith) (omega arith) in
       let n6 = word_next 1 (i + 6) (i + 7) (omega arith) (omega arith) in
@@ -44,7 +40,7 @@ module _ (s : List ℕ) where
       let n2 = word_next 5 (i + 2) (i + 3) (omega arith) (omega arith) in
       let n1 = word_next 6 (i + 1) (i + 2) (omega arith) (omega arith) in
       let n0 = word_next 7 i (i + 1) refl (omega arith) in
-      omega (arith, z, n0, n1, n2, n3, n4, n5, n6, n7, ep, eq, el, er, et, eh)
+      omega (arith, z, n0, n1, n2, n3, n4, n5, n6, n7, er)
 
 -- ---- one word, one list of bytes
 words-unlike : (s t : List ℕ) → (word_of s ≡ word_of t → ⊥) → eq_list s t ≡ false

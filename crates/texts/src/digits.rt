@@ -10,38 +10,26 @@ fn more_fits(value: u64, d: u64) -> bool
     requires { d < 10 }
     ensures { result ≡ ltb (value * 10 + d) (2 ^ 64) }
 {
-    if value < 1844674407370955161 {
-        return true;
-    }
-    value <= (18446744073709551615 - d) / 10
+    value < 1844674407370955161 || value <= (u64::MAX - d) / 10
 }
 
 // The value of a field of 1 to `most` digits that fits 64 bits.
 pub fn read_digits(s: &[u8], most: usize) -> Option<u64>
     ensures { result ≡ digits_read most s.now }
 {
-    if s.len() == 0 {
+    if s.is_empty() || most < s.len() {
         return None;
     }
-    if most < s.len() {
-        return None;
-    }
-    let mut value: u64 = 0;
-    let mut i = 0;
-    while i < s.len() {
-        let b = s[i];
-        if b < 48 {
+    let mut value = 0;
+    for b in s {
+        if !b.is_ascii_digit() {
             return None;
         }
-        if 57 < b {
-            return None;
-        }
-        let d = (b - 48) as u64;
+        let d = u64::from(*b - b'0');
         if !more_fits(value, d) {
             return None;
         }
         value = value * 10 + d;
-        i += 1;
     }
     Some(value)
 }
@@ -50,24 +38,15 @@ pub fn read_digits(s: &[u8], most: usize) -> Option<u64>
 pub fn is_within(low: u64, high: u64, v: u64) -> bool
     ensures { result ≡ within low high v }
 {
-    if v < low {
-        return false;
-    }
-    v <= high
+    low <= v && v <= high
 }
 
 // The value of a field of 1 to `most` digits that lies from low to high.
+#[tactic(auto, unfolding(crate::specs::Digits::range_read))]
 pub fn read_range(s: &[u8], most: usize, low: u64, high: u64) -> Option<u64>
     ensures { result ≡ range_read most low high s.now }
 {
-    let Some(v) = read_digits(s, most) else {
-        return None;
-    };
-    if is_within(low, high, v) {
-        Some(v)
-    } else {
-        None
-    }
+    read_digits(s, most).filter(|v| is_within(low, high, *v))
 }
 
 // The twenty digits of a number, and how many zeros lead, at least one digit kept.
@@ -81,27 +60,22 @@ pub struct TwentyDigits {
 pub fn twenty(n: u64) -> TwentyDigits
     ensures { (result.digits ≡ fixed 20 n) × (result.zeros ≡ lead_zeros result.digits) }
 {
-    let mut a = [48u8; 20];
-    a[19] = b'0' + (n % 10) as u8;
-    let mut m = n / 10;
-    let mut i: usize = 19;
-    while 0 < m {
-        i -= 1;
-        a[i] = b'0' + (m % 10) as u8;
-        m = m / 10;
+    let mut digits = [b'0'; 20];
+    digits[19] = b'0' + (n % 10) as u8;
+    let mut left = n / 10;
+    let mut zeros = 19;
+    while 0 < left {
+        zeros -= 1;
+        digits[zeros] = b'0' + (left % 10) as u8;
+        left /= 10;
     }
-    TwentyDigits {
-        digits: a,
-        zeros: i,
-    }
+    TwentyDigits { digits, zeros }
 }
 
 // Writes a number without leading zeros at the cursor, where it has room.
 pub fn write_digits(n: u64, dst: &mut [u8], at: usize) -> usize
     ensures { (result ≡ cursor_after dst.old at (decimal n)) × (dst.new ≡ written dst.old at (decimal n)) }
 {
-    let x = twenty(n);
-    let a = x.digits;
-    let z = x.zeros;
-    out::put_bytes(&a[z..], dst, at)
+    let TwentyDigits { digits, zeros } = twenty(n);
+    out::put_bytes(&digits[zeros..], dst, at)
 }

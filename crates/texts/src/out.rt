@@ -6,16 +6,10 @@ ghost use Rattle.texts.specs.Lists.{written, cursor_after};
 pub fn put_bytes(src: &[u8], dst: &mut [u8], at: usize) -> usize
     ensures { (result ≡ cursor_after dst.old at src.now) × (dst.new ≡ written dst.old at src.now) }
 {
-    if dst.len() < at {
+    if dst.len() < at || dst.len() - at < src.len() {
         return at;
     }
-    if dst.len() - at < src.len() {
-        return at;
-    }
-    let mut i: usize = 0;
-    while i < src.len() {
-        dst[at + i] = src[i];
-        i += 1;
-    }
-    at + src.len()
+    let end = at + src.len();
+    dst[at..end].copy_from_slice(src);
+    end
 }

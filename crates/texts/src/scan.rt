@@ -7,30 +7,7 @@ ghost use Rattle.texts.specs.Words.{word_at, whole_words};
 pub fn find_byte(s: &[u8], b: u8) -> usize
     ensures { result ≡ find b s.now }
 {
-    let mut i: usize = 0;
-    while i < s.len() {
-        if s[i] == b {
-            return i;
-        }
-        i += 1;
-    }
-    i
-}
-
-// Two bytes as a number, the first the lower.
-fn pair(low: u8, high: u8) -> u64
-    ensures { (result ≡ low + 256 * high) × (result < 65536) }
-{
-    low as u64 + 256 * (high as u64)
-}
-
-// Two pairs as a number, the first the lower.
-fn two_pairs(low: u64, high: u64) -> u64
-    requires low_bound { low < 65536 }
-    requires high_bound { high < 65536 }
-    ensures { (result ≡ low + 65536 * high) × (result < 4294967296) }
-{
-    low + 65536 * high
+    s.iter().position(|x| *x == b).unwrap_or(s.len())
 }
 
 // Eight bytes from a place on as one word, the first the lowest. The compiler loads them together.
@@ -38,12 +15,19 @@ fn word_at(s: &[u8], i: usize) -> u64
     requires { i + 8 ≤ length s.now }
     ensures { result ≡ word_at s.now i }
 {
-    let low = two_pairs(pair(s[i], s[i + 1]), pair(s[i + 2], s[i + 3]));
-    let high = two_pairs(pair(s[i + 4], s[i + 5]), pair(s[i + 6], s[i + 7]));
-    low + 4294967296 * high
+    u64::from_le_bytes([
+        s[i],
+        s[i + 1],
+        s[i + 2],
+        s[i + 3],
+        s[i + 4],
+        s[i + 5],
+        s[i + 6],
+        s[i + 7],
+    ])
 }
 
-// Whether the whole words of two slices of one length agree.
+// Whether the whole words of two slices of one length agree. The step is a word: chunks of eight would not be plainer, since a word is made of an array.
 fn words_same(a: &[u8], b: &[u8]) -> bool
     requires { length a.now ≡ length b.now }
     ensures { result ≡ eq_list (whole_words a.now) (whole_words b.now) }
@@ -63,42 +47,28 @@ fn rest_same(a: &[u8], b: &[u8], from: usize) -> bool
     requires { length a.now ≡ length b.now }
     ensures { result ≡ eq_list (drop from a.now) (drop from b.now) }
 {
-    let mut i = from;
-    while i < a.len() {
-        if a[i] != b[i] {
-            return false;
-        }
-        i += 1;
-    }
-    true
+    bytes_from(a, from) == bytes_from(b, from)
 }
 
 // Whether two slices hold the same bytes: eight at a time, and the tail singly.
 pub fn same_bytes(a: &[u8], b: &[u8]) -> bool
     ensures { result ≡ eq_list a.now b.now }
 {
-    if a.len() != b.len() {
-        return false;
-    }
-    if words_same(a, b) {
-        rest_same(a, b, a.len() / 8 * 8)
-    } else {
-        false
-    }
+    a.len() == b.len() && words_same(a, b) && rest_same(a, b, a.len() / 8 * 8)
 }
 
 // The first n bytes, or all where there are fewer.
 pub fn first_bytes(s: &[u8], n: usize) -> &[u8]
     ensures { result.now ≡ take n s.now }
 {
-    if s.len() <= n { s } else { &s[..n] }
+    s.get(..n).unwrap_or(s)
 }
 
 // The bytes from a place on; none past the end.
 pub fn bytes_from(s: &[u8], at: usize) -> &[u8]
     ensures { result.now ≡ drop at s.now }
 {
-    if s.len() <= at { &s[..0] } else { &s[at..] }
+    s.get(at..).unwrap_or(&[])
 }
 
 // What stands before the first b, or all.
@@ -115,24 +85,14 @@ pub fn after_byte(s: &[u8], b: u8) -> &[u8]
     bytes_from(s, find_byte(s, b) + 1)
 }
 
-// Whether still none is b, with one byte more. The byte is tested in either case, so that the compiler takes many together.
-fn still_none(none: bool, c: u8, b: u8) -> bool
-    ensures { result ≡ none && not (eqb c b) }
-{
-    let other = c != b;
-    if none { other } else { false }
-}
-
-// Whether none of the sixteen bytes from i on is b.
+// Whether none of the sixteen bytes from i on is b. Each is tested, whatever the others are, so that the compiler takes many together.
 fn none_near(s: &[u8], i: usize, b: u8) -> bool
     requires { i + 16 ≤ length s.now }
     ensures { result ≡ eqb (find b (take 16 (drop i s.now))) 16 }
 {
     let mut none = true;
-    let mut j: usize = 0;
-    while j < 16 {
-        none = still_none(none, s[i + j], b);
-        j += 1;
+    for j in 0..16 {
+        none &= s[i + j] != b;
     }
     none
 }
@@ -146,12 +106,8 @@ pub fn pass_others(s: &[u8], at: usize, b: u8) -> usize
     }
     let last = s.len() - 16;
     let mut i = at;
-    while i <= last {
-        if none_near(s, i, b) {
-            i += 16;
-        } else {
-            return i;
-        }
+    while i <= last && none_near(s, i, b) {
+        i += 16;
     }
     i
 }
