@@ -4,6 +4,8 @@ ghost use Rattle.std.specs.Prelude.{◌≡◌, true};
 ghost use Rattle.lists.specs.Lists.{is_found};
 ghost use Rattle.lists.specs.Lent.{lent_well, Lent};
 
+pub mod rows;
+
 // How many places a table or a book has at most.
 pub const PLACES_MOST: usize = 4096;
 
