@@ -1,9 +1,9 @@
 -- Laws of rows that are lent: the test at each of its ways out, its facts, and what a caller has of them.
-use Prim.Native.Nat.{ℕ, ◌≤◌, ◌<◌}
+use Prim.Native.Nat.{ℕ, ◌<◌}
 use mathlib.Core.Path.{◌≡◌}
 use mathlib.Core.Bool.{Bool, true, false, not, ◌&&◌, and-false}
 use lib.Dec.{eqb, leb}
-use borrow.Author.Tests.{le-leb, lt-leb, eq-eqb, ne_eqb, leb-true, eqb-true, not-false}
+use borrow.Author.Tests.{le-leb, lt-leb, eq-eqb, leb-true, eqb-true, not-false}
 use Rattle.texts.proofs.Tests.{both}
 use Rattle.lists.specs.Lent.{lent_well, Lent}
 
@@ -28,22 +28,6 @@ module _ (used n m k : ℕ) where
   pub lent-many : 4096 < n → false ≡ lent_well used n m k
   unfolding lent_well
   lent-many h = simp (lt-leb _ _ h, and-false)
-
-  pub lent-second : (m ≡ n → ⊥) → false ≡ lent_well used n m k
-  unfolding lent_well
-  lent-second d = simp (ne_eqb _ _ d, and-false)
-
-  pub lent-third : (k ≡ n → ⊥) → false ≡ lent_well used n m k
-  unfolding lent_well
-  lent-third d = simp (ne_eqb _ _ d, and-false)
-
-  module _ (some : 1 ≤ n) (most : n ≤ 4096) (second : m ≡ n) (third : k ≡ n) where
-    pub lent-used : leb used n ≡ lent_well used n m k
-    unfolding lent_well
-    lent-used = rw (le-leb _ _ some, le-leb _ _ most, eq-eqb _ _ second, eq-eqb _ _ third)
-
-    pub lent-all : leb used n ≡ true → Lent used n m k
-    lent-all h = record { some = some; most = most; second = second; third = third; room = leb-true _ _ h }
 
   -- behind the test
   module _ (b : Bool) (f : b ≡ true → Lent used n m k) (y : not b ≡ false) where

@@ -20,21 +20,10 @@ pub fn is_found(f: Option<usize>) -> bool
 }
 
 // Whether rows of these lengths are lent as a table or a book is, and no more of them is used.
+#[tactic(auto, unfolding(crate::specs::Lent::lent_well))]
 pub fn is_lent(used: usize, nums: usize, numbers: usize, dates: usize) -> bool
     ensures value { result ≡ lent_well used nums numbers dates }
     ensures lent { result ≡ true → Lent used nums numbers dates }
 {
-    if nums < 1 {
-        return false;
-    }
-    if PLACES_MOST < nums {
-        return false;
-    }
-    if numbers != nums {
-        return false;
-    }
-    if dates != nums {
-        return false;
-    }
-    used <= nums
+    1 <= nums && nums <= PLACES_MOST && numbers == nums && dates == nums && used <= nums
 }
