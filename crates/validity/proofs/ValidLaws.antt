@@ -1,40 +1,26 @@
 -- Row 68: a record's account, the records in use, and the lent table, test by test.
-use Rattle.std.specs.Prelude.{Option}
 use mathlib.Core.Path.{◌≡◌, sym, ap, ◌∙◌}
-use mathlib.Core.Bool.{Bool, true, false, not, ◌&&◌, and-false, and_assoc}
+use mathlib.Core.Bool.{Bool, true, false, ◌&&◌, and-false, and_assoc}
 use mathlib.Core.List.{[]}
 use Prim.Native.Nat.{ℕ, ◌+◌, ◌<◌, ◌≤◌}
 use native.Mathlib.Omega.{arith}
 use lib.Dec.{ltb}
 use lib.ListN.{length, drop, get_or}
 use lib.Seq.{get_or-take}
-use borrow.Author.Tests.{lt-ltb, le-ltb, ltb-true, not-true, not-false}
-use Rattle.fields.specs.declared.number.Number.{Number}
+use borrow.Author.Tests.{ltb-true}
 use Rattle.texts.proofs.Tests.{and_left, and_right}
 use Rattle.table.specs.declared.Account.{Account}
 use Rattle.table.specs.declared.Gate.{Gate}
 use Rattle.table.specs.declared.Record.{Record}
-use Rattle.lists.specs.Lent.{Lent}
 use Rattle.lists.specs.Lists.{is_found, all_from}
-use Rattle.table.specs.Table.{Rows, record_from, record_at, records_of, Whole}
+use Rattle.table.specs.Table.{Rows, record_from, record_at, records_of}
 use Rattle.table.specs.Accounts.{is_account, accounts_of, find_account, no_account}
-use Rattle.validity.specs.Valid.{state_good, ranges_good, authcode_good, account_known, record_good, lent_good, gate_good, table_good, Sound, Ready}
+use Rattle.validity.specs.Valid.{state_good, ranges_good, authcode_good, account_known, record_good, lent_good, gate_good, table_good, Sound}
 use Rattle.lists.proofs.ListLaws.{all_more, all-not, all_end, found_some}
 use Rattle.table.proofs.TableLaws.{length-records, get_d-records}
 use Rattle.table.proofs.AccountLaws.{in_use}
 
 -- ---- a guess at a record's account
-module _ (at count : ℕ) (n : Number) (k : ℕ) (a : Account) where
-  pub guess-past : count ≤ at → false ≡ ltb at count && is_account n k a
-  guess-past h = rw (le-ltb _ _ h)
-
-  pub guess-is : at < count → (t : Bool) → t ≡ is_account n k a → t ≡ ltb at count && is_account n k a
-  guess-is h t e = e ∙ rw (lt-ltb _ _ h)
-
--- what was found is known
-pub known_is : (f x : Option ℕ) (r : Bool) → f ≡ x → r ≡ is_found f → r ≡ is_found x
-known_is f x r e q = q ∙ ap is_found e
-
 -- an account in use that fits is enough
 guess-known : (g : Gate) (r : Record) (at : ℕ) → length g.accounts ≡ 256 → g.count ≤ 256
     → ltb at g.count && is_account r.number r.kind (get_or g.accounts at no_account) ≡ true → account_known g r ≡ true
@@ -80,50 +66,40 @@ module _ (g : Gate) (t : Rows) (i : ℕ) (passed : all_from (record_good g) 0 (r
         (ap (record_good g i) (get_d-records t g.used i (record_at t i) h) ∙ y))
 
     module _ (own : Bool) (o : own ≡ authcode_good i (field_own t i) && ranges_good (field_own t i)) where
-      pub record-own : not own ≡ true → false ≡ all_from (record_good g) 0 (records_of t g.used)
-      record-own n = record-fails (good-own g i (record_at t i) (sym (own_at t i own o) ∙ not-true own n))
+      pub record-own : own ≡ false → false ≡ all_from (record_good g) 0 (records_of t g.used)
+      record-own n = record-fails (good-own g i (record_at t i) (sym (own_at t i own o) ∙ n))
 
-      pub record-guessed : not own ≡ false → Sound g → (at : ℕ) (x : Account) → x ≡ get_or g.accounts at no_account
+      pub record-guessed : own ≡ true → Sound g → (at : ℕ) (x : Account) → x ≡ get_or g.accounts at no_account
           → (s : Bool) → s ≡ ltb at g.count && is_account (record_at t i).number (record_at t i).kind x → s ≡ true
           → all_from (record_good g) 0 (records_of t g.used) ≡ all_from (record_good g) (i + 1) (drop (i + 1) (records_of t g.used))
       record-guessed n sound at x ex s q y =
-          record-step (good-both g i (record_at t i) (sym (own_at t i own o) ∙ not-false own n) (guess-known g (record_at t i) at sound.places sound.count
+          record-step (good-both g i (record_at t i) (sym (own_at t i own o) ∙ n) (guess-known g (record_at t i) at sound.places sound.count
           (ap (λ (z : Account). ltb at g.count && is_account (record_at t i).number (record_at t i).kind z) (sym ex) ∙ sym q ∙ y)))
 
       module _ (known : Bool) (k : known ≡ is_found (find_account (record_at t i).number (record_at t i).kind (accounts_of g))) where
-        pub record-stranger : not known ≡ true → false ≡ all_from (record_good g) 0 (records_of t g.used)
+        pub record-stranger : known ≡ false → false ≡ all_from (record_good g) 0 (records_of t g.used)
         unfolding account_known
-        record-stranger n = record-fails (good-known g i (record_at t i) (sym k ∙ not-true known n))
+        record-stranger n = record-fails (good-known g i (record_at t i) (sym k ∙ n))
 
-        pub record-known : not own ≡ false → not known ≡ false
+        pub record-known : own ≡ true → known ≡ true
             → all_from (record_good g) 0 (records_of t g.used) ≡ all_from (record_good g) (i + 1) (drop (i + 1) (records_of t g.used))
         unfolding account_known
-        record-known n m = record-step (good-both g i (record_at t i) (sym (own_at t i own o) ∙ not-false own n) (sym k ∙ not-false known m))
+        record-known n m = record-step (good-both g i (record_at t i) (sym (own_at t i own o) ∙ n) (sym k ∙ m))
 
   pub records-end : g.used ≤ i → true ≡ all_from (record_good g) 0 (records_of t g.used)
   records-end h = sym (passed ∙ all_end (record_good g) i (records_of t g.used) (record_at t i) (omega (arith, length-records t g.used)))
 
 -- ---- the lent table
-pub sound-gate : (g : Gate) (s : Bool) → (s ≡ true → Sound g) → not s ≡ false → Sound g
-sound-gate g s f n = f (not-false s n)
-
 module _ (g : Gate) (t : Rows) where
-  pub table-lent : (l : Bool) → l ≡ lent_good g t → not l ≡ true → false ≡ table_good g t
+  pub table-lent : (l : Bool) → l ≡ lent_good g t → l ≡ false → false ≡ table_good g t
   unfolding table_good
-  table-lent l e n = rw (← e, not-true l n)
+  table-lent l e n = rw (← e, n)
 
-  module _ (s : Bool) (e : s ≡ gate_good g) where
-    pub table-gate : not s ≡ true → false ≡ table_good g t
+  module _ (l : Bool) (lent : l ≡ lent_good g t) (m : l ≡ true) (s : Bool) (e : s ≡ gate_good g) where
+    pub table-gate : s ≡ false → s ≡ table_good g t
     unfolding table_good
-    table-gate n = simp (sym e ∙ not-true s n, and-false)
+    table-gate n = n ∙ rw (← lent, m, ← e, n)
 
-    module _ (l : Bool) (lent : l ≡ lent_good g t) (facts : l ≡ true → Lent g.used (length t.nums) (length t.numbers) (length t.dates))
-        (m : not l ≡ false) (n : not s ≡ false) where
-      pub table-records : (r : Bool) → r ≡ all_from (record_good g) 0 (records_of t g.used) → r ≡ table_good g t
-      unfolding table_good
-      table-records r q = q ∙ rw (← lent, not-false l m, ← e, not-false s n)
-
-      pub table-ready : (s ≡ true → Sound g) → (r : Bool) → (r ≡ true → Whole t g.used) → r ≡ true → Ready g t
-      table-ready sound r whole y =
-          let f = facts (not-false l m) in
-          record { whole = whole y; same = record { numbers = f.second; dates = f.third }; funds = sound (not-false s n); size = f.most }
+    pub table-records : s ≡ true → (r : Bool) → r ≡ all_from (record_good g) 0 (records_of t g.used) → r ≡ table_good g t
+    unfolding table_good
+    table-records n r q = q ∙ rw (← lent, m, ← e, n)

@@ -3,19 +3,17 @@ ghost use Rattle.std.specs.Prelude.{◌<◌};
 
 use fields::number::Number;
 
-// A byte as a number.
-pub(crate) fn wide(b: u8) -> usize
-    ensures { result < 256 }
-{
-    b as usize
-}
-
 // Four bytes mixed into a slot. The factors keep names that run in sequence apart.
 fn mix(h: usize, a: u8, b: u8, c: u8, d: u8) -> usize
     requires { h < 4096 }
     ensures { result < 4096 }
 {
-    (h * 369 + wide(a) + 211 * wide(b) + 2828 * wide(c) + 1017 * wide(d)) % 4096
+    (h * 369
+        + usize::from(a)
+        + 211 * usize::from(b)
+        + 2828 * usize::from(c)
+        + 1017 * usize::from(d))
+        % 4096
 }
 
 // The slot of an account's hint, from four bytes of its number at a time; each step waits for the one before, so there are few. Up to three bytes behind the number
@@ -23,11 +21,9 @@ fn mix(h: usize, a: u8, b: u8, c: u8, d: u8) -> usize
 pub(crate) fn slot(n: Number, kind: u64) -> usize
     ensures { result < 4096 }
 {
-    let len = n.len;
     let mut h = (kind % 4096) as usize;
-    let mut i: usize = 0;
-    while i < 27 {
-        if len <= i {
+    for i in (0..27).step_by(4) {
+        if n.len <= i {
             return h;
         }
         h = mix(
@@ -37,7 +33,6 @@ pub(crate) fn slot(n: Number, kind: u64) -> usize
             n.bytes[i + 2],
             n.bytes[i + 3],
         );
-        i += 4;
     }
     h
 }

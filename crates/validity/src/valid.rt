@@ -15,10 +15,7 @@ use table::{Account, Head, accounts, columns};
 fn guess_fits(at: usize, count: usize, n: Number, kind: u64, a: Account) -> bool
     ensures { result ≡ ltb at count && is_account n kind a }
 {
-    if count <= at {
-        return false;
-    }
-    accounts::is_account(n, kind, a)
+    at < count && accounts::is_account(n, kind, a)
 }
 
 // Whether the account of a number and a type is known.
@@ -33,7 +30,7 @@ fn is_known(
     requires { h.count ≤ 256 }
     ensures { result ≡ is_found (find_account n kind (accounts_of (gate_of h (columns_of names.now keys.now balances.now)))) }
 {
-    lists::is_found(columns::find_account(names, keys, balances, h, n, kind))
+    columns::find_account(names, keys, balances, h, n, kind).is_some()
 }
 
 // Whether each record in use is in its ranges. Its account is looked up only where the hint fails.
@@ -52,10 +49,7 @@ fn records_good(
     ensures value { result ≡ all_from (record_good (gate_of h (columns_of names.now keys.now balances.now))) 0 (records_of (lent nums.now numbers.now dates.now) h.used) }
     ensures whole { result ≡ true → Whole (lent nums.now numbers.now dates.now) h.used }
 {
-    let used = h.used;
-    let count = h.count;
-    let mut i: usize = 0;
-    while i < used {
+    for i in 0..h.used {
         let w = nums[i];
         let d = dates[i];
         if !ranges::record_good(i, w, d) {
@@ -65,16 +59,11 @@ fn records_good(
             bytes: numbers[i],
             len: w[1] as usize,
         };
-        let at = slots::wide(hints[slots::slot(n, w[2])]);
+        let at = usize::from(hints[slots::slot(n, w[2])]);
         let a = columns::account_at(names, keys, balances, at);
-        if guess_fits(at, count, n, w[2], a) {
-            i += 1;
-            continue;
-        }
-        if !is_known(names, keys, balances, h, n, w[2]) {
+        if !guess_fits(at, h.count, n, w[2], a) && !is_known(names, keys, balances, h, n, w[2]) {
             return false;
         }
-        i += 1;
     }
     true
 }
@@ -96,8 +85,6 @@ pub fn table_good(
         return false;
     }
     let mut hints = [0u8; 4096];
-    if !ranges::gate_good(names, keys, balances, h, &mut hints) {
-        return false;
-    }
-    records_good(nums, numbers, dates, names, keys, balances, h, &hints)
+    ranges::gate_good(names, keys, balances, h, &mut hints)
+        && records_good(nums, numbers, dates, names, keys, balances, h, &hints)
 }
