@@ -6,10 +6,9 @@ use native.Mathlib.Omega.{arith}
 use mathlib.Core.Path.{◌≡◌, sym, ap, ◌∙◌}
 use mathlib.Core.Bool.{Bool, true, false}
 use mathlib.Core.List.{List, [], ◌∷◌}
-use lib.Dec.{eqb}
 use lib.ListN.{length, get_or, set, get_or-append}
 use lib.Seq.{get_or-set_same, get_or-set_other}
-use borrow.Author.Tests.{eq-eqb, ne_eqb, eqb-true}
+use borrow.Author.Tests.{eqb-true}
 use Rattle.texts.proofs.Tests.{and_right}
 use Rattle.lines.specs.declared.line.Line.{Line}
 use Rattle.lists.specs.Lists.{first_from}
@@ -28,20 +27,6 @@ use Rattle.posting.proofs.HeldLaws.{credit-used, line_step, left-records}
 use Rattle.posting.proofs.MatchLaws.{match-receipt}
 use Rattle.posting.proofs.PostLaws.{line-applied}
 use Rattle.posting.specs.Lookup.{Sought, SameReceipt, Matched, MatchedDone, receipt_at, fits}
-
--- ---- one record
-pub same-receipt : (w : Sought) (x : Line) (r : Record) → w ≡ SameReceipt → eqb r.receipt x.receipt ≡ fits w x r
-same-receipt w x r e = rw e
-
-pub is-matched : (w : Sought) (x : Line) (r : Record) → w ≡ Matched → (b : Bool) → b ≡ matches x r → b ≡ fits w x r
-is-matched w x r e b eb = eb ∙ rw e
-
-module _ (w : Sought) (x : Line) (r : Record) (e : w ≡ MatchedDone) where
-  pub is-done : r.state ≡ 1 → (b : Bool) → b ≡ matches x r → b ≡ fits w x r
-  is-done h b eb = eb ∙ rw (e, eq-eqb _ _ h)
-
-  pub not_done : (r.state ≡ 1 → ⊥) → false ≡ fits w x r
-  not_done d = rw (e, ne_eqb _ _ d)
 
 -- what is sought has the line's receipt
 fits-receipt : (w : Sought) (x : Line) (r : Record) → fits w x r ≡ true → r.receipt ≡ x.receipt

@@ -3,13 +3,13 @@ use Rattle.std.specs.Prelude.{Option, Some}
 use Prim.Native.Nat.{ℕ, ◌<◌}
 use native.Mathlib.Omega.{arith}
 use mathlib.Core.Path.{◌≡◌, sym, ◌∙◌}
-use mathlib.Core.Bool.{Bool, true, false}
-use borrow.Author.Tests.{eq-eqb, ne_eqb, eqb-true}
+use mathlib.Core.Bool.{true}
+use borrow.Author.Tests.{eqb-true}
 use Rattle.texts.proofs.Tests.{and_left, and_right}
 use Rattle.lines.specs.declared.line.Line.{Line}
 use Rattle.table.specs.declared.Record.{Record}
 use Rattle.lists.specs.Lists.{first_from}
-use Rattle.table.specs.Table.{Rows, records_of, has_receipt, same_payment}
+use Rattle.table.specs.Table.{Rows, records_of, has_receipt}
 use Rattle.lists.proofs.ListLaws.{search-within}
 use Rattle.table.proofs.TableLaws.{length-records}
 use Rattle.table.proofs.PaymentLaws.{SameFour, payment-four}
@@ -17,14 +17,6 @@ use Rattle.posting.specs.Posting.{matches}
 
 -- ---- one record
 module _ (x : Line) (r : Record) where
-  pub other-receipt : (r.receipt ≡ x.receipt → ⊥) → false ≡ matches x r
-  unfolding matches
-  other-receipt d = rw (ne_eqb _ _ d)
-
-  pub four-match : r.receipt ≡ x.receipt → (b : Bool) → b ≡ same_payment x.number x.kind x.amount x.date r → b ≡ matches x r
-  unfolding matches
-  four-match e b eb = eb ∙ rw (eq-eqb _ _ e)
-
   -- a line and a record that match, taken apart
   pub match-receipt : matches x r ≡ true → r.receipt ≡ x.receipt
   unfolding matches

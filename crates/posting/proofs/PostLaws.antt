@@ -3,11 +3,11 @@ use Rattle.std.specs.Prelude.{Option, Some, None}
 use Prim.Native.Nat.{ℕ, ◌+◌, ◌<◌}
 use native.Mathlib.Omega.{arith}
 use mathlib.Core.Path.{◌≡◌, refl, sym, ap, ◌∙◌}
-use mathlib.Core.Bool.{Bool, true, false, cond}
+use mathlib.Core.Bool.{false, cond}
 use mathlib.Core.List.{List, [], ◌∷◌, ◌++◌}
 use lib.ListN.{length, get_or}
 use lib.Dec.{leb}
-use borrow.Author.Tests.{eq-eqb, ne_eqb, leb-false}
+use borrow.Author.Tests.{leb-false}
 use Rattle.fields.specs.declared.number.Number.{Number}
 use Rattle.lines.specs.declared.line.Line.{Line}
 use Rattle.table.specs.declared.Gate.{Gate}
@@ -48,20 +48,6 @@ module _ (t : Rows) (n : ℕ) (same : SameLengths t) (room : n < length t.nums) 
   room-dates = omega (arith, same.dates)
 
 -- ---- the verdict
-module _ (r : Record) (i : ℕ) where
-  pub match-done : r.state ≡ 1 → Keeps ≡ cond (is_done r) Keeps (Restores i)
-  match-done e = rw (eq-eqb _ _ e)
-
-  pub match-undone : (r.state ≡ 1 → ⊥) → Restores i ≡ cond (is_done r) Keeps (Restores i)
-  match-undone d = rw (ne_eqb _ _ d)
-
-module _ (f k : Option ℕ) (ef : f ≡ None) (a : ℕ) (ek : k ≡ Some a) (full : Bool) where
-  pub new-full : full ≡ true → Unposted ≡ post_verdict f k full
-  new-full e = rw (ef, ek, e)
-
-  pub new-room : full ≡ false → Posts a ≡ post_verdict f k full
-  new-room e = rw (ef, ek, e)
-
 module _ (t : Rows) (n : ℕ) (x : Line) (f : Option ℕ) (ef : f ≡ first_from (matches x) 0 (records_of t n)) where
   module _ (whole : Whole t n) (i : ℕ) (e : f ≡ Some i) where
     pub match-nums : i < length t.nums

@@ -21,27 +21,35 @@ pub struct Due {
 }
 
 // A record that is done again.
+#[tactic(auto, unfolding(crate::specs::Posting::restored))]
 fn restore_record(r: Record) -> Record
     ensures { result ≡ restored r }
 {
-    let mut next = r;
-    next.state = table::DONE;
-    next.cancel = [0u8; 19];
-    next
+    Record {
+        state: table::DONE,
+        cancel: [0u8; 19],
+        ..r
+    }
 }
 
 // The record of a line that is posted now, by a gate with so many records.
+#[tactic(auto, unfolding(crate::specs::Posting::posted_record))]
 fn posted_record(used: usize, clock: [u8; 19], x: Line) -> Record
     requires { used < 4096 }
     ensures { (g : Gate) → g.used ≡ used → result ≡ posted_record g clock x }
 {
-    let number = x.number;
-    let date = x.date;
-    let q = Details {
-        receipt: x.receipt,
+    let Line {
         number,
-        kind: x.kind,
-        amount: x.amount,
+        kind,
+        date,
+        amount,
+        receipt,
+    } = x;
+    let q = Details {
+        receipt,
+        number,
+        kind,
+        amount,
         date,
     };
     change::make_record(used, clock, q)
@@ -89,15 +97,14 @@ pub fn apply(
     ensures within { Within result.account (length names.now) }
 {
     match v {
-        Verdict::Keeps => Due {
+        Verdict::Keeps | Verdict::Unposted => Due {
             account: None,
             used,
         },
         Verdict::Restores(i) => {
             restore(nums, numbers, dates, i);
-            let n = x.number;
             Due {
-                account: directory::find(names, keys, n, x.kind),
+                account: directory::find(names, keys, x.number, x.kind),
                 used,
             }
         }
@@ -108,9 +115,5 @@ pub fn apply(
                 used: used + 1,
             }
         }
-        Verdict::Unposted => Due {
-            account: None,
-            used,
-        },
     }
 }

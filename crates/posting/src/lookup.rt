@@ -11,7 +11,7 @@ use lines::line::Line;
 use table::{Record, rows};
 
 // A record of the line's receipt, one that the line matches, or such a one that is done.
-#[derive(Clone, Copy)]
+#[derive(Clone, Copy, PartialEq, Eq)]
 pub enum Sought {
     SameReceipt,
     Matched,
@@ -24,11 +24,8 @@ pub fn link_records(nums: &[[u64; 6]], used: usize, heads: &mut [u16], next: &mu
     requires heads_len { (length heads.old ≡ 8192) × ((s : ℕ) → get_or heads.old s 0 ≡ 0) }
     ensures { Chained (receipt_at nums.now) 0 used heads.new next.new }
 {
-    let mut i = used;
-    while 0 < i {
-        let j = i - 1;
-        index::push(heads, next, j, nums[j][0]);
-        i = j;
+    for i in (0..used).rev() {
+        index::push(heads, next, i, nums[i][0]);
     }
 }
 
@@ -39,13 +36,7 @@ fn is_sought(w: Sought, x: Line, r: Record) -> bool
     match w {
         Sought::SameReceipt => r.receipt == x.receipt,
         Sought::Matched => matching::matches_record(x, r),
-        Sought::MatchedDone => {
-            if r.state == table::DONE {
-                matching::matches_record(x, r)
-            } else {
-                false
-            }
-        }
+        Sought::MatchedDone => r.state == table::DONE && matching::matches_record(x, r),
     }
 }
 
@@ -101,9 +92,9 @@ fn append(nums: &[[u64; 6]], used: usize, heads: &mut [u16], next: &mut [u16])
     if 0 < head {
         let k = last_from(nums, used, heads, next, head - 1);
         index::join(next, k, used);
-        return;
+    } else {
+        index::push(heads, next, used, key);
     }
-    index::push(heads, next, used, key);
 }
 
 // Chains what a line has added to the first `before` records, so that the first `used` are chained.

@@ -6,13 +6,9 @@ use lines::line::Line;
 use table::{Record, payment};
 
 // Whether a line and a record have one receipt and are the same in all four.
+#[tactic(auto, unfolding(crate::specs::Posting::matches))]
 pub fn matches_record(x: Line, r: Record) -> bool
     ensures { result ≡ matches x r }
 {
-    if r.receipt != x.receipt {
-        return false;
-    }
-    let n = x.number;
-    let d = x.date;
-    payment::same_payment(n, x.kind, x.amount, d, r)
+    r.receipt == x.receipt && payment::same_payment(x.number, x.kind, x.amount, x.date, r)
 }

@@ -14,7 +14,7 @@ use lines::line::Line;
 use table::{Gate, Record, rows};
 
 // The record that it matches is done, or at a place to be done again; it is posted to an account; or none of these.
-#[derive(Clone, Copy)]
+#[derive(Clone, Copy, PartialEq, Eq)]
 pub enum Verdict {
     Keeps,
     Restores(usize),
@@ -37,16 +37,9 @@ fn judge_match(r: Record, i: usize) -> Verdict
 fn judge_new(recorded: Option<usize>, account: Option<usize>, full: bool) -> Verdict
     ensures { result ≡ post_verdict recorded account full }
 {
-    let None = recorded else {
-        return Verdict::Unposted;
-    };
-    let Some(a) = account else {
-        return Verdict::Unposted;
-    };
-    if full {
-        Verdict::Unposted
-    } else {
-        Verdict::Posts(a)
+    match (recorded, account) {
+        (None, Some(a)) if !full => Verdict::Posts(a),
+        _ => Verdict::Unposted,
     }
 }
 
@@ -67,15 +60,13 @@ pub fn judge(
     ensures { (g : Gate) → Listed names.now keys.now g → g.used ≡ used
         → result ≡ verdict_of g (records_of (lent nums.now numbers.now dates.now) g.used) (length nums.now) x }
 {
-    let sought = Sought::Matched;
-    let found = lookup::find(nums, numbers, dates, used, heads, next, sought, x);
-    match found {
+    let matched = Sought::Matched;
+    match lookup::find(nums, numbers, dates, used, heads, next, matched, x) {
         Some(i) => judge_match(rows::load(nums, numbers, dates, i), i),
         None => {
-            let n = x.number;
             let same = Sought::SameReceipt;
             let recorded = lookup::find(nums, numbers, dates, used, heads, next, same, x);
-            let account = directory::find(names, keys, n, x.kind);
+            let account = directory::find(names, keys, x.number, x.kind);
             judge_new(recorded, account, nums.len() <= used)
         }
     }

@@ -1,9 +1,14 @@
 use Rattle.std.proofs.Common.{refl}
+use mathlib.Core.Logic.{inl, inr}
 use Rattle.posting.proofs.PostLaws.{applied-keeps, applied-none, applied-restores, applied-posts, found_within}
 use Rattle.posting.proofs.applying.apply.Goals as goal
 
 pub returns-in-Keeps-clause-applied : goal.returns-in-Keeps-clause-applied
-returns-in-Keeps-clause-applied c = applied-keeps _ _ _ _ c.requires.whole.0 _ _ _ _ _ refl refl refl c.in-Keeps.is
+returns-in-Keeps-clause-applied c =
+    elim c.in-Keeps.is [
+      | inl e ↦ applied-keeps _ _ _ _ c.requires.whole.0 _ _ _ _ _ refl refl refl e
+      | inr e ↦ applied-none _ _ _ _ c.requires.whole.0 _ _ _ _ _ refl refl refl e
+    ]
 
 pub returns-in-Restores-clause-applied : goal.returns-in-Restores-clause-applied
 returns-in-Restores-clause-applied c =
@@ -16,6 +21,3 @@ returns-in-Restores-clause-within c = found_within _ _ _ _ _ c.find.ensures
 pub returns-in-Posts-clause-applied : goal.returns-in-Posts-clause-applied
 returns-in-Posts-clause-applied c =
     applied-posts _ _ _ _ c.requires.whole.0 _ _ _ _ _ _ c.in-Posts.is (c.requires.keyed.1.room _ c.in-Posts.is) c.requires.whole.1 c.post.ensures refl refl
-
-pub returns-in-Unposted-clause-applied : goal.returns-in-Unposted-clause-applied
-returns-in-Unposted-clause-applied c = applied-none _ _ _ _ c.requires.whole.0 _ _ _ _ _ refl refl refl c.in-Unposted.is
