@@ -1,17 +1,19 @@
 -- Laws of a request delivered to the gate.
-use Rattle.std.specs.Prelude.{Option, Some, None}
+use Rattle.std.specs.Prelude.{Option, Some, None, Result}
 use Prim.Native.Nat.{ℕ, ◌<◌}
 use native.Mathlib.Omega.{arith}
 use mathlib.Core.Path.{◌≡◌, refl, sym, ◌∙◌}
 use mathlib.Core.Bool.{Bool, true, false}
 use mathlib.Core.List.{List}
-use lib.Dec.{eqb, leb}
+use lib.Dec.{leb}
 use lib.ListN.{length, get_or}
 use Rattle.texts.specs.Lists.{written, cursor_after}
 use Rattle.payments.specs.declared.Action.{Action}
 use Rattle.payments.specs.declared.Instruction.{Instruction}
 use Rattle.message.specs.declared.request.Asked.{Asked}
-use Rattle.message.specs.declared.request.RequestRead.{RequestRead}
+use Rattle.message.specs.declared.request.Refusal.{Refusal}
+use Rattle.message.specs.declared.request.Fault.{Fault}
+use Rattle.message.specs.declared.request.Fault.TheVariants.{NoAction, Malformed}
 use Rattle.fields.specs.Amount.{amount_read}
 use Rattle.texts.proofs.Tests.{cond-elim}
 use Rattle.texts.proofs.DigitLaws.{within-high}
@@ -20,7 +22,7 @@ use Rattle.coding.specs.Url.{decoded}
 use Rattle.payments.specs.declared.Action.TheVariants.{Check}
 use Rattle.parameters.specs.Names.{action_of, has_account}
 use Rattle.parameters.specs.Slots.{Slot, Absent, Holds, Gathered, Broken, Values, gathered}
-use Rattle.message.specs.Request.{held, field_of, value_in, refused, field_fault, asked_of, fields_read, action_read, values_read, request_read}
+use Rattle.message.specs.Request.{held, field_of, value_in, nothing_asked, fault_number, refused, field_fault, asked_of, judged, fields_asked, fields_read, action_read, values_read, request_read}
 use Rattle.payments.specs.declared.Answer.{Answer}
 use Rattle.answers.specs.Answer.{answer_bytes}
 use Rattle.table.specs.declared.Record.{Record}
@@ -62,45 +64,46 @@ module _ (g : Gate) (t : Rows) (clock params out : List ℕ) (f : ℕ) (ef : f �
   not-admitted n rows er left el = rw (er, el) (refused-by g t clock out f ef n _)
 
   -- a request that was read
-  pub read_done : f ≡ 0 → (q : RequestRead) → q ≡ request_read params
-      → (d : Delivery) → d ≡ respond g t clock q.fault (instruction_of q.asked) out → d ≡ deliver g t clock params out
+  pub read_done : f ≡ 0 → (q : Result Asked Refusal) → q ≡ request_read params → (fault : ℕ) → fault ≡ fault_number q → (asked : Asked) → asked ≡ asked_of q
+      → (d : Delivery) → d ≡ respond g t clock fault (instruction_of asked) out → d ≡ deliver g t clock params out
   unfolding deliver
-  read_done z q eq d e = e ∙ rw eq (admitted-by g t clock out f ef z _)
+  read_done z q eq fault ef' asked ea d e = e ∙ rw (ef', ea, eq) (admitted-by g t clock out f ef z _)
 
 -- ---- an amount that was read is in its range
-held-amount : (used : Bool) (k : Slot) → value_in (field_of used (Some 0) None amount_read k) < 1000000000
+held-amount : (used : Bool) (k : Slot) → value_in 0 (field_of used (Some 0) None amount_read k) < 1000000000
 unfolding field_of held
 held-amount false k = omega arith
 held-amount true Absent = omega arith
 held-amount true (Holds v) = go (amount_read (decoded v)) refl
   where
-    go : (d : Option ℕ) → amount_read (decoded v) ≡ d → value_in d < 1000000000
+    go : (d : Option ℕ) → amount_read (decoded v) ≡ d → value_in 0 d < 1000000000
     go None e = omega arith
     go (Some x) e = omega (arith, within-high 1 999999999 x (amount-within (decoded v) x (sym e)))
 
-refused-amount : (f : ℕ) (a : Action) → (refused f a).asked.amount < 1000000000
-unfolding refused
+refused-amount : (f : Fault) (a : Action) → (asked_of (refused f a)).amount < 1000000000
+unfolding nothing_asked
 refused-amount f a = omega arith
 
-fields-amount : (a : Action) (s : List Slot) → (fields_read a s).asked.amount < 1000000000
-unfolding fields_read asked_of
-fields-amount a s =
-    cond-elim (λ (r : RequestRead). r.asked.amount < 1000000000) (eqb (field_fault a s) 0) (record { fault = 0; asked = asked_of a s }) (refused (field_fault a s) a)
-    (λ _. held-amount (has_account a) (get_or s 3 Absent))
-    (λ _. refused-amount (field_fault a s) a)
+fields-amount : (a : Action) (s : List Slot) → (asked_of (fields_read a s)).amount < 1000000000
+unfolding fields_read fields_asked
+fields-amount a s = go (field_fault a s)
+  where
+    go : (f : Option Fault) → (asked_of (judged f a (fields_asked a s))).amount < 1000000000
+    go None = held-amount (has_account a) (get_or s 3 Absent)
+    go (Some f) = refused-amount f a
 
-values-amount : (x : Gathered) → (values_read x).asked.amount < 1000000000
-values-amount Broken = refused-amount 31 Check
+values-amount : (x : Gathered) → (asked_of (values_read x)).amount < 1000000000
+values-amount Broken = refused-amount Malformed Check
 values-amount (Values s) = go (held None action_of (get_or s 0 Absent))
   where
-    go : (a : Option Action) → (action_read a s).asked.amount < 1000000000
-    go None = refused-amount 1 Check
+    go : (a : Option Action) → (asked_of (action_read a s)).amount < 1000000000
+    go None = refused-amount NoAction Check
     go (Some a) = fields-amount a s
 
-pub asked-amount : (s : List ℕ) (q : RequestRead) → q ≡ request_read s → q.asked.amount < 1000000000
+pub asked-amount : (s : List ℕ) (q : Result Asked Refusal) → q ≡ request_read s → (asked : Asked) → asked ≡ asked_of q → asked.amount < 1000000000
 unfolding request_read
-asked-amount s q e =
-    rw e
-    (cond-elim (λ (r : RequestRead). r.asked.amount < 1000000000) (leb (length s) 2048) (values_read (gathered s)) (refused 31 Check)
+asked-amount s q e asked ea =
+    rw (ea, e)
+    (cond-elim (λ (r : Result Asked Refusal). (asked_of r).amount < 1000000000) (leb (length s) 2048) (values_read (gathered s)) (refused Malformed Check)
     (λ _. values-amount (gathered s))
-    (λ _. refused-amount 31 Check))
+    (λ _. refused-amount Malformed Check))

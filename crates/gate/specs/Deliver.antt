@@ -4,7 +4,7 @@ use Rattle.texts.specs.Lists.{written, cursor_after}
 use Rattle.payments.specs.declared.Action.{Action}
 use Rattle.message.specs.declared.request.Asked.{Asked}
 use Rattle.payments.specs.declared.Instruction.{Instruction}
-use Rattle.message.specs.Request.{request_read}
+use Rattle.message.specs.Request.{request_read, fault_number, asked_of}
 use Rattle.answers.specs.Answer.{answer_bytes}
 use Rattle.table.specs.declared.Gate.{Gate}
 use Rattle.table.specs.Table.{Rows, records_of, rows_from}
@@ -23,7 +23,7 @@ instruction_of q =
     }
 
 abbrev pub instruction_in : List ℕ → Instruction
-instruction_in params = instruction_of (request_read params).asked
+instruction_in params = instruction_of (asked_of (request_read params))
 
 abbrev pub answered : Rows → List ℕ → Action → ℕ → List ℕ → Changed → Delivery
 answered t out a code clock c =
@@ -45,4 +45,4 @@ respond g t clock fault q out = respond_by g t clock q out (plan_of g (records_o
 
 -- a request, once 68, 50 and 51 are passed
 unfoldable pub deliver : Gate → Rows → List ℕ → List ℕ → List ℕ → Delivery
-deliver g t clock params out = admitted g t clock out (respond g t clock (request_read params).fault (instruction_in params) out)
+deliver g t clock params out = admitted g t clock out (respond g t clock (fault_number (request_read params)) (instruction_in params) out)

@@ -3,13 +3,14 @@ ghost use Rattle.std.specs.Prelude.{◌≡◌, true, ◌<◌};
 ghost use Rattle.table.specs.Lent.{lent};
 ghost use Rattle.table.specs.Columns.{gate_of, columns_of};
 ghost use Rattle.validity.specs.Valid.{Ready, table_good};
+ghost use Rattle.message.specs.Request.{fault_number, asked_of};
 ghost use Rattle.gate.specs.Deliver.{instruction_of, respond, deliver};
 ghost use Rattle.admission.specs.Delivery.{delivery_of, lent_delivery};
 
 use answers::write;
 use ledger::{HeadReply, Reply, change};
 use message::request;
-use message::request::{Asked, RequestRead};
+use message::request::{Asked, Refusal};
 use payments::{Details, Instruction};
 use rules::answer;
 use table::{Gate, Head, columns};
@@ -18,20 +19,30 @@ use table::{Gate, Head, columns};
 fn instruction_of(q: Asked) -> Instruction
     ensures { result ≡ instruction_of q }
 {
-    let action = q.action;
-    let number = q.number;
     let date = q.date;
-    let details = Details {
-        receipt: q.receipt,
-        number,
-        kind: q.kind,
-        amount: q.amount,
-        date,
-    };
-    Instruction { action, details }
+    Instruction {
+        action: q.action,
+        details: Details {
+            receipt: q.receipt,
+            number: q.number,
+            kind: q.kind,
+            amount: q.amount,
+            date,
+        },
+    }
 }
 
-// Executes a request as it was read, and writes the answer.
+// The fault of a request, 0 where it has none, and what it asks.
+fn asked_in(q: Result<Asked, Refusal>) -> (u64, Asked)
+    ensures { (result.0 ≡ fault_number q) × (result.1 ≡ asked_of q) }
+{
+    match q {
+        Ok(asked) => (0, asked),
+        Err(r) => (r.fault.into(), Asked::nothing(r.action)),
+    }
+}
+
+// Executes what a request asks, and writes the answer.
 fn answer_read(
     nums: &mut [[u64; 6]],
     numbers: &mut [[u8; 30]],
@@ -41,16 +52,16 @@ fn answer_read(
     balances: &mut [i64; 256],
     head: Head,
     clock: [u8; 19],
-    q: RequestRead,
+    fault: u64,
+    asked: Asked,
     out: &mut [u8],
 ) -> HeadReply
     requires ready { Ready (gate_of head (columns_of names.now keys.now balances.old)) (lent nums.old numbers.old dates.old) }
-    requires dates_value { (table_good (gate_of head (columns_of names.now keys.now balances.old)) (lent nums.old numbers.old dates.old) ≡ true) × (q.asked.amount < 1000000000) }
+    requires good { table_good (gate_of head (columns_of names.now keys.now balances.old)) (lent nums.old numbers.old dates.old) ≡ true }
+    requires small { asked.amount < 1000000000 }
     ensures { lent_delivery result (columns_of names.now keys.now balances.new) (lent nums.new numbers.new dates.new) out.new
-        ≡ respond (gate_of head (columns_of names.now keys.now balances.old)) (lent nums.old numbers.old dates.old) clock q.fault (instruction_of q.asked) out.old }
+        ≡ respond (gate_of head (columns_of names.now keys.now balances.old)) (lent nums.old numbers.old dates.old) clock fault (instruction_of asked) out.old }
 {
-    let asked = q.asked;
-    let a = asked.action;
     let x = change::execute(
         nums,
         numbers,
@@ -60,15 +71,17 @@ fn answer_read(
         balances,
         head,
         clock,
-        q.fault,
+        fault,
         instruction_of(asked),
     );
-    let size = write::write_answer(answer::answer_of(a, x.code, x.subject, clock), out, 0);
-    let mut left = head;
-    left.used = x.used;
+    let answer = answer::answer_of(asked.action, x.code, x.subject, clock);
+    let size = write::write_answer(answer, out, 0);
     HeadReply {
         code: x.code,
-        head: left,
+        head: Head {
+            used: x.used,
+            ..head
+        },
         size,
     }
 }
@@ -107,9 +120,9 @@ pub fn deliver_lent(
             size: 0,
         };
     }
-    let q = request::read_request(params);
+    let (fault, asked) = asked_in(request::read_request(params));
     answer_read(
-        nums, numbers, dates, names, keys, balances, head, clock, q, out,
+        nums, numbers, dates, names, keys, balances, head, clock, fault, asked, out,
     )
 }
 
