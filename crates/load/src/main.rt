@@ -2,7 +2,7 @@
 // The load program: it reads what is asked for from standard input, and prints the session lines of so many steps.
 mod order;
 
-ghost use Rattle.std.specs.Prelude.{◌≡◌, ◌≤◌, length};
+ghost use Rattle.std.specs.Prelude.{◌≡◌, ◌≤◌, length, IfSome};
 
 use line_fields::lines;
 use order::Order;
@@ -12,40 +12,25 @@ use workload::load;
 // How many accounts a load has at most.
 const ACCOUNTS_MOST: usize = 256;
 
-// The accounts that were read into the columns: whether all are well formed, and how many there are.
-#[derive(Clone, Copy)]
-struct Accounts {
-    ok: bool,
-    count: usize,
-}
-
-// Reads the accounts, a line each; a last line without its end is a line too.
-fn read_accounts(text: &[u8], names: &mut [[u8; 30]], keys: &mut [[u64; 2]]) -> Accounts
+// Reads the accounts into the columns, a line each, and tells how many there are, if all are well formed; a last line without its end is a line too.
+fn read_accounts(text: &[u8], names: &mut [[u8; 30]], keys: &mut [[u64; 2]]) -> Option<usize>
     requires { (256 ≡ length names.old) × (256 ≡ length keys.old) }
-    ensures { (result.count ≤ length names.new) × (result.count ≤ length keys.new) }
+    ensures { IfSome result (λ n. (n ≤ length names.new) × (n ≤ length keys.new)) }
 {
     let mut count: usize = 0;
     let mut at: usize = 0;
     while at < text.len() {
-        let a = order::read_account(lines::line_at(text, at));
         if ACCOUNTS_MOST <= count {
-            return Accounts { ok: false, count };
+            return None;
         }
-        if !a.ok {
-            return Accounts { ok: false, count };
-        }
-        let n = a.number;
-        let bytes = n.bytes;
-        let key = [n.len as u64, a.kind];
-        names[count] = bytes;
-        keys[count] = key;
+        let a = order::read_account(lines::line_at(text, at))?;
+        let name = a.number.bytes;
+        names[count] = name;
+        keys[count] = [a.number.len as u64, a.kind];
         count += 1;
         at = lines::next_line(text, at);
     }
-    Accounts {
-        ok: 0 < count,
-        count,
-    }
+    if 0 < count { Some(count) } else { None }
 }
 
 // Says on standard error what went wrong.
@@ -56,11 +41,10 @@ fn complain(text: &[u8]) {
 // Prints the lines, a buffer's after the other.
 fn print_steps(names: &[[u8; 30]], keys: &[[u64; 2]], o: Order) {
     let mut out = io::large_buffer();
-    let date = o.date;
     let mut value = o.start;
     let mut left = o.steps;
     while 0 < left {
-        let w = load::write_steps(names, keys, value, date, o.reason, left, &mut out);
+        let w = load::write_steps(names, keys, value, o.date, o.reason, left, &mut out);
         if w.steps == 0 {
             complain(b"load: 60: the load is malformed\n");
             return;
@@ -82,18 +66,15 @@ fn main() {
         return;
     }
     let text = &input[..n];
-    let o = order::read_order(scan::before_byte(text, b'\n'));
-    if !o.ok {
+    let Some(o) = order::read_order(scan::before_byte(text, b'\n')) else {
         complain(b"load: 60: START, DATE, REASON or STEPS is malformed\n");
         return;
-    }
+    };
     let mut names = [[0u8; 30]; 256];
     let mut keys = [[0u64; 2]; 256];
-    let a = read_accounts(scan::after_byte(text, b'\n'), &mut names, &mut keys);
-    if !a.ok {
+    let Some(count) = read_accounts(scan::after_byte(text, b'\n'), &mut names, &mut keys) else {
         complain(b"load: 60: 1 to 256 accounts are needed, NUMBER TYPE on a line each\n");
         return;
-    }
-    let count = a.count;
+    };
     print_steps(&names[..count], &keys[..count], o);
 }
