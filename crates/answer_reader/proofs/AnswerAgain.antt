@@ -1,4 +1,5 @@
 -- Every answer that the gate's rules allow is read back from its bytes.
+use Rattle.std.specs.Prelude.{Some}
 use Prim.Native.Nat.{ℕ, ◌≤◌}
 use native.Mathlib.Omega.{arith}
 use mathlib.Core.Path.{◌≡◌, refl}
@@ -22,7 +23,7 @@ use Rattle.payments.specs.declared.Answer.{Answer}
 use Rattle.answer_reader.specs.declared.parts.Part.{Part}
 use Rattle.answer_reader.specs.declared.parts.Part.TheVariants.{Code, Authcode, Date, Message}
 use Rattle.answers.specs.Answer.{xml_line, response_tag, code_tag, authcode_tag, date_tag, message_tag, opening, closing, element, element_if, has_message, message_of, answer_bytes}
-use Rattle.answer_reader.specs.AnswerRead.{starts, is_blank, skip_blanks, NoTag, Content, content_of, between, element_at, name_of, takes_more, may_stand, may_lack_date, may_lack, empty_answer, good, filled, Reading, SoFar, tag_step, part_step, open_step, parts_step, end_step, answer_read}
+use Rattle.answer_reader.specs.AnswerRead.{starts, is_blank, skip_blanks, NoTag, Content, content_of, between, element_at, name_of, takes_more, may_stand, may_lack_date, may_lack, empty_answer, filled, Reading, SoFar, tag_step, part_step, open_step, parts_step, end_step, answer_read}
 use Rattle.answer_reader.specs.ReadBack.{is_answer, answer_again}
 use Rattle.answers.proofs.AnswerTextLaws.{message-elim, message-size}
 
@@ -70,7 +71,7 @@ module _ (name content rest : List ℕ) (settled : skip_blanks rest ≡ rest) wh
 -- one element, used or not
 module _ (k : Part) (content rest : List ℕ) (settled : skip_blanks rest ≡ rest) where
   part-again : (a : Action) (used : Bool) (x y : Answer)
-      → (used ≡ true → (may_stand k a ≡ true) × (every is_clear content ≡ true) × (filled k x content ≡ good y))
+      → (used ≡ true → (may_stand k a ≡ true) × (every is_clear content ≡ true) × (filled k x content ≡ Some y))
       → (used ≡ false → (starts (opening (name_of k)) rest ≡ false) × (may_lack k a x.code ≡ true) × (x ≡ y))
       → part_step k a (SoFar x (element_if used (name_of k) content ++ rest)) ≡ SoFar y rest
   unfolding part_step
@@ -147,7 +148,7 @@ module _ (a : Action) (code : ℕ) (u : Bool) (n : ℕ) (v : Bool) (d : List ℕ
       (λ e. let l : length (message_of code) ≤ 512 = omega (arith, message-size code) in (refl, message-clear code, rw (le-leb (length (message_of code)) 512 l)))
       (λ e. (refl, refl, refl))
 
-end-again : (x : Answer) → end_step (tag_step (closing response_tag) (SoFar x (closing response_tag))) ≡ good x
+end-again : (x : Answer) → end_step (tag_step (closing response_tag) (SoFar x (closing response_tag))) ≡ Some x
 unfolding end_step tag_step starts eq_list skip_blanks
 end-again x = refl
 
@@ -174,6 +175,6 @@ module _ (a : Action) (x : Answer) where
       )
       (message-again a x.code x.authorized x.authcode x.dated x.date)
 
-pub answer-again : (a : Action) (x : Answer) → is_answer a x ≡ true → answer_read a (answer_bytes x) ≡ record { ok = true; answer = answer_again x }
+pub answer-again : (a : Action) (x : Answer) → is_answer a x ≡ true → answer_read a (answer_bytes x) ≡ Some (answer_again x)
 unfolding answer_read
 answer-again a x ok = rw (open-again a x, parts_again a x ok) (end-again (answer_again x))

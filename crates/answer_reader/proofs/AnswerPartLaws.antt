@@ -1,352 +1,268 @@
 -- Laws of the elements of a response and of the steps that read them, at each way out.
 use Rattle.std.specs.Prelude.{Option, Some, None}
-use Prim.Native.Nat.{ℕ, ◌+◌, ◌≤◌, ◌<◌}
-use mathlib.Core.Path.{◌≡◌, refl, sym, ap, ◌∙◌}
+use Rattle.std.specs.Borrow.{Bor}
+use Rattle.std.proofs.Common.{⊎_elim}
+use Prim.Native.Nat.{ℕ, ◌≤◌, ◌<◌}
 use native.Mathlib.Omega.{arith}
-use mathlib.Core.List.{List}
-use mathlib.Core.Bool.{Bool, true, false, cond, not}
-use lib.Dec.{leb}
-use lib.ListN.{length, take, drop, drop_of_length-le}
-use lib.Seq.{drop-drop, take_all, length-take-le}
-use borrow.Author.Tests.{le-leb, lt-leb, eq-eqb, ne_eqb, leb-true, leb-false, not-true, not-false}
-use Rattle.dates.specs.declared.date.DateRead.{DateRead}
+use mathlib.Core.Path.{◌≡◌, refl, sym, ap, ◌∙◌}
+use mathlib.Core.List.{List, [], ◌∷◌}
+use mathlib.Core.Bool.{Bool, true, false, not}
+use lib.Dec.{eqb}
+use lib.ListN.{length, drop}
+use borrow.Author.Tests.{le-leb, lt-leb, eqb-true, not-true, not-false}
 use Rattle.texts.specs.Digits.{digits_read}
-use Rattle.dates.specs.Date.{is_written, empty_date, date_read}
-use Rattle.dates.proofs.DateLaws.{date-again, written-parts}
-use Rattle.texts.proofs.Tests.{cond-elim, no-claim}
-use Rattle.texts.proofs.ListLaws.{drop-next}
+use Rattle.texts.proofs.Tests.{no-claim}
+use Rattle.dates.specs.Date.{is_written, date_read}
+use Rattle.dates.proofs.DateLaws.{size-written}
 use Rattle.payments.specs.declared.Action.{Action}
 use Rattle.payments.specs.declared.Answer.{Answer}
-use Rattle.answer_reader.specs.declared.answer.AnswerRead.{AnswerRead}
-use Rattle.answer_reader.specs.declared.read.Place.{Place}
-use Rattle.answer_reader.specs.declared.read.Parts.{Parts}
-use Rattle.answer_reader.specs.declared.parts.Step.{Step}
-use Rattle.answer_reader.specs.declared.tags.Element.{Element}
-use Rattle.answer_reader.specs.declared.tags.Element.TheVariants.{Absent, Broken, Held}
+use Rattle.answers.specs.Answer.{xml_line, response_tag, opening, closing}
 use Rattle.answer_reader.specs.declared.parts.Part.{Part}
 use Rattle.answer_reader.specs.declared.parts.Part.TheVariants.{Code, Authcode, Date, Message}
-use Rattle.answers.specs.Answer.{xml_line, response_tag, code_tag, authcode_tag, date_tag, message_tag, opening, closing}
-use Rattle.answer_reader.specs.AnswerRead.{starts, skip_blanks, element_at, name_of, takes_more, may_stand, may_lack_date, may_lack, empty_answer, with_code, with_authcode, with_date, unreadable, good, number_held, filled, Unreadable, SoFar, read_on, tag_step, part_step, open_step, parts_step, end_step, answer_read}
-use Rattle.answer_reader.specs.AnswerParts.{found_of, no_step, absent_step, number_step, date_step, message_step, filled_step, nineteen_of, date_in, held_by, given, Unheld, Takes, placed, Passes, no_parts, code_alone, answer_with, answer_of, whole_of, undated, more_step, parts_of}
+use Rattle.answer_reader.specs.declared.read.Parts.{Parts}
+use Rattle.answer_reader.specs.declared.tags.Step.{Step}
+use Rattle.answer_reader.specs.AnswerRead.{starts, skip_blanks, Content, element_at, name_of, takes_more, may_stand, may_lack_date, may_lack, empty_answer, with_code, with_authcode, with_date, filled, Reading, Unreadable, SoFar, read_on, tag_step, part_step, open_step, parts_step, end_step, answer_read}
+use Rattle.answer_reader.specs.AnswerParts.{Finds, Gives, passed, coded, authorized, authorized_by, dated, dated_by, Passes, ReadsCode, ReadsAuthcode, ReadsDate, ReadsMessage, more_step, answer_of, whole_of, parts_of}
 
-pub none_read : (x : Answer) → x ≡ empty_answer → record { ok = false; answer = x } ≡ unreadable
-none_read x none = rw none
+-- ---- a tag
+module _ (tag t : List ℕ) where
+  pub tag-missing : starts tag t ≡ false → (r : Option (Bor (List ℕ))) → r ≡ None → Passes tag t r
+  unfolding tag_step
+  tag-missing n r e x = rw (e, n)
 
--- ---- what an element gives
-module _ (r : Step) where
-  pub number-good : (d : Option ℕ) (v at : ℕ) → d ≡ Some v → r ≡ record { ok = true; there = true; value = v; from = 0; at = at } → r ≡ number_step d at
-  number-good d v at e q = rw e q
+  pub tag-passed : (u v : List ℕ) → starts tag t ≡ true → u ≡ drop (length tag) t → v ≡ skip_blanks u → (x : Answer) → SoFar x v ≡ tag_step tag (SoFar x t)
+  unfolding tag_step
+  tag-passed u v y eu ev x = rw (y, ev, eu)
 
-  pub number-bad : (d : Option ℕ) (at : ℕ) → d ≡ None → r ≡ no_step → r ≡ number_step d at
-  number-bad d at e q = rw e q
+-- ---- the step of an element that may stand
+module _ (k : Part) (a : Action) (x : Answer) (t : List ℕ) (stands : may_stand k a ≡ true) where
+  step-none : (may : Bool) → may ≡ may_lack k a x.code → Finds may t (element_at (name_of k) t) None → Unreadable ≡ part_step k a (SoFar x t)
+  unfolding part_step
+  step-none may e f = rw stands (⊎_elim (λ w. rw (w.0, ← e, w.1)) (λ w. rw w) f)
 
-  pub date-good : (w : Bool) (from at : ℕ) → w ≡ true → r ≡ record { ok = true; there = true; value = 0; from = from; at = at } → r ≡ date_step w from at
-  date-good w from at e q = rw e q
+  step-absent : (may : Bool) (u : List ℕ) → may ≡ may_lack k a x.code → Gives may t (element_at (name_of k) t) None u → SoFar x u ≡ part_step k a (SoFar x t)
+  unfolding part_step
+  step-absent may u e g = rw (stands, g.0, ← e, g.1, g.2)
 
-  pub date-bad : (w : Bool) (from at : ℕ) → w ≡ false → r ≡ no_step → r ≡ date_step w from at
-  date-bad w from at e q = rw e q
+  step-held : (c u : List ℕ) → element_at (name_of k) t ≡ Content c u → (r : Reading) → r ≡ read_on (filled k x c) u → r ≡ part_step k a (SoFar x t)
+  unfolding part_step
+  step-held c u f r q = rw (stands, f) q
 
-  pub message-good : (n at : ℕ) → n ≤ 512 → r ≡ absent_step true at → r ≡ message_step n at
-  message-good n at h q = rw (le-leb n 512 h) q
+-- the steps of those that may not
+module _ (a : Action) (x : Answer) (t : List ℕ) (barred : takes_more a ≡ false) where
+  authcode-barred : part_step Authcode a (SoFar x t) ≡ SoFar x t
+  unfolding part_step may_stand
+  authcode-barred = rw barred
 
-  pub message-long : (n at : ℕ) → 512 < n → r ≡ no_step → r ≡ message_step n at
-  message-long n at h q = rw (lt-leb n 512 h) q
+  date-barred : part_step Date a (SoFar x t) ≡ SoFar x t
+  unfolding part_step may_stand
+  date-barred = rw barred
 
-  module _ (k : Part) (c : List ℕ) (from at : ℕ) where
-    pub fill-as : (l : Part) → k ≡ l → r ≡ filled_step l c from at → r ≡ filled_step k c from at
-    fill-as l e q = rw e q
+-- ---- the code
+module _ (t : List ℕ) where
+  pub code-none : Finds false t (element_at (name_of Code) t) None → (r : Option (Step ℕ)) → r ≡ None → ReadsCode t r
+  code-none f r e a = rw e (step-none Code a empty_answer t (unfold may_stand in refl) false (unfold may_lack in refl) f)
 
-    pub fill-number : (most : ℕ) (d : Option ℕ) → r ≡ number_step d at → d ≡ digits_read most c → r ≡ number_step (digits_read most c) at
-    fill-number most d q e = rw (← e) q
+  module _ (v : Option (Bor (List ℕ))) (u : List ℕ) (g : Gives false t (element_at (name_of Code) t) v u) where
+    pub code-absent : v ≡ None → (r : Option (Step ℕ)) → ReadsCode t r
+    code-absent n r a = let w : Gives false t (element_at (name_of Code) t) None u = rw n at g in no-claim w.1
 
-    pub fill-date : (d : DateRead) → r ≡ date_step d.ok from at → d ≡ date_read c → r ≡ date_step (date_read c).ok from at
-    fill-date d q e = rw (← e) q
+    module _ (c : Bor (List ℕ)) (e : v ≡ Some c) (n : Option ℕ) (en : n ≡ digits_read 4 c.now) where
+      code-held : (r : Reading) → r ≡ read_on (filled Code empty_answer c.now) u → (a : Action) → r ≡ part_step Code a (SoFar empty_answer t)
+      code-held r q a = step-held Code a empty_answer t (unfold may_stand in refl) c.now u (rw e at g) r q
 
--- ---- what may be missing
-pub date-as : (a b : Action) (code : ℕ) (r : Bool) → a ≡ b → r ≡ may_lack_date b code → r ≡ may_lack_date a code
-date-as a b code r e q = rw e q
+      pub code-unread : n ≡ None → (r : Option (Step ℕ)) → r ≡ None → ReadsCode t r
+      unfolding filled
+      code-unread m r q = code-held (coded r) (rw (q, ← en, m))
 
-pub lack-as : (k l : Part) (a : Action) (code : ℕ) (r : Bool) → k ≡ l → r ≡ may_lack l a code → r ≡ may_lack k a code
-lack-as k l a code r e q = rw e q
+      pub code-read : (code : ℕ) → n ≡ Some code → (a : Action) → SoFar (with_code empty_answer code) u ≡ part_step Code a (SoFar empty_answer t)
+      unfolding filled
+      code-read code m = code-held _ (rw (← en, m))
 
--- ---- a date is nineteen bytes, however they were cut off
-nineteen : (n : ℕ) (l : List ℕ) → length (take n l) ≡ 19 → take 19 l ≡ take n l
-nineteen n l e = go (leb n (length l)) refl
-  where
-    go : (b : Bool) → leb n (length l) ≡ b → take 19 l ≡ take n l
-    go true b = let z : n ≡ 19 = sym (length-take-le n l (leb-true n (length l) b)) ∙ e in rw z
-    go false b =
-        let h : length l < n = leb-false n (length l) b in
-        let w : take n l ≡ l = take_all n l (omega arith) in
-        let z : length l ≡ 19 = sym (ap length w) ∙ e in
-        take_all 19 l (omega arith) ∙ sym w
+-- ---- the authcode
+module _ (t : List ℕ) where
+  pub authcode-none : Finds true t (element_at (name_of Authcode) t) None → (r : Option (Step (Option ℕ))) → r ≡ None → ReadsAuthcode t r
+  authcode-none f r e a h x = rw e (step-none Authcode a x t (unfold may_stand in h) true (unfold may_lack in refl) f)
 
-date-written : (c : List ℕ) → (date_read c).ok ≡ true → is_written c ≡ true
-unfolding date_read
-date-written c = cond-elim (λ (r : DateRead). r.ok ≡ true → is_written c ≡ true) (is_written c) _ _ (λ h _. h) (λ _ e. no-claim e)
+  module _ (v : Option (Bor (List ℕ))) (u : List ℕ) (g : Gives true t (element_at (name_of Authcode) t) v u) where
+    pub authcode-absent : v ≡ None → (a : Action) → takes_more a ≡ true → (x : Answer) → SoFar x u ≡ part_step Authcode a (SoFar x t)
+    authcode-absent n a h x = step-absent Authcode a x t (unfold may_stand in h) true u (unfold may_lack in refl) (rw n at g)
 
--- ---- what was filled in is what the definition fills in
-module _ (s : List ℕ) (x : Answer) (from size next : ℕ) where
-  number-given : (k : Part) (f : ℕ → Answer) → ((r : Step) → held_by k s x r ≡ f r.value) → (d : Option ℕ)
-      → given k s x (number_step d next) ≡ read_on (number_held f d) (drop next s)
-  unfolding given
-  number-given k f h None = refl
-  number-given k f h (Some v) = rw h
+    module _ (c : Bor (List ℕ)) (e : v ≡ Some c) (n : Option ℕ) (en : n ≡ digits_read 15 c.now) (a : Action) (h : takes_more a ≡ true) (x : Answer) where
+      authcode-held : (r : Reading) → r ≡ read_on (filled Authcode x c.now) u → r ≡ part_step Authcode a (SoFar x t)
+      authcode-held = step-held Authcode a x t (unfold may_stand in h) c.now u (rw e at g)
 
-  fill-given : (k : Part) (c : List ℕ) → c ≡ take size (drop from s) → given k s x (filled_step k c from next) ≡ read_on (filled k x c) (drop next s)
-  unfolding filled_step filled given
-  fill-given Code c e = number-given Code (with_code x) (λ r. refl) (digits_read 4 c)
-  fill-given Authcode c e = number-given Authcode (with_authcode x) (λ r. refl) (digits_read 15 c)
-  fill-given Date c e = go (date_read c).ok refl
-    where
-      go : (b : Bool) → (date_read c).ok ≡ b → given Date s x (date_step b from next) ≡ read_on (cond b (good (with_date x (date_read c).date)) unreadable) (drop next s)
-      go true b =
-          let w : is_written c ≡ true = date-written c b in
-          let l : length c ≡ 19 = (written-parts c w).size in
-          let z : take 19 (drop from s) ≡ c = nineteen size (drop from s) (ap length (sym e) ∙ l) ∙ sym e in
-          rw (z, eq-eqb (length c) 19 l, date-again c w)
-      go false b = refl
-  fill-given Message c e = go (leb (length c) 512)
-    where
-      go : (b : Bool) → given Message s x (cond b (absent_step true next) no_step) ≡ read_on (cond b (good x) unreadable) (drop next s)
-      go true = refl
-      go false = refl
+    module _ (c : Bor (List ℕ)) (e : v ≡ Some c) (n : Option ℕ) (en : n ≡ digits_read 15 c.now) where
+      pub authcode-unread : n ≡ None → (r : Option (Step (Option ℕ))) → r ≡ None → ReadsAuthcode t r
+      unfolding filled
+      authcode-unread m r q a h x = authcode-held c e n en a h x (authorized_by x r) (rw (q, ← en, m))
 
--- ---- the step of an element
-number-unheld : (d : Option ℕ) (at : ℕ) → Unheld (number_step d at)
-number-unheld None at h = refl
-number-unheld (Some v) at h = no-claim (sym h)
+      pub authcode-read : (k : ℕ) → n ≡ Some k → (a : Action) → takes_more a ≡ true → (x : Answer) → SoFar (with_authcode x k) u ≡ part_step Authcode a (SoFar x t)
+      unfolding filled
+      authcode-read k m a h x = authcode-held c e n en a h x _ (rw (← en, m))
 
-fill-unheld : (k : Part) (c : List ℕ) (from at : ℕ) → Unheld (filled_step k c from at)
-unfolding filled_step
-fill-unheld Code c from at = number-unheld (digits_read 4 c) at
-fill-unheld Authcode c from at = number-unheld (digits_read 15 c) at
-fill-unheld Date c from at = cond-elim Unheld (date_read c).ok _ no_step (λ _ h. refl) (λ _ h. refl)
-fill-unheld Message c from at = cond-elim Unheld (leb (length c) 512) _ no_step (λ _ h. refl) (λ _ h. refl)
+-- ---- the date
+module _ (may : Bool) (t : List ℕ) where
+  pub date-none : Finds may t (element_at (name_of Date) t) None → (r : Option (Step (Option (Bor (List ℕ))))) → r ≡ None → ReadsDate may t r
+  date-none f r e a h x l = rw e (step-none Date a x t (unfold may_stand in h) may (unfold may_lack in l) f)
 
-module _ (k : Part) (a : Action) (code : ℕ) (s : List ℕ) (at : ℕ) (r : Step) where
-  module _ (e : Element) where
-    pub take-absent : e ≡ Absent → (t : Bool) → t ≡ may_lack k a code → r ≡ absent_step t at → Takes k a code s at e r
-    unfolding given
-    take-absent q t et er x ex = rw (er, q, ex, et)
+  module _ (v : Option (Bor (List ℕ))) (u : List ℕ) (g : Gives may t (element_at (name_of Date) t) v u) where
+    pub date-absent : v ≡ None → (a : Action) → takes_more a ≡ true → (x : Answer) → may ≡ may_lack_date a x.code → SoFar x u ≡ part_step Date a (SoFar x t)
+    date-absent n a h x l = step-absent Date a x t (unfold may_stand in h) may u (unfold may_lack in l) (rw n at g)
 
-    pub take-broken : e ≡ Broken → r ≡ no_step → Takes k a code s at e r
-    unfolding given
-    take-broken q er x ex = rw (er, q)
+    module _ (c : Bor (List ℕ)) (e : v ≡ Some c) where
+      date-held : (a : Action) → takes_more a ≡ true → (x : Answer) → (r : Reading) → r ≡ read_on (filled Date x c.now) u → r ≡ part_step Date a (SoFar x t)
+      date-held a h x = step-held Date a x t (unfold may_stand in h) c.now u (rw e at g)
 
-    pub take-held : (from size next : ℕ) → e ≡ Held from size next → (u c : List ℕ) → u ≡ drop from s → c ≡ take size u → r ≡ filled_step k c from next → Takes k a code s at e r
-    take-held from size next q u c eu ec er x ex = rw (er, q) (fill-given s x from size next k c (ec ∙ rw eu) ∙ rw (ec, eu))
+      date-unread : date_read c.now ≡ None → (r : Option (Step (Option (Bor (List ℕ))))) → r ≡ None → ReadsDate may t r
+      unfolding filled
+      date-unread m r q a h x l = date-held a h x (dated_by x r) (rw (q, m))
 
-    -- it is the definition's, where the element may stand
-    step_part : found_of s e ≡ element_at (name_of k) (drop at s) → Takes k a code s at e r → may_stand k a ≡ true
-        → (x : Answer) → x.code ≡ code → part_step k a (SoFar x (drop at s)) ≡ given k s x r
-    unfolding part_step
-    step_part ee takes may x ex = rw (may, ← ee) (sym (takes x ex))
+      pub date-short : (length c.now ≡ 19 → ⊥) → (r : Option (Step (Option (Bor (List ℕ))))) → r ≡ None → ReadsDate may t r
+      unfolding date_read
+      date-short n = date-unread (rw (← size-written c.now n))
 
-step-barred : (k : Part) (a : Action) (x : Answer) (t : List ℕ) → may_stand k a ≡ false → part_step k a (SoFar x t) ≡ SoFar x t
-unfolding part_step
-step-barred k a x t barred = rw barred
+      module _ (d : List ℕ) (same : d ≡ c.now) (w : Bool) (ew : w ≡ is_written d) where
+        pub date-unwritten : w ≡ false → ReadsDate may t None
+        unfolding date_read
+        date-unwritten n = date-unread (rw (← same, ← ew, n)) None refl
 
-module _ (r : Step) where
-  pub absent-unheld : (ok : Bool) (at : ℕ) → r ≡ absent_step ok at → Unheld r
-  absent-unheld ok at e h = rw e
+        pub date-read : w ≡ true → (a : Action) → takes_more a ≡ true → (x : Answer) → may ≡ may_lack_date a x.code → SoFar (with_date x d) u ≡ part_step Date a (SoFar x t)
+        unfolding filled date_read
+        date-read y a h x l = date-held a h x _ (rw (← same, ← ew, y))
 
-  pub none-unheld : r ≡ no_step → Unheld r
-  none-unheld e h = rw e
+-- ---- the message
+module _ (t : List ℕ) where
+  pub message-none : Finds true t (element_at (name_of Message) t) None → (r : Option (Bor (List ℕ))) → r ≡ None → ReadsMessage t r
+  message-none f r e a x = rw e (step-none Message a x t (unfold may_stand in refl) true (unfold may_lack in refl) f)
 
-  pub filled-unheld : (k : Part) (c : List ℕ) (from at : ℕ) → r ≡ filled_step k c from at → Unheld r
-  filled-unheld k c from at e = rw e (fill-unheld k c from at)
+  module _ (v : Option (Bor (List ℕ))) (u : List ℕ) (g : Gives true t (element_at (name_of Message) t) v u) where
+    pub message-absent : v ≡ None → (a : Action) (x : Answer) → SoFar x u ≡ part_step Message a (SoFar x t)
+    message-absent n a x = step-absent Message a x t (unfold may_stand in refl) true u (unfold may_lack in refl) (rw n at g)
 
--- ---- the step of a tag
-module _ (s : List ℕ) (at : ℕ) (tag : List ℕ) (t : Bool) (is : t ≡ starts tag (drop at s)) (r : Place) where
-  pub tag-missing : t ≡ false → r.ok ≡ false → Passes s at tag r
-  unfolding tag_step placed
-  tag-missing n q x = rw (q, ← is, n)
+    module _ (c : Bor (List ℕ)) (e : v ≡ Some c) where
+      pub message-long : 512 < length c.now → ReadsMessage t None
+      unfolding filled
+      message-long h a x = step-held Message a x t (unfold may_stand in refl) c.now u (rw e at g) Unreadable (rw (lt-leb (length c.now) 512 h))
 
-  pub tag-passed : t ≡ true → (next : ℕ) → drop next s ≡ skip_blanks (drop (at + length tag) s) → r ≡ record { ok = true; at = next } → Passes s at tag r
-  unfolding tag_step placed
-  tag-passed y next e q x = rw (q, ← is, y, drop-drop, e)
+      pub message-read : length c.now ≤ 512 → (a : Action) (x : Answer) → SoFar x u ≡ part_step Message a (SoFar x t)
+      unfolding filled
+      message-read h a x = step-held Message a x t (unfold may_stand in refl) c.now u (rw e at g) (SoFar x u) (rw (le-leb (length c.now) 512 h))
 
--- ---- the elements together
-module _ (k : Part) (s : List ℕ) (x : Answer) (r : Step) where
-  stopped : not r.ok ≡ true → given k s x r ≡ Unreadable
-  unfolding given
-  stopped h = rw (not-true r.ok h)
+-- ---- authcode and date
+-- the answer of the elements, as the steps make it
+answer-is : (code : ℕ) (n : Option ℕ) (d : Option (Bor (List ℕ))) → answer_of (record { code = code; authcode = n; date = d }) ≡ dated (authorized (with_code empty_answer code) n) d
+answer-is code None None = refl
+answer-is code None (Some d) = refl
+answer-is code (Some n) None = refl
+answer-is code (Some n) (Some d) = refl
 
-  going : not r.ok ≡ false → (y : Answer) → cond r.there (held_by k s x r) x ≡ y → given k s x r ≡ SoFar y (drop r.at s)
-  unfolding given
-  going h y e = go r.ok (not-false r.ok h)
-    where
-      go : (b : Bool) → b ≡ true → cond b (SoFar (cond r.there (held_by k s x r) x) (drop r.at s)) Unreadable ≡ SoFar y (drop r.at s)
-      go true q = ap (λ (z : Answer). SoFar z (drop r.at s)) e
-      go false q = no-claim q
+code-same : (code : ℕ) (n : Option ℕ) → code ≡ (authorized (with_code empty_answer code) n).code
+code-same code None = refl
+code-same code (Some n) = refl
 
--- the answer after each element
-abbrev coded : ℕ → Answer
-coded code = with_code empty_answer code
+module _ (a : Action) (code : ℕ) (t : List ℕ) (b : Bool) (takes : b ≡ takes_more a) where
+  pub more-barred : not b ≡ true → SoFar (with_code empty_answer code) t ≡ more_step a (SoFar (with_code empty_answer code) t)
+  more-barred h =
+      let barred : takes_more a ≡ false = sym takes ∙ not-true b h in
+      rw (authcode-barred a (with_code empty_answer code) t barred, date-barred a (with_code empty_answer code) t barred)
 
-abbrev authorized_by : ℕ → Step → Answer
-authorized_by code n = record { code = code; authorized = n.there; authcode = n.value; dated = false; date = empty_date }
-
-abbrev dated_by : List ℕ → ℕ → Step → Step → Answer
-dated_by s code n d = record { code = code; authorized = n.there; authcode = n.value; dated = d.there; date = date_in s d.there d.from }
-
-code-held : (s : List ℕ) (c : Step) → Unheld c → cond c.there (held_by Code s empty_answer c) empty_answer ≡ coded c.value
-code-held s c u = go c.there refl
-  where
-    go : (b : Bool) → c.there ≡ b → cond b (held_by Code s empty_answer c) empty_answer ≡ coded c.value
-    go true e = refl
-    go false e = rw (u e)
-
-module _ (s : List ℕ) (code : ℕ) (n : Step) where
-  authcode-held : Unheld n → cond n.there (held_by Authcode s (coded code) n) (coded code) ≡ authorized_by code n
-  authcode-held u = go n.there refl
-    where
-      go : (b : Bool) → n.there ≡ b → cond b (held_by Authcode s (coded code) n) (coded code) ≡ authorized_by code n
-      go true e = rw e
-      go false e = rw (e, u e)
-
-  date-held : (d : Step) → cond d.there (held_by Date s (authorized_by code n) d) (authorized_by code n) ≡ dated_by s code n d
-  date-held d = go d.there refl
-    where
-      go : (b : Bool) → d.there ≡ b → cond b (held_by Date s (authorized_by code n) d) (authorized_by code n) ≡ dated_by s code n d
-      go true e = rw e
-      go false e = rw e
-
-cond_same : {A : Type 0} (b : Bool) (x : A) → cond b x x ≡ x
-cond_same true x = refl
-cond_same false x = refl
-
--- authcode and date
-module _ (a : Action) (code : ℕ) (s : List ℕ) (at : ℕ) (t : Bool) (may : t ≡ takes_more a) (r : Parts) where
-  pub more-barred : not t ≡ true → r ≡ code_alone code at → parts_of s r ≡ more_step a (SoFar (coded code) (drop at s))
-  unfolding may_stand parts_of
-  more-barred h q =
-      let barred : takes_more a ≡ false = sym may ∙ not-true t h in
-      rw (q, step-barred Authcode a (coded code) (drop at s) barred, step-barred Date a (coded code) (drop at s) barred)
-
-  module _ (h : not t ≡ false) (e : Element) (ee : found_of s e ≡ element_at authcode_tag (drop at s)) (n : Step) (tn : Takes Authcode a code s at e n) where
+  module _ (h : not b ≡ false) where
     stands : takes_more a ≡ true
-    stands = sym may ∙ not-false t h
+    stands = sym takes ∙ not-false b h
 
-    authcode-step : part_step Authcode a (SoFar (coded code) (drop at s)) ≡ given Authcode s (coded code) n
-    authcode-step = step_part Authcode a code s at n e ee tn (unfold may_stand in stands) (coded code) refl
+    pub more-no-authcode : ReadsAuthcode t None → (r : Option (Step Parts)) → r ≡ None → parts_of r ≡ more_step a (SoFar (with_code empty_answer code) t)
+    more-no-authcode f r e = rw (e, ← f a stands (with_code empty_answer code)) (unfold part_step in refl)
 
-    pub no-authcode : not n.ok ≡ true → r ≡ no_parts → parts_of s r ≡ more_step a (SoFar (coded code) (drop at s))
-    unfolding parts_of
-    no-authcode stop q = rw (q, authcode-step, stopped Authcode s (coded code) n stop) (unfold part_step in refl)
+    module _ (n : Step (Option ℕ)) (f : ReadsAuthcode t (Some n)) (may : Bool) (em : may ≡ may_lack_date a code) where
+      may-lack : may ≡ may_lack_date a (authorized (with_code empty_answer code) n.value).code
+      may-lack = em ∙ ap (may_lack_date a) (code-same code n.value)
 
-    pub all_more : not n.ok ≡ false → Unheld n → (f : Element) → found_of s f ≡ element_at date_tag (drop n.at s) → (d : Step) → Takes Date a code s n.at f d
-        → r ≡ record { ok = d.ok; code = code; authorized = n.there; authcode = n.value; dated = d.there; from = d.from; at = d.at }
-        → parts_of s r ≡ more_step a (SoFar (coded code) (drop at s))
-    unfolding parts_of given
-    all_more fine un f ef d td q =
-        let x = authorized_by code n in
-        let date-step : part_step Date a (SoFar x (drop n.at s)) ≡ given Date s x d = step_part Date a code s n.at d f ef td (unfold may_stand in stands) x refl in
-        rw (q, authcode-step, going Authcode s (coded code) n fine x (authcode-held s code n un), date-step, date-held s code n d)
+      pub more-no-date : ReadsDate may n.rest.now None → (r : Option (Step Parts)) → r ≡ None → parts_of r ≡ more_step a (SoFar (with_code empty_answer code) t)
+      more-no-date g r e = rw (e, ← f a stands (with_code empty_answer code)) (g a stands _ may-lack)
 
--- what was read of them, or that they cannot be read
-module _ (s : List ℕ) (p : Parts) where
-  parts-stop : not p.ok ≡ true → parts_of s p ≡ Unreadable
-  unfolding parts_of
-  parts-stop h = rw (not-true p.ok h)
+      pub more-read : (d : Step (Option (Bor (List ℕ)))) → ReadsDate may n.rest.now (Some d)
+          → SoFar (answer_of (record { code = code; authcode = n.value; date = d.value })) d.rest.now ≡ more_step a (SoFar (with_code empty_answer code) t)
+      more-read d g = rw (answer-is code n.value d.value, ← f a stands (with_code empty_answer code)) (g a stands _ may-lack)
 
-  parts-go : not p.ok ≡ false → parts_of s p ≡ SoFar (answer_of s p) (drop p.at s)
-  unfolding parts_of
-  parts-go h = rw (not-false p.ok h)
+-- ---- all four
+module _ (a : Action) (t : List ℕ) where
+  pub parts-no-code : ReadsCode t None → (r : Option (Step Parts)) → r ≡ None → parts_of r ≡ parts_step a (SoFar empty_answer t)
+  unfolding parts_step
+  parts-no-code f r e = rw (e, ← f a) (unfold part_step in refl)
 
--- all four
-module _ (a : Action) (s : List ℕ) (at : ℕ) (e : Element) (ee : found_of s e ≡ element_at code_tag (drop at s)) (c : Step) (tc : Takes Code a 0 s at e c) (r : Parts) where
-  code_step : part_step Code a (SoFar empty_answer (drop at s)) ≡ given Code s empty_answer c
-  code_step = step_part Code a 0 s at c e ee tc (unfold may_stand in refl) empty_answer refl
-
-  pub no_code : not c.ok ≡ true → r ≡ no_parts → parts_of s r ≡ parts_step a (SoFar empty_answer (drop at s))
-  unfolding parts_step parts_of
-  no_code h q = rw (q, code_step, stopped Code s empty_answer c h) (unfold part_step in refl)
-
-  module _ (fine : not c.ok ≡ false) (uc : Unheld c) (p : Parts) (ep : parts_of s p ≡ more_step a (SoFar (coded c.value) (drop c.at s))) where
-    more-read : parts_step a (SoFar empty_answer (drop at s)) ≡ part_step Message a (parts_of s p)
+  module _ (c : Step ℕ) (f : ReadsCode t (Some c)) where
+    pub parts-no-more : parts_of None ≡ more_step a (SoFar (with_code empty_answer c.value) c.rest.now) → (r : Option (Step Parts)) → r ≡ None → parts_of r ≡ parts_step a (SoFar empty_answer t)
     unfolding parts_step
-    more-read = rw (code_step, going Code s empty_answer c fine (coded c.value) (code-held s c uc), ep)
+    parts-no-more m r e = rw (e, ← f a, ← m) (unfold part_step in refl)
 
-    pub no_more : not p.ok ≡ true → r ≡ no_parts → parts_of s r ≡ parts_step a (SoFar empty_answer (drop at s))
-    no_more h q = sym (more-read ∙ rw (parts-stop s p h, q) (unfold part_step parts_of in refl))
+    module _ (p : Step Parts) (m : parts_of (Some p) ≡ more_step a (SoFar (with_code empty_answer c.value) c.rest.now)) where
+      pub parts-no-message : ReadsMessage p.rest.now None → (r : Option (Step Parts)) → r ≡ None → parts_of r ≡ parts_step a (SoFar empty_answer t)
+      unfolding parts_step
+      parts-no-message g r e = rw (e, ← f a, ← m) (g a _)
 
-    pub all-parts : not p.ok ≡ false → (f : Element) → found_of s f ≡ element_at message_tag (drop p.at s) → (m : Step) → Takes Message a p.code s p.at f m
-        → r ≡ record { ok = m.ok; code = p.code; authorized = p.authorized; authcode = p.authcode; dated = p.dated; from = p.from; at = m.at }
-        → parts_of s r ≡ parts_step a (SoFar empty_answer (drop at s))
-    all-parts h f ef m tm q =
-        let x = answer_of s p in
-        let message-step : part_step Message a (SoFar x (drop p.at s)) ≡ given Message s x m = step_part Message a p.code s p.at m f ef tm (unfold may_stand in refl) x refl in
-        sym (more-read ∙ rw (parts-go s p h, message-step, q) (unfold given parts_of in rw cond_same))
+      pub parts-read : (u : List ℕ) → ((b : Action) (x : Answer) → SoFar x u ≡ part_step Message b (SoFar x p.rest.now)) → SoFar (answer_of p.value) u ≡ parts_step a (SoFar empty_answer t)
+      unfolding parts_step
+      parts-read u g = rw (← f a, ← m) (g a _)
 
--- ---- the answer
-module _ (s : List ℕ) (p : Place) (passes : Passes s 0 xml_line p) where
-  pub open_none : not p.ok ≡ true → placed s empty_answer p ≡ open_step s
-  unfolding open_step placed
-  open_none h = rw (← passes empty_answer, not-true p.ok h) (unfold tag_step in refl)
-
-  pub open-both : not p.ok ≡ false → (r : Place) → Passes s p.at (opening response_tag) r → placed s empty_answer r ≡ open_step s
+-- ---- the whole
+module _ (s : List ℕ) (r : Option (Bor (List ℕ))) where
+  pub open-none : Passes xml_line s None → r ≡ None → passed empty_answer r ≡ open_step s
   unfolding open_step
-  open-both h r next =
-      let e : placed s empty_answer p ≡ SoFar empty_answer (drop p.at s) = unfold placed in rw (not-false p.ok h) in
-      next empty_answer ∙ ap (tag_step (opening response_tag)) (sym e ∙ passes empty_answer)
+  open-none f e = rw (e, ← f empty_answer) (unfold tag_step in refl)
 
-module _ (a : Action) (s : List ℕ) (o : Place) (eo : placed s empty_answer o ≡ open_step s) (r : Parts) where
-  pub not-open : not o.ok ≡ true → r ≡ no_parts → whole_of s r ≡ answer_read a s
+  pub open-both : (u : Bor (List ℕ)) → Passes xml_line s (Some u) → Passes (opening response_tag) u.now r → passed empty_answer r ≡ open_step s
+  unfolding open_step
+  open-both u f g = rw (← f empty_answer) (g empty_answer)
+
+ended : (x : Answer) (u : List ℕ) → eqb (length u) 0 ≡ true → Some x ≡ end_step (SoFar x u)
+unfolding end_step
+ended x [] h = refl
+ended x (z ∷ u) h = let e : length (z ∷ u) ≡ 0 = eqb-true _ _ h in absurd (omega arith)
+
+not-at-end : (x : Answer) (u : List ℕ) → eqb (length u) 0 ≡ false → None ≡ end_step (SoFar x u)
+unfolding end_step
+not-at-end x [] h = no-claim (sym h)
+not-at-end x (z ∷ u) h = refl
+
+module _ (a : Action) (s : List ℕ) where
+  pub not-open : passed empty_answer None ≡ open_step s → (r : Option Parts) → r ≡ None → whole_of r ≡ answer_read a s
   unfolding answer_read
-  not-open h q =
-      let e : open_step s ≡ Unreadable = sym eo ∙ unfold placed in rw (not-true o.ok h) in
-      ap (whole_of s) q ∙ rw e (unfold parts_step part_step tag_step end_step in refl)
+  not-open o r e = rw (e, ← o) (unfold parts_step part_step tag_step end_step in refl)
 
-  module _ (fine : not o.ok ≡ false) (p : Parts) (ep : parts_of s p ≡ parts_step a (SoFar empty_answer (drop o.at s))) where
-    opened : open_step s ≡ SoFar empty_answer (drop o.at s)
-    opened = sym eo ∙ unfold placed in rw (not-false o.ok fine)
-
-    pub not-parts : not p.ok ≡ true → r ≡ no_parts → whole_of s r ≡ answer_read a s
+  module _ (t : Bor (List ℕ)) (o : passed empty_answer (Some t) ≡ open_step s) where
+    pub not-parts : parts_of None ≡ parts_step a (SoFar empty_answer t.now) → (r : Option Parts) → r ≡ None → whole_of r ≡ answer_read a s
     unfolding answer_read
-    not-parts h q = ap (whole_of s) q ∙ rw (opened, ← ep, parts-stop s p h) (unfold tag_step end_step in refl)
+    not-parts m r e = rw (e, ← o, ← m) (unfold tag_step end_step in refl)
 
-    module _ (fine₁ : not p.ok ≡ false) (e : Place) (passes : Passes s p.at (closing response_tag) e) where
-      closed : answer_read a s ≡ end_step (placed s (answer_of s p) e)
+    module _ (p : Step Parts) (m : parts_of (Some p) ≡ parts_step a (SoFar empty_answer t.now)) where
+      pub not-closed : Passes (closing response_tag) p.rest.now None → (r : Option Parts) → r ≡ None → whole_of r ≡ answer_read a s
       unfolding answer_read
-      closed = rw (opened, ← ep, parts-go s p fine₁, passes (answer_of s p))
+      not-closed f r e = rw (e, ← o, ← m, ← f (answer_of p.value)) (unfold end_step in refl)
 
-      pub not-closed : not e.ok ≡ true → r ≡ no_parts → whole_of s r ≡ answer_read a s
-      not-closed h q = ap (whole_of s) q ∙ sym (closed ∙ unfold placed end_step in rw (not-true e.ok h))
+      module _ (u : List ℕ) (f : (x : Answer) → SoFar x u ≡ tag_step (closing response_tag) (SoFar x p.rest.now)) (b : Bool) (eb : b ≡ eqb (length u) 0) where
+        pub not-ended : b ≡ false → None ≡ answer_read a s
+        unfolding answer_read
+        not-ended n = rw (← o, ← m, ← f (answer_of p.value)) (not-at-end (answer_of p.value) u (sym eb ∙ n))
 
-      module _ (fine₂ : not e.ok ≡ false) where
-        pub not-ended : e.at < length s → r ≡ no_parts → whole_of s r ≡ answer_read a s
-        not-ended h q = ap (whole_of s) q ∙ sym (closed ∙ unfold placed end_step in rw (not-false e.ok fine₂, drop-next s e.at h))
+        pub answered : b ≡ true → Some (answer_of p.value) ≡ answer_read a s
+        unfolding answer_read
+        answered y = rw (← o, ← m, ← f (answer_of p.value)) (ended (answer_of p.value) u (sym eb ∙ y))
 
-        pub answered : length s ≤ e.at → r ≡ p → whole_of s r ≡ answer_read a s
-        answered h q = ap (whole_of s) q ∙ rw (not-false p.ok fine₁) (sym (closed ∙ unfold placed end_step in rw (not-false e.ok fine₂, drop_of_length-le s h)))
+pub ruleset pass_tag_laws = (tag-missing, tag-passed)
 
--- ---- the answer that is made of the elements
-module _ (a : Action) (s : List ℕ) (p : Parts) (ep : whole_of s p ≡ answer_read a s) (r : AnswerRead) where
-  pub no_answer : not p.ok ≡ true → r ≡ unreadable → r ≡ answer_read a s
-  no_answer h q = q ∙ rw (not-true p.ok h) at ep
+pub ruleset read_code_laws = (code-none, code-absent, code-unread, code-read)
 
-  module _ (fine : not p.ok ≡ false) where
-    with-date : (d : List ℕ) → d ≡ date_in s p.dated p.from → r ≡ good (answer_with p d) → r ≡ answer_read a s
-    with-date d e q = q ∙ ap (λ (x : List ℕ). good (answer_with p x)) e ∙ rw (not-false p.ok fine) at ep
+pub ruleset read_authcode_laws = (authcode-none, authcode-absent, authcode-unread, authcode-read)
 
-    pub date-none : not p.dated ≡ true → r ≡ good (answer_with p empty_date) → r ≡ answer_read a s
-    date-none h = with-date empty_date (rw (not-true p.dated h))
+pub ruleset read_date_laws = (date-none, date-absent, date-short, date-unwritten, date-read)
 
-    module _ (h : not p.dated ≡ false) (u c : List ℕ) (eu : u ≡ drop p.from s) (ec : c ≡ take 19 u) where
-      cut : nineteen_of c ≡ date_in s p.dated p.from
-      cut = rw (not-false p.dated h, ec, eu)
+pub ruleset pass_message_laws = (message-none, message-absent, message-long, message-read)
 
-      pub date-short : (length c ≡ 19 → ⊥) → r ≡ good (answer_with p empty_date) → r ≡ answer_read a s
-      date-short n = with-date empty_date (rw (← cut, ne_eqb _ _ n))
+pub ruleset read_more_laws = (more-barred, more-no-authcode, more-no-date, more-read)
 
-      pub date-there : length c ≡ 19 → (d : List ℕ) → d ≡ c → r ≡ good (answer_with p d) → r ≡ answer_read a s
-      date-there l d e = with-date d (e ∙ rw (← cut, eq-eqb _ _ l))
+pub ruleset read_parts_laws = (parts-no-code, parts-no-more, parts-no-message, parts-read)
 
-  -- without the date's bytes
-  pub undated-none : not p.ok ≡ true → r ≡ unreadable → r ≡ undated (answer_read a s)
-  undated-none h q = let w : unreadable ≡ answer_read a s = rw (not-true p.ok h) at ep in q ∙ ap undated w
+pub ruleset open_laws = (open-none, open-both)
 
-  pub undated-made : not p.ok ≡ false → r ≡ good (answer_with p empty_date) → r ≡ undated (answer_read a s)
-  undated-made h q = let w : good (answer_of s p) ≡ answer_read a s = rw (not-false p.ok h) at ep in q ∙ ap undated w
+pub ruleset whole_parts_laws = (not-open, not-parts, not-closed, not-ended, answered)

@@ -1,5 +1,4 @@
-mod AnswerTests
-mod AnswerTagLaws
-mod AnswerPartLaws
-pub mod AnswerRange
+pub mod AnswerTagLaws
+pub mod AnswerPartLaws
 pub mod AnswerAgain
+pub mod AnswerRange

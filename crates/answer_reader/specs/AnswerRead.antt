@@ -1,13 +1,11 @@
 -- Document 01, "Gate": what the agent's reader takes as an answer to an action, by the templates of source 001, 3.2.1.
 use Rattle.std.specs.Prelude.{ℕ, ◌+◌, List, [], ◌∷◌, Bool, true, false, cond, ◌||◌, length, take, drop, leb, eqb, Option, Some, None}
-use Rattle.dates.specs.declared.date.DateRead.{DateRead}
 use Rattle.texts.specs.Lists.{find, eq_list}
 use Rattle.texts.specs.Digits.{digits_read}
 use Rattle.dates.specs.Date.{empty_date, date_read}
 use Rattle.payments.specs.declared.Action.{Action}
 use Rattle.payments.specs.declared.Action.TheVariants.{Check, Payment, Status, Cancel}
 use Rattle.payments.specs.declared.Answer.{Answer}
-use Rattle.answer_reader.specs.declared.answer.AnswerRead.{AnswerRead}
 use Rattle.answer_reader.specs.declared.parts.Part.{Part}
 use Rattle.answer_reader.specs.declared.parts.Part.TheVariants.{Code, Authcode, Date, Message}
 use Rattle.answers.specs.Answer.{xml_line, response_tag, code_tag, authcode_tag, date_tag, message_tag, opening, closing}
@@ -88,25 +86,20 @@ with_authcode x c = record { code = x.code; authorized = true; authcode = c; dat
 abbrev pub with_date : Answer → List ℕ → Answer
 with_date x d = record { code = x.code; authorized = x.authorized; authcode = x.authcode; dated = true; date = d }
 
-abbrev pub unreadable : AnswerRead
-unreadable = record { ok = false; answer = empty_answer }
+abbrev pub number_held : (ℕ → Answer) → Option ℕ → Option Answer
+number_held f None = None
+number_held f (Some v) = Some (f v)
 
-abbrev pub good : Answer → AnswerRead
-good x = record { ok = true; answer = x }
-
-abbrev pub number_held : (ℕ → Answer) → Option ℕ → AnswerRead
-number_held f None = unreadable
-number_held f (Some v) = good (f v)
-
-abbrev pub date_held : Answer → DateRead → AnswerRead
-date_held x d = cond d.ok (good (with_date x d.date)) unreadable
+abbrev pub date_held : Answer → Option (List ℕ) → Option Answer
+date_held x None = None
+date_held x (Some d) = Some (with_date x d)
 
 -- of a message nothing is kept
-abbrev pub message_held : Answer → ℕ → AnswerRead
-message_held x size = cond (leb size 512) (good x) unreadable
+abbrev pub message_held : Answer → ℕ → Option Answer
+message_held x size = cond (leb size 512) (Some x) None
 
 -- code: 1 to 4 digits by value; authcode: 1 to 15; a written date; a message of at most 512 bytes
-unfoldable pub filled : Part → Answer → List ℕ → AnswerRead
+unfoldable pub filled : Part → Answer → List ℕ → Option Answer
 filled Code x c = number_held (with_code x) (digits_read 4 c)
 filled Authcode x c = number_held (with_authcode x) (digits_read 15 c)
 filled Date x c = date_held x (date_read c)
@@ -123,8 +116,9 @@ tag_step tag Unreadable = Unreadable
 tag_step tag (SoFar x t) = cond (starts tag t) (SoFar x (skip_blanks (drop (length tag) t))) Unreadable
 
 -- an element, where the action's answers may have it
-abbrev pub read_on : AnswerRead → List ℕ → Reading
-read_on r t = cond r.ok (SoFar r.answer t) Unreadable
+abbrev pub read_on : Option Answer → List ℕ → Reading
+read_on None t = Unreadable
+read_on (Some x) t = SoFar x t
 
 abbrev pub part_found : Part → Action → Answer → List ℕ → Found → Reading
 part_found k a x left NoTag = cond (may_lack k a x.code) (SoFar x left) Unreadable
@@ -148,10 +142,15 @@ abbrev pub is_empty : List ℕ → Bool
 is_empty [] = true
 is_empty (b ∷ s) = false
 
-unfoldable pub end_step : Reading → AnswerRead
-end_step Unreadable = unreadable
-end_step (SoFar x t) = cond (is_empty t) (good x) unreadable
+unfoldable pub end_step : Reading → Option Answer
+end_step Unreadable = None
+end_step (SoFar x t) = cond (is_empty t) (Some x) None
 
 -- the response is closed, and nothing but blanks stands behind it
-unfoldable pub answer_read : Action → List ℕ → AnswerRead
+unfoldable pub answer_read : Action → List ℕ → Option Answer
 answer_read a s = end_step (tag_step (closing response_tag) (parts_step a (open_step s)))
+
+-- the answer that was read; an empty one where none was
+abbrev pub answer_in : Option Answer → Answer
+answer_in None = empty_answer
+answer_in (Some x) = x

@@ -1,8 +1,10 @@
-// The four elements of a response, under one rule.
+// The four elements of a response, each under its rule.
 ghost use Rattle.std.specs.Prelude.{◌≡◌};
-ghost use Rattle.answer_reader.specs.AnswerRead.{takes_more, may_lack_date, may_lack};
-ghost use Rattle.answer_reader.specs.AnswerParts.{no_step, absent_step, number_step, date_step, message_step, filled_step};
+ghost use Rattle.answer_reader.specs.AnswerRead.{takes_more, may_lack_date};
+ghost use Rattle.answer_reader.specs.AnswerParts.{ReadsCode, ReadsAuthcode, ReadsDate, ReadsMessage};
 
+use crate::tags;
+use crate::tags::Step;
 use dates::date;
 use payments::Action;
 use texts::digits;
@@ -18,133 +20,90 @@ pub(crate) enum Part {
     Message,
 }
 
-// What an element gives: its number, or where its date begins, and where the text goes on; `ok` false where it cannot be read.
-#[derive(Clone, Copy)]
-pub(crate) struct Step {
-    pub ok: bool,
-    pub there: bool,
-    pub value: u64,
-    pub from: usize,
-    pub at: usize,
-}
-
-// An element that cannot be read.
-pub(crate) fn no_step() -> Step
-    ensures { result ≡ no_step }
-{
-    Step {
-        ok: false,
-        there: false,
-        value: 0,
-        from: 0,
-        at: 0,
-    }
-}
-
-// An element that is not there, or of which nothing is kept.
-pub(crate) fn absent(ok: bool, at: usize) -> Step
-    ensures { result ≡ absent_step ok at }
-{
-    Step {
-        ok,
-        there: false,
-        value: 0,
-        from: 0,
-        at,
-    }
-}
-
 // Whether an action's answers may have an authcode and a date.
 pub(crate) fn takes_more(a: Action) -> bool
     ensures { result ≡ takes_more a }
 {
     match a {
         Action::Check => false,
-        Action::Payment => true,
-        Action::Status => true,
-        Action::Cancel => true,
+        Action::Payment | Action::Status | Action::Cancel => true,
     }
 }
 
 // Whether an answer with this code may be without a date.
+#[tactic(auto, unfolding(crate::specs::AnswerRead::may_lack_date))]
 pub(crate) fn may_lack_date(a: Action, code: u64) -> bool
     ensures { result ≡ may_lack_date a code }
 {
     match a {
-        Action::Check => true,
-        Action::Payment => { if code == 1 { true } else { code == 31 } }
-        Action::Status => true,
-        Action::Cancel => true,
+        Action::Payment => matches!(code, 1 | 31),
+        Action::Check | Action::Status | Action::Cancel => true,
     }
 }
 
-// Whether an answer with this code may be without an element.
-pub(crate) fn may_lack(k: Part, a: Action, code: u64) -> bool
-    ensures { result ≡ may_lack k a code }
+// The code.
+#[tactic(auto, using(crate::proofs::AnswerPartLaws::read_code_laws))]
+pub(crate) fn read_code(t: &[u8]) -> Option<Step<'_, u64>>
+    ensures { ReadsCode t.now result }
 {
-    match k {
-        Part::Code => false,
-        Part::Authcode => true,
-        Part::Date => may_lack_date(a, code),
-        Part::Message => true,
-    }
+    let e = tags::element_at(Part::Code, false, t)?;
+    let code = digits::read_digits(e.value?, 4)?;
+    Some(Step {
+        value: code,
+        rest: e.rest,
+    })
 }
 
-// A number, where it was read.
-fn held_number(d: Option<u64>, at: usize) -> Step
-    ensures { result ≡ number_step d at }
+// An authcode, where there is one.
+#[tactic(auto, using(crate::proofs::AnswerPartLaws::read_authcode_laws))]
+pub(crate) fn read_authcode(t: &[u8]) -> Option<Step<'_, Option<u64>>>
+    ensures { ReadsAuthcode t.now result }
 {
-    match d {
-        Some(v) => Step {
-            ok: true,
-            there: true,
-            value: v,
-            from: 0,
-            at,
-        },
-        None => no_step(),
-    }
+    let e = tags::element_at(Part::Authcode, true, t)?;
+    let Some(c) = e.value else {
+        return Some(Step {
+            value: None,
+            rest: e.rest,
+        });
+    };
+    let n = digits::read_digits(c, 15)?;
+    Some(Step {
+        value: Some(n),
+        rest: e.rest,
+    })
 }
 
-// A date that begins at `from`, where it is one.
-fn held_date(written: bool, from: usize, at: usize) -> Step
-    ensures { result ≡ date_step written from at }
+// A date, where there is one: its bytes are judged here, and not copied.
+#[tactic(auto, using(crate::proofs::AnswerPartLaws::read_date_laws))]
+pub(crate) fn read_date(may_lack: bool, t: &[u8]) -> Option<Step<'_, Option<&[u8; 19]>>>
+    ensures { ReadsDate may_lack t.now result }
 {
-    if written {
-        Step {
-            ok: true,
-            there: true,
-            value: 0,
-            from,
-            at,
-        }
+    let e = tags::element_at(Part::Date, may_lack, t)?;
+    let Some(c) = e.value else {
+        return Some(Step {
+            value: None,
+            rest: e.rest,
+        });
+    };
+    let d = <&[u8; 19]>::try_from(c).ok()?;
+    if date::is_written(*d) {
+        Some(Step {
+            value: Some(d),
+            rest: e.rest,
+        })
     } else {
-        no_step()
+        None
     }
 }
 
-// A message of this size, of which nothing is kept.
-fn held_message(size: usize, at: usize) -> Step
-    ensures { result ≡ message_step size at }
+// What stands behind a message, where there is one. Nothing is kept of it.
+#[tactic(auto, using(crate::proofs::AnswerPartLaws::pass_message_laws))]
+pub(crate) fn pass_message(t: &[u8]) -> Option<&[u8]>
+    ensures { ReadsMessage t.now result }
 {
-    if size <= MESSAGE_MOST {
-        absent(true, at)
-    } else {
-        no_step()
-    }
-}
-
-// What an element gives whose content begins at `from`; the text goes on at `at`.
-pub(crate) fn fill(k: Part, content: &[u8], from: usize, at: usize) -> Step
-    ensures { result ≡ filled_step k content.now from at }
-{
-    match k {
-        Part::Code => held_number(digits::read_digits(content, 4), at),
-        Part::Authcode => held_number(digits::read_digits(content, 15), at),
-        Part::Date => {
-            let d = date::read_date(content);
-            held_date(d.ok, from, at)
-        }
-        Part::Message => held_message(content.len(), at),
+    let e = tags::element_at(Part::Message, true, t)?;
+    match e.value {
+        Some(c) if MESSAGE_MOST < c.len() => None,
+        _ => Some(e.rest),
     }
 }

@@ -1,214 +1,118 @@
 // Answers read, step by step: tags, elements, the end.
-ghost use Rattle.std.specs.Prelude.{◌≡◌, drop};
-ghost use Rattle.answer_reader.specs.AnswerRead.{empty_answer, with_code, good, SoFar, open_step, parts_step, answer_read};
-ghost use Rattle.answer_reader.specs.AnswerParts.{Passes, Takes, Unheld, placed, no_parts, code_alone, more_step, parts_of, answer_with, whole_of, undated};
+ghost use Rattle.std.specs.Prelude.{◌≡◌};
+ghost use Rattle.answer_reader.specs.AnswerRead.{empty_answer, with_code, SoFar, open_step, parts_step, answer_read};
+ghost use Rattle.answer_reader.specs.AnswerParts.{Passes, passed, more_step, parts_of, answer_with, whole_of, undated};
 
-use crate::answer::AnswerRead;
-use crate::parts::{Part, Step};
-use crate::tags::Element;
-use crate::{answer, parts, tags};
-use dates::date;
+use crate::tags::Step;
+use crate::{parts, tags};
 use payments::{Action, Answer};
-use texts::scan;
 
-// Where the text goes on behind a tag; `ok` false where it does not stand.
+// What the elements give, a date where it stands.
 #[derive(Clone, Copy)]
-struct Place {
-    ok: bool,
-    at: usize,
-}
-
-// What the elements give, a date by its place, and where the text goes on.
-#[derive(Clone, Copy)]
-struct Parts {
-    ok: bool,
+struct Parts<'a> {
     code: u64,
-    authorized: bool,
-    authcode: u64,
-    dated: bool,
-    from: usize,
-    at: usize,
+    authcode: Option<u64>,
+    date: Option<&'a [u8; 19]>,
 }
 
-// Elements that cannot be read.
-fn no_parts() -> Parts
-    ensures { result ≡ no_parts }
+// What stands behind a tag and the blanks that follow it.
+#[tactic(auto, using(crate::proofs::AnswerPartLaws::pass_tag_laws))]
+fn pass_tag<'a>(t: &'a [u8], tag: &[u8]) -> Option<&'a [u8]>
+    ensures { Passes tag.now t.now result }
 {
-    Parts {
-        ok: false,
-        code: 0,
-        authorized: false,
-        authcode: 0,
-        dated: false,
-        from: 0,
-        at: 0,
-    }
+    let rest = tags::strip(t, tag)?;
+    Some(tags::skip_blanks(rest))
 }
 
-// A code behind which nothing is read yet.
-fn code_alone(code: u64, at: usize) -> Parts
-    ensures { result ≡ code_alone code at }
+// What stands behind the XML line and the opening tag of the response.
+#[tactic(auto, using(crate::proofs::AnswerPartLaws::open_laws))]
+fn open(s: &[u8]) -> Option<&[u8]>
+    ensures { passed empty_answer result ≡ open_step s.now }
 {
-    Parts {
-        ok: true,
-        code,
-        authorized: false,
-        authcode: 0,
-        dated: false,
-        from: 0,
-        at,
-    }
-}
-
-// A tag that must stand here, and the blanks behind it.
-fn tag_at(s: &[u8], at: usize, tag: &[u8]) -> Place
-    ensures { Passes s.now at tag.now result }
-{
-    if tags::starts_at(s, at, tag) {
-        Place {
-            ok: true,
-            at: tags::skip_blanks(s, at + tag.len()),
-        }
-    } else {
-        Place { ok: false, at: 0 }
-    }
-}
-
-// The XML line and the opening tag of the response.
-fn open_at(s: &[u8]) -> Place
-    ensures { placed s.now empty_answer result ≡ open_step s.now }
-{
-    let p = tag_at(s, 0, b"<?xml version=\"1.0\" encoding=\"windows-1251\"?>");
-    if !p.ok {
-        return p;
-    }
-    tag_at(s, p.at, b"<response>")
-}
-
-// What an element gives that was sought at a place.
-fn take_part(k: Part, a: Action, code: u64, s: &[u8], at: usize, e: Element) -> Step
-    ensures { Takes k a code s.now at e result × Unheld result }
-{
-    match e {
-        Element::Absent => parts::absent(parts::may_lack(k, a, code), at),
-        Element::Broken => parts::no_step(),
-        Element::Held(from, size, next) => parts::fill(
-            k,
-            scan::first_bytes(tags::rest(s, from), size),
-            from,
-            next,
-        ),
-    }
+    let t = pass_tag(s, b"<?xml version=\"1.0\" encoding=\"windows-1251\"?>")?;
+    pass_tag(t, b"<response>")
 }
 
 // Authcode and date, which stand behind the code where the action's answers have them.
-fn read_more(a: Action, code: u64, s: &[u8], at: usize) -> Parts
-    ensures { parts_of s.now result ≡ more_step a (SoFar (with_code empty_answer code) (drop at s.now)) }
+#[tactic(auto, using(crate::proofs::AnswerPartLaws::read_more_laws))]
+fn read_more(a: Action, code: u64, t: &[u8]) -> Option<Step<'_, Parts<'_>>>
+    ensures { parts_of result ≡ more_step a (SoFar (with_code empty_answer code) t.now) }
 {
     if !parts::takes_more(a) {
-        return code_alone(code, at);
+        let value = Parts {
+            code,
+            authcode: None,
+            date: None,
+        };
+        return Some(Step { value, rest: t });
     }
-    let e = tags::element_at(s, at, Part::Authcode);
-    let n = take_part(Part::Authcode, a, code, s, at, e);
-    if !n.ok {
-        return no_parts();
-    }
-    let f = tags::element_at(s, n.at, Part::Date);
-    let d = take_part(Part::Date, a, code, s, n.at, f);
-    Parts {
-        ok: d.ok,
+    let n = parts::read_authcode(t)?;
+    let d = parts::read_date(parts::may_lack_date(a, code), n.rest)?;
+    let value = Parts {
         code,
-        authorized: n.there,
         authcode: n.value,
-        dated: d.there,
-        from: d.from,
-        at: d.at,
-    }
+        date: d.value,
+    };
+    Some(Step {
+        value,
+        rest: d.rest,
+    })
 }
 
 // The elements of the response, one after another.
-fn read_parts(a: Action, s: &[u8], at: usize) -> Parts
-    ensures { parts_of s.now result ≡ parts_step a (SoFar empty_answer (drop at s.now)) }
+#[tactic(auto, using(crate::proofs::AnswerPartLaws::read_parts_laws))]
+fn read_parts(a: Action, t: &[u8]) -> Option<Step<'_, Parts<'_>>>
+    ensures { parts_of result ≡ parts_step a (SoFar empty_answer t.now) }
 {
-    let e = tags::element_at(s, at, Part::Code);
-    let c = take_part(Part::Code, a, 0, s, at, e);
-    if !c.ok {
-        return no_parts();
-    }
-    let mut p = read_more(a, c.value, s, c.at);
-    if !p.ok {
-        return no_parts();
-    }
-    let f = tags::element_at(s, p.at, Part::Message);
-    let m = take_part(Part::Message, a, p.code, s, p.at, f);
-    p.ok = m.ok;
-    p.at = m.at;
-    p
-}
-
-// The answer of the elements, with these bytes as its date.
-fn answer_with(p: Parts, date: [u8; 19]) -> AnswerRead
-    ensures { result ≡ good (answer_with p date) }
-{
-    AnswerRead {
-        ok: true,
-        answer: Answer {
-            code: p.code,
-            authorized: p.authorized,
-            authcode: p.authcode,
-            dated: p.dated,
-            date,
-        },
-    }
+    let c = parts::read_code(t)?;
+    let p = read_more(a, c.value, c.rest)?;
+    let rest = parts::pass_message(p.rest)?;
+    Some(Step {
+        value: p.value,
+        rest,
+    })
 }
 
 // The elements of a whole response: opened, closed, and nothing behind it.
-fn whole_parts(a: Action, s: &[u8]) -> Parts
-    ensures { whole_of s.now result ≡ answer_read a s.now }
+#[tactic(auto, using(crate::proofs::AnswerPartLaws::whole_parts_laws))]
+fn whole_parts(a: Action, s: &[u8]) -> Option<Parts<'_>>
+    ensures { whole_of result ≡ answer_read a s.now }
 {
-    let opened = open_at(s);
-    if !opened.ok {
-        return no_parts();
-    }
-    let p = read_parts(a, s, opened.at);
-    if !p.ok {
-        return no_parts();
-    }
-    let closed = tag_at(s, p.at, b"</response>");
-    if !closed.ok {
-        return no_parts();
-    }
-    if closed.at < s.len() {
-        return no_parts();
-    }
-    p
+    let t = open(s)?;
+    let p = read_parts(a, t)?;
+    let left = pass_tag(p.rest, b"</response>")?;
+    if left.is_empty() { Some(p.value) } else { None }
 }
 
-// An answer to an action, from its bytes. Its date was judged where it was read; each way out makes an answer of its own, so that no date is copied twice.
-pub fn read_answer(a: Action, s: &[u8]) -> AnswerRead
+// The answer of the elements, with these bytes as its date.
+fn answer_with(p: Parts<'_>, date: [u8; 19]) -> Answer
+    ensures { result ≡ answer_with p.entry date }
+{
+    Answer {
+        code: p.code,
+        authorized: p.authcode.is_some(),
+        authcode: p.authcode.unwrap_or(0),
+        dated: p.date.is_some(),
+        date,
+    }
+}
+
+// An answer to an action, from its bytes. Each way out makes an answer of its own, so that no date is copied twice.
+pub fn read_answer(a: Action, s: &[u8]) -> Option<Answer>
     ensures { result ≡ answer_read a s.now }
 {
-    let p = whole_parts(a, s);
-    if !p.ok {
-        return answer::unreadable();
+    let p = whole_parts(a, s)?;
+    match p.date {
+        Some(d) => Some(answer_with(p, *d)),
+        None => Some(answer_with(p, [0u8; 19])),
     }
-    if !p.dated {
-        return answer_with(p, [0u8; 19]);
-    }
-    let d = scan::first_bytes(tags::rest(s, p.from), 19);
-    if d.len() != 19 {
-        return answer_with(p, [0u8; 19]);
-    }
-    answer_with(p, date::nineteen(d))
 }
 
 // The same without the bytes of its date, for those who have no use for them.
-pub fn read_undated(a: Action, s: &[u8]) -> AnswerRead
+pub fn read_undated(a: Action, s: &[u8]) -> Option<Answer>
     ensures { result ≡ undated (answer_read a s.now) }
 {
-    let p = whole_parts(a, s);
-    if !p.ok {
-        return answer::unreadable();
-    }
-    answer_with(p, [0u8; 19])
+    let p = whole_parts(a, s)?;
+    let none = [0u8; 19];
+    Some(answer_with(p, none))
 }
