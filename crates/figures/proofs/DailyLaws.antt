@@ -3,10 +3,9 @@ use Prim.Native.Nat.{ℕ, zero, suc, ◌+◌, ◌*◌, ◌≤◌, ◌<◌}
 use native.Mathlib.Numerals.{add-one}
 use native.Mathlib.Omega.{arith}
 use mathlib.Core.Path.{◌≡◌, refl, sym, ap, subst, ◌∙◌}
-use mathlib.Core.Bool.{Bool, true, false, not}
+use mathlib.Core.Bool.{Bool, true, false}
 use mathlib.Core.List.{List, [], ◌∷◌, ◌++◌, append_assoc, append-nil}
 use lib.ListN.{length, length-append}
-use borrow.Author.Tests.{not-true, not-false}
 use mir.Syntax.{w64}
 use mir.Val.{Fits}
 use Rattle.texts.specs.Digits.{decimal}
@@ -22,17 +21,6 @@ use Rattle.table.proofs.TableLaws.{length-records}
 use Rattle.figures.specs.Daily.{record_text, records_text, sum_text, sum_of, day_text}
 use Rattle.figures.specs.Listing.{Payable, Put, Summed}
 use Rattle.figures.proofs.PrintLaws.{put_both, put-length, three-put, decimal-twenty}
-
--- ---- places in use
-module _ (t : Rows) (used i : ℕ) (p : Payable t used) (h : i < used) where
-  pub at-nums : i < length t.nums
-  at-nums = omega (arith, p.nums)
-
-  pub at-numbers : i < length t.numbers
-  at-numbers = omega (arith, p.numbers)
-
-  pub at-dates : i < length t.dates
-  at-dates = omega (arith, p.dates)
 
 -- ---- the lines of records
 module _ (d : List ℕ) (at : ℕ) (fit : at + 64 ≤ length d) (r : Record)
@@ -96,9 +84,6 @@ module _ (day : Day) where
         ∙ records-append (records_on day done (records_of t i)) (records_on day done (r ∷ []))))
         (put_both put one)
 
-    pub prefix-all : (used : ℕ) → i ≤ used → used ≤ i → Put d at (prefix t used) p e
-    prefix-all used h l = let same : i ≡ used = omega arith in subst (λ (k : ℕ). Put d at (prefix t k) p e) same put
-
 -- ---- number and kopecks
 module _ (day : Day) (state : ℕ) where
   -- 4,096 of less than 10^9 kopecks are far within 64 bits
@@ -135,24 +120,21 @@ module _ (day : Day) (state : ℕ) where
         let few : r.amount < 1000000000 = rw er (p.amounts i h) in
         omega (arith, few, s.kopecks, total-few t used p i (omega arith), p.few)
 
-    pub summed-all : i ≤ used → used ≤ i → Summed day state (records_of t used) count total
-    summed-all h l = let same : i ≡ used = omega arith in subst (λ (k : ℕ). Summed day state (records_of t k) count total) same s
-
     module _ (h : i < used) (r : Record) (er : r ≡ record_at t i) (b : Bool) (eb : b ≡ stands_on day state r) where
       next : records_on day state (records_of t (i + 1)) ≡ records_on day state (records_of t i) ++ records_on day state (r ∷ [])
       next = on-next day state t i ∙ ap (λ (x : Record). records_on day state (records_of t i) ++ records_on day state (x ∷ [])) (sym er)
 
-      pub summed-skip : not b ≡ true → Summed day state (records_of t (i + 1)) count total
+      pub summed-skip : b ≡ false → Summed day state (records_of t (i + 1)) count total
       summed-skip n =
           let same : records_on day state (records_of t (i + 1)) ≡ records_on day state (records_of t i)
-          = next ∙ ap (λ (l : List Record). records_on day state (records_of t i) ++ l) (on_none day state r (sym eb ∙ not-true b n)) ∙ append-nil _ in
+          = next ∙ ap (λ (l : List Record). records_on day state (records_of t i) ++ l) (on_none day state r (sym eb ∙ n)) ∙ append-nil _ in
           record { counted = s.counted ∙ ap length (sym same); kopecks = s.kopecks ∙ ap total_of (sym same) }
 
-      pub summed-more : not b ≡ false → Summed day state (records_of t (i + 1)) (count + 1) (total + r.amount)
+      pub summed-more : b ≡ true → Summed day state (records_of t (i + 1)) (count + 1) (total + r.amount)
       unfolding total_of
       summed-more n =
           let more : records_on day state (records_of t (i + 1)) ≡ records_on day state (records_of t i) ++ (r ∷ [])
-          = next ∙ ap (λ (l : List Record). records_on day state (records_of t i) ++ l) (on_one day state r (sym eb ∙ not-false b n)) in
+          = next ∙ ap (λ (l : List Record). records_on day state (records_of t i) ++ l) (on_one day state r (sym eb ∙ n)) in
           record {
             counted = rw (more, length-append (records_on day state (records_of t i)) (r ∷ [])) (omega (arith, s.counted));
             kopecks = rw (more, total-append (records_on day state (records_of t i)) (r ∷ [])) (omega (arith, s.kopecks));

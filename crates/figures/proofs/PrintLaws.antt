@@ -1,18 +1,18 @@
 -- Laws of what a line prints.
-use Prim.Native.Nat.{ℕ, suc, ◌+◌, ◌-◌, ◌≤◌}
+use Prim.Native.Nat.{ℕ, suc, ◌+◌, ◌≤◌}
 use native.Mathlib.Nat.{not-suc-le-zero, add_assoc}
 use native.Mathlib.Omega.{arith}
 use mathlib.Core.Path.{◌≡◌, refl, sym, ap, ◌∙◌, subst}
 use mathlib.Core.List.{List, [], ◌∷◌, ◌++◌, append_assoc}
 use mathlib.Core.Bool.{true, false}
-use lib.Dec.{T, eqb, ltb}
-use lib.IntN.{ℤ, pos, negsuc, nat_abs, ◌-ℤ◌}
-use lib.Signed.{mag, lt_z, non_neg}
+use lib.Dec.{eqb, ltb}
+use lib.IntN.{ℤ, pos, negsuc, nat_abs}
+use lib.Signed.{mag, lt_z}
 use lib.ListN.{length, take, drop, replicate, length-append}
 use lib.Seq.{take_at, length-take-le}
 use mir.Syntax.{w64}
-use mir.Val.{Fits, SFits, to_z, of_z}
-use borrow.Author.Tests.{eq-eqb, ne_eqb, le-ltb, ltb-true}
+use mir.Val.{SFits, to_z, of_z}
+use borrow.Author.Tests.{eq-eqb, ne_eqb, ltb-true}
 use Rattle.texts.specs.Digits.{fixed, lead_zeros, decimal}
 use Rattle.texts.specs.Lists.{over, written, cursor_after}
 use Rattle.texts.proofs.Tests.{cond-elim, no-claim}
@@ -20,34 +20,15 @@ use Rattle.texts.proofs.OutLaws.{over-length, over-over, cursor-moves, written_o
 use Rattle.texts.proofs.DecimalLaws.{decimal-size}
 use Rattle.table.specs.declared.Gate.{Gate}
 use Rattle.table.specs.Accounts.{accounts_of}
-use Rattle.table.proofs.SignedLaws.{small, back}
+use Rattle.table.proofs.SignedLaws.{back}
 use Rattle.figures.specs.Figures.{sum_balances, signed_text, figures, printed}
 use Rattle.figures.specs.Sums.{counts_text}
 use Rattle.figures.specs.Daily.{sum_text}
 use Rattle.figures.specs.Listing.{Put}
 
--- ---- the size of a number
+-- ---- the sign of a number
 before-zero : (a : ℕ) → ltb a 0 ≡ true → ⊥
 before-zero a h = not-suc-le-zero (ltb-true a 0 h)
-
-less_one : (n : ℕ) → suc n - 1 ≡ n
-less_one n = omega arith
-
-opposite : (z : ℤ) → lt_z z (pos 0) ≡ true → negsuc 0 -ℤ z ≡ pos (mag z)
-opposite (pos a) h = absurd (before-zero a h)
-opposite (negsuc n) h = rw (le-ltb (suc n) 1 (omega arith)) (ap pos (less_one n))
-
-below-size : (z : ℤ) → lt_z z (pos 0) ≡ true → nat_abs z ≡ mag z + 1
-below-size (pos a) h = absurd (before-zero a h)
-below-size (negsuc n) h = omega arith
-
-above-sign : (z : ℤ) → lt_z z (pos 0) ≡ false → T (non_neg z)
-above-sign (pos a) h = tt
-above-sign (negsuc n) h = no-claim (sym h)
-
-above-size : (z : ℤ) → lt_z z (pos 0) ≡ false → nat_abs z ≡ mag z
-above-size (pos a) h = refl
-above-size (negsuc n) h = no-claim (sym h)
 
 module _ (z : ℤ) (f : SFits w64 z) where
   self : to_z w64 (of_z w64 z) ≡ z
@@ -57,33 +38,9 @@ module _ (z : ℤ) (f : SFits w64 z) where
     under : lt_z z (pos 0) ≡ true
     under = rw self at h
 
-    pub size-sub : SFits w64 (negsuc 0 -ℤ to_z w64 (of_z w64 z))
-    size-sub = rw (self, opposite z under) (small {z = pos (mag z)} f.sfits)
-
-    size-now : to_z w64 (of_z w64 (negsuc 0 -ℤ to_z w64 (of_z w64 z))) ≡ pos (mag z)
-    size-now = rw (self, opposite z under) (back (pos (mag z)) f.sfits)
-
-    pub size-sign : T (non_neg (to_z w64 (of_z w64 (negsuc 0 -ℤ to_z w64 (of_z w64 z)))))
-    size-sign = rw size-now tt
-
-    pub size_fits : Fits w64 (nat_abs (to_z w64 (of_z w64 (negsuc 0 -ℤ to_z w64 (of_z w64 z)))))
-    size_fits = rw size-now (omega (arith, f.sfits))
-
-    pub size-next : Fits w64 (nat_abs (to_z w64 (of_z w64 (negsuc 0 -ℤ to_z w64 (of_z w64 z)))) + 1)
-    size-next = rw size-now (omega (arith, f.sfits))
-
-    pub size_is : nat_abs (to_z w64 (of_z w64 (negsuc 0 -ℤ to_z w64 (of_z w64 z)))) + 1 ≡ nat_abs z
-    size_is = rw size-now (sym (below-size z under))
-
   module _ (h : lt_z (to_z w64 (of_z w64 z)) (pos 0) ≡ false) where
     over_zero : lt_z z (pos 0) ≡ false
     over_zero = rw self at h
-
-    pub sign_above : T (non_neg (to_z w64 (of_z w64 z)))
-    sign_above = rw self (above-sign z over_zero)
-
-    pub fits-above : Fits w64 (nat_abs (to_z w64 (of_z w64 z)))
-    fits-above = rw (self, above-size z over_zero) (omega (arith, f.sfits))
 
 -- ---- a text written as another that it is
 module _ (d : List ℕ) (at : ℕ) (xs ys : List ℕ) where

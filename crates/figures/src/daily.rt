@@ -55,11 +55,9 @@ fn write_records(
     ensures { Put dst.old at (records_text (records_on day done (records_of (lent nums.now numbers.now dates.now) used))) result dst.new }
 {
     let mut cursor = at;
-    let mut i: usize = 0;
-    while i < used {
+    for i in 0..used {
         let r = rows::load(nums, numbers, dates, i);
         cursor = write_done(r, day, dst, cursor);
-        i += 1;
     }
     cursor
 }
@@ -76,19 +74,15 @@ fn sum_on(
     requires { Payable (lent nums.now numbers.now dates.now) used }
     ensures { Summed day state (records_of (lent nums.now numbers.now dates.now) used) result.count result.total }
 {
-    let mut count: u64 = 0;
-    let mut total: u64 = 0;
-    let mut place: usize = 0;
-    while place < used {
+    let mut sum = Sum { count: 0, total: 0 };
+    for place in 0..used {
         let r = rows::load(nums, numbers, dates, place);
-        place += 1;
-        if !daily::stands_on(r, day, state) {
-            continue;
+        if daily::stands_on(r, day, state) {
+            sum.count += 1;
+            sum.total += r.amount;
         }
-        count += 1;
-        total += r.amount;
     }
-    Sum { count, total }
+    sum
 }
 
 // Writes the line of such a sum at the cursor.

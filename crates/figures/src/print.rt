@@ -1,5 +1,5 @@
 // What a line prints.
-ghost use Rattle.std.specs.Prelude.{◌≡◌, ◌∷◌, ◌≤◌, nat_abs, length};
+ghost use Rattle.std.specs.Prelude.{◌≡◌, ◌∷◌, ◌≤◌, length};
 ghost use Rattle.texts.specs.Digits.{decimal};
 ghost use Rattle.texts.specs.Lists.{written, cursor_after};
 ghost use Rattle.figures.specs.Figures.{signed_text, figures, printed};
@@ -9,13 +9,6 @@ ghost use Rattle.figures.specs.Listing.{Put};
 use crate::sums;
 use table::Head;
 use texts::{digits, out, scan};
-
-// How far a number is from 0; the least of 64 bits has no opposite among them.
-fn size_of(z: i64) -> u64
-    ensures { result ≡ nat_abs z }
-{
-    if z < 0 { (-1 - z) as u64 + 1 } else { z as u64 }
-}
 
 // Writes a byte and a number behind it at the cursor, where both have room.
 pub(crate) fn write_led(lead: u8, n: u64, dst: &mut [u8], at: usize) -> usize
@@ -30,7 +23,7 @@ pub(crate) fn write_led(lead: u8, n: u64, dst: &mut [u8], at: usize) -> usize
 fn write_signed(z: i64, dst: &mut [u8], at: usize) -> usize
     ensures { (result ≡ cursor_after dst.old at (signed_text z)) × (dst.new ≡ written dst.old at (signed_text z)) }
 {
-    let n = size_of(z);
+    let n = z.unsigned_abs();
     if z < 0 {
         write_led(b'-', n, dst, at)
     } else {

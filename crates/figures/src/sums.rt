@@ -20,10 +20,8 @@ pub(crate) fn sum_balances(balances: &[i64; 256], h: Head) -> i64
     requires { Summable (nameless h balances.now) }
     ensures { (result ≡ sum_balances (accounts_of (nameless h balances.now))) × (mag result ≤ 6000000000000000) }
 {
-    let mut sum: i64 = 0;
-    let mut i = h.count;
-    while 0 < i {
-        i -= 1;
+    let mut sum = 0;
+    for i in (0..h.count).rev() {
         sum = plus(balances[i], sum);
     }
     sum
