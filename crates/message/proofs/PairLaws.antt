@@ -1,4 +1,5 @@
 -- Name = value pairs behind &: what is written of them is split, gathered and read back.
+use Rattle.std.specs.Prelude.{Option, Some, None}
 use Prim.Native.Nat.{ℕ, suc, ◌+◌, ◌≤◌, ◌<◌}
 use native.Mathlib.Omega.{arith}
 use mathlib.Core.Path.{◌≡◌, refl, sym, ap, ◌∙◌}
@@ -7,9 +8,9 @@ use mathlib.Core.Bool.{Bool, true, false, cond, ◌&&◌}
 use lib.Dec.{eqb, ltb}
 use lib.ListN.{length, drop, replicate, length-append}
 use lib.Seq.{append_snoc, take-append_seam, drop-append-add, get_or-append_seam, set-append_seam}
-use borrow.Author.Tests.{eqb-true, ltb-true, ltb-false, lt-ltb}
+use borrow.Author.Tests.{eqb-true, ltb-false, lt-ltb}
 use Rattle.texts.specs.Lists.{every, find}
-use Rattle.texts.proofs.Tests.{both}
+use Rattle.texts.proofs.Tests.{both, no-claim}
 use Rattle.texts.proofs.ListLaws.{every-weaker}
 use Rattle.coding.specs.Url.{is_plain, coded, is_byte}
 use Rattle.coding.specs.Params.{pieces}
@@ -53,10 +54,19 @@ unfoldable pub size_of : List Entry → ℕ
 size_of [] = 0
 size_of (entry used name value most b l ∷ es) = 2 + length name + most + size_of es
 
+-- whether it is this place
+abbrev pub is_at : Option ℕ → ℕ → Bool
+is_at None k = false
+is_at (Some j) k = eqb j k
+
+at-place : (x : Option ℕ) (k : ℕ) → is_at x k ≡ true → x ≡ Some k
+at-place (Some j) k h = rw (eqb-true j k h)
+at-place None k h = no-claim h
+
 -- known names of plain bytes, at the places from k on
 unfoldable pub named : ℕ → List Entry → Bool
 named k [] = true
-named k (entry used name value most b l ∷ es) = (eqb (name_index name) k && (ltb k 7 && every is_plain name)) && named (suc k) es
+named k (entry used name value most b l ∷ es) = (is_at (name_index name) k && every is_plain name) && named (suc k) es
 
 -- the pieces behind a first &
 behind : List ℕ → List (List ℕ)
@@ -83,25 +93,25 @@ module _ (name value : List ℕ) (plain : every is_plain name ≡ true) (bytes :
       let w : find 38 (61 ∷ coded value) ≡ length (61 ∷ coded value) = find-other 38 61 (coded value) (λ e. omega arith) ∙ ap suc v in
       find-both 38 name (61 ∷ coded value) (find_absent is_plain 38 name coded-marks.0 plain) w
 
-  add-pair : (before after : List Slot) → name_index name ≡ length before → length before < 7
+  add-pair : (before after : List Slot) → name_index name ≡ Some (length before)
       → add_piece (before ++ (Absent ∷ after)) (name ++ (61 ∷ coded value)) ≡ Values (before ++ (Holds (coded value) ∷ after))
-  add-pair before after n k =
+  add-pair before after n =
       let f : find 61 (name ++ (61 ∷ coded value)) ≡ length name = find-seam 61 name (coded value) (find_absent is_plain 61 name coded-marks.1 plain) in
       let size : length (name ++ (61 ∷ coded value)) ≡ length name + suc (length (coded value)) = length-append name (61 ∷ coded value) in
       let l : length name < length (name ++ (61 ∷ coded value)) = omega arith in
       let j : suc (length name) ≡ length name + 1 = omega arith in
       let d : drop (suc (length name)) (name ++ (61 ∷ coded value)) ≡ coded value = rw j (drop-append-add name (61 ∷ coded value) 1) in
       add-some (before ++ (Absent ∷ after)) (name ++ (61 ∷ coded value)) (λ e. omega arith)
-      ∙ simp (f, lt-ltb _ _ l, d, take-append_seam, coded-well value bytes, n, lt-ltb _ _ k, get_or-append_seam, set-append_seam)
+      ∙ simp (f, lt-ltb _ _ l, d, take-append_seam, coded-well value bytes, n, get_or-append_seam, set-append_seam)
 
 gather-entry : (used : Bool) (name value : List ℕ) (es : List Entry) (before after : List Slot) → (used ≡ true → every is_byte value ≡ true)
-    → every is_plain name ≡ true → name_index name ≡ length before → length before < 7
+    → every is_plain name ≡ true → name_index name ≡ Some (length before)
     → gather_from (before ++ (Absent ∷ after)) (behind (pair_if used name value ++ text_of es))
     ≡ gather_from (before ++ (cond used (Holds (coded value)) Absent ∷ after)) (behind (text_of es))
 unfolding gather_from behind pair
-gather-entry false name value es before after b p n k = refl
-gather-entry true name value es before after b p n k =
-    rw (piece_then (name ++ (61 ∷ coded value)) es (piece-whole name value p (b refl)), add-pair name value p (b refl) before after n k)
+gather-entry false name value es before after b p n = refl
+gather-entry true name value es before after b p n =
+    rw (piece_then (name ++ (61 ∷ coded value)) es (piece-whole name value p (b refl)), add-pair name value p (b refl) before after n)
 
 -- pairs in the order of their slots fill them one after the other
 gather-entries : (before : List Slot) (k : ℕ) (es : List Entry) → k ≡ length before → named k es ≡ true
@@ -110,13 +120,11 @@ unfolding gather_from behind text_of slots_for named
 gather-entries before k [] q h = refl
 gather-entries before k (entry used name value most b l ∷ es) q h =
     let s : Slot = cond used (Holds (coded value)) Absent in
-    let t = both (eqb (name_index name) k && (ltb k 7 && every is_plain name)) (named (suc k) es) h in
-    let u = both (eqb (name_index name) k) (ltb k 7 && every is_plain name) t.0 in
-    let w = both (ltb k 7) (every is_plain name) u.1 in
-    let n : name_index name ≡ length before = eqb-true (name_index name) k u.0 ∙ q in
-    let m : length before < 7 = omega (arith, ltb-true k 7 w.0) in
+    let t = both (is_at (name_index name) k && every is_plain name) (named (suc k) es) h in
+    let u = both (is_at (name_index name) k) (every is_plain name) t.0 in
+    let n : name_index name ≡ Some (length before) = at-place (name_index name) k u.0 ∙ ap Some q in
     let i : suc k ≡ length (before ++ (s ∷ [])) = rw length-append (omega arith) in
-    gather-entry used name value es before (replicate (length es) Absent) b w.1 n m
+    gather-entry used name value es before (replicate (length es) Absent) b u.1 n
     ∙ simp append_snoc at (gather-entries (before ++ (s ∷ [])) (suc k) es i t.1)
 
 -- a text of seven pairs, but for its first &

@@ -1,2 +1,2 @@
 pub mod SlotLaws
-pub mod Picks
+pub mod WordLaws

@@ -5,35 +5,25 @@ use native.Mathlib.Nat.{not-suc-le-zero, le_of_suc-le-suc}
 use native.Mathlib.Omega.{arith}
 use mathlib.Core.Path.{◌≡◌, refl, sym, ap, ◌∙◌}
 use mathlib.Core.List.{List, [], ◌∷◌}
-use mathlib.Core.Bool.{Bool, true, false, cond, not, ◌&&◌}
+use mathlib.Core.Bool.{Bool, true, false, cond, ◌&&◌}
 use mir.Syntax.{w64}
 use mir.Val.{Fits}
 use lib.Dec.{eqb, ltb}
 use lib.ListN.{length, get_or, set, take, drop, length-take, length-drop, drop_of_length-le}
 use lib.Seq.{take_all, take-nil, length-take-le, drop-drop}
 use borrow.Author.Tests.{ltb-true, ltb-false, lt-ltb, le-ltb, eq-eqb, ne_eqb, eqb-true, not-true, not-false}
-use Rattle.texts.specs.Lists.{find}
+use Rattle.std.specs.Prelude.{Option, Some, None}
+use Rattle.texts.specs.Lists.{find, eq_list}
+use Rattle.texts.proofs.Tests.{cond-elim}
 use Rattle.texts.proofs.ScanLaws.{find-le}
 use Rattle.coding.specs.Url.{well_coded, decoded, decoded_within}
 use Rattle.coding.specs.Params.{split_at, pieces, has_value, name_of, value_of}
 use Rattle.coding.proofs.ParamLaws.{split-first, split-last}
 use Rattle.parameters.specs.declared.slots.Piece.{Piece}
-use Rattle.parameters.specs.Names.{name_index}
-use Rattle.parameters.specs.Slots.{Slot, Absent, Holds, Gathered, Broken, Values, place, add_piece, follow, gather_from, no_slots}
-use Rattle.parameters.specs.SlotWalk.{slot_at, slot_of, slots_in, scanned, end_at, is_given, placed, nameless, stored, Adds, clipped_text}
-
--- ---- a part of a text
-module _ (s : List ℕ) (from to : ℕ) where
-  pub part-past : length s ≤ from → [] ≡ take (to - from) (drop from s)
-  part-past h = rw (drop_of_length-le s h) (sym (take-nil (to - from)))
-
-  pub part_none : to ≤ from → [] ≡ take (to - from) (drop from s)
-  part_none h = let z : to - from ≡ 0 = omega arith in rw z
-
-  pub part-is : from < length s → (r : List ℕ) → r ≡ take (to - from) (take (length s - from) (drop from s)) → r ≡ take (to - from) (drop from s)
-  part-is h r e =
-      let l : length (drop from s) ≤ length s - from = rw length-drop (omega arith) in
-      e ∙ rw (take_all (length s - from) (drop from s) l)
+use Rattle.parameters.specs.declared.slots.Piece.TheVariants.{Value, Nothing, Malformed}
+use Rattle.parameters.specs.Names.{action_name, number_name, kind_name, amount_name, receipt_name, date_name, reason_name, name_index}
+use Rattle.parameters.specs.Slots.{Slot, Absent, Holds, Gathered, Broken, Values, place, place_by, add_piece, follow, gather_from, no_slots}
+use Rattle.parameters.specs.SlotWalk.{slot_at, slot_of, slots_in, scanned, end_at, is_given, placed, stored, Adds, clipped_text}
 
 drop-take : (n m : ℕ) (l : List ℕ) → drop n (take m l) ≡ take (m - n) (drop n l)
 drop-take zero m l = let z : m - 0 ≡ m = omega arith in rw z
@@ -65,7 +55,7 @@ module _ (s : List ℕ) where
     unfolding placed
     placed-known h =
         let a : k < length t = omega arith in
-        rw (lt-ltb _ _ h, slot-get t k a) (go (eqb (end_at t k) 0) refl)
+        rw (slot-get t k a) (go (eqb (end_at t k) 0) refl)
       where
         go : (z : Bool) → eqb (end_at t k) 0 ≡ z → cond z (Values (slots_in s (set t k (f ∷ (e ∷ []))))) Broken ≡ place (slot_of s (get_or t k [])) (slots_in s t) k v
         go true z =
@@ -75,25 +65,27 @@ module _ (s : List ℕ) where
             let w : slot_of s (get_or t k []) ≡ Holds (take (end_at t k - get_or (get_or t k []) 0 0) (drop (get_or (get_or t k []) 0 0) s)) = unfold slot_at in rw z in
             rw w
 
-    placed-scanned : placed s t k f e ≡ cond (ltb k 7) (place (get_or (slots_in s t) k Absent) (slots_in s t) k v) (Values (slots_in s t))
-    placed-scanned = go (ltb k 7) refl
-      where
-        go : (z : Bool) → ltb k 7 ≡ z → placed s t k f e ≡ cond z (place (get_or (slots_in s t) k Absent) (slots_in s t) k v) (Values (slots_in s t))
-        go true z = placed-known (ltb-true k 7 z)
-        go false z = unfold placed in rw z
-
 -- ---- one piece
 pub add-some : (t : List Slot) (p : List ℕ) → (length p ≡ 0 → ⊥)
-    → add_piece t p
-    ≡ cond (has_value p && well_coded (value_of p)) (cond (ltb (name_index (name_of p)) 7) (place (get_or t (name_index (name_of p)) Absent) t (name_index (name_of p)) (value_of p)) (Values t)) Broken
+    → add_piece t p ≡ cond (has_value p && well_coded (value_of p)) (place_by (name_index (name_of p)) t (value_of p)) Broken
 unfolding add_piece
 add-some t [] n = absurd (n refl)
 add-some t (b ∷ p) n = refl
 
+pub place-known : (w : List ℕ) (k : ℕ) → name_index w ≡ Some k → k < 7
+unfolding name_index
+place-known w k =
+    one action_name 0 (omega arith) (one number_name 1 (omega arith) (one kind_name 2 (omega arith) (one amount_name 3 (omega arith)
+    (one receipt_name 4 (omega arith) (one date_name 5 (omega arith) (one reason_name 6 (omega arith) (λ e. cc)))))))
+  where
+    one : (n : List ℕ) (i : ℕ) → i < 7 → {rest : Option ℕ} → (rest ≡ Some k → k < 7) → cond (eq_list w n) (Some i) rest ≡ Some k → k < 7
+    one n i l {rest} r =
+        cond-elim (λ (x : Option ℕ). x ≡ Some k → k < 7) (eq_list w n) (Some i) rest (λ _ e. let z : i ≡ k = cc in omega arith) (λ _. r)
+
 module _ (s : List ℕ) (at end : ℕ) (p : List ℕ) (is : p ≡ take (end - at) (drop at s)) where
-  pub piece-empty : (r : Piece) → r ≡ nameless true → length p ≡ 0 → Adds s at end r
-  unfolding stored placed
-  piece-empty r e l t a = rw (e, ← is) (go p l)
+  pub piece-empty : length p ≡ 0 → Adds s at end Nothing
+  unfolding stored
+  piece-empty l t a = rw (← is) (go p l)
     where
       go : (p : List ℕ) → length p ≡ 0 → Values (slots_in s t) ≡ add_piece (slots_in s t) p
       go [] l = unfold add_piece in refl
@@ -103,9 +95,9 @@ module _ (s : List ℕ) (at end : ℕ) (p : List ℕ) (is : p ≡ take (end - at
     pub name-size : q < length p → q ≡ length (take q p)
     name-size h = sym (length-take-le q p (omega arith))
 
-    pub piece-alone : (r : Piece) → r ≡ nameless false → length p ≤ q → Adds s at end r
+    pub piece-alone : length p ≤ q → Adds s at end Malformed
     unfolding stored
-    piece-alone r e h t a = rw (e, ← is, add-some (slots_in s t) p some) (rw (← found, le-ltb _ _ h))
+    piece-alone h t a = rw (← is, add-some (slots_in s t) p some) (rw (← found, le-ltb _ _ h))
 
     module _ (inside : q < length p) (w : Bool) (coded : w ≡ well_coded (take (length p - (q + 1)) (drop (q + 1) p))) where
       value-is : take (length p - (q + 1)) (drop (q + 1) p) ≡ value_of p
@@ -118,27 +110,36 @@ module _ (s : List ℕ) (at end : ℕ) (p : List ℕ) (is : p ≡ take (end - at
           let h : has_value p ≡ true = rw (← found) (lt-ltb _ _ inside) in
           rw h (sym (ap well_coded value-is) ∙ sym coded)
 
-      pub piece-bad : (r : Piece) → r ≡ nameless false → w ≡ false → Adds s at end r
+      pub piece-bad : w ≡ false → Adds s at end Malformed
       unfolding stored
-      piece-bad r e g t a = rw (e, ← is, add-some (slots_in s t) p some, whether, g)
+      piece-bad g t a = rw (← is, add-some (slots_in s t) p some, whether, g)
 
       pub place-fits : end ≤ length s → length s < 2 ^ 64 → Fits w64 (at + q + 1)
       place-fits h l = let a : length p ≤ end - at = rw is (simp length-take (omega arith)) in omega arith
 
-      pub piece-placed : (k : ℕ) → k ≡ name_index (take q p) → (r : Piece) → r ≡ record { ok = true; place = k; from = at + q + 1 } → w ≡ true → Adds s at end r
-      unfolding stored
-      piece-placed k ek r e g t a =
-          let n : length p ≤ end - at = rw is (simp length-take (omega arith)) in
-          let some_end : 0 < end = omega arith in
-          let v : value_of p ≡ take (end - (at + q + 1)) (drop (at + q + 1) s) = rw (← found, ← add-one) there in
-          rw (← is, add-some (slots_in s t) p some, whether, g)
-          (rw e (placed-scanned s t a k (at + q + 1) end (value_of p) some_end v ∙ rw (ek, found)))
-        where
-          there : drop (q + 1) p ≡ take (end - (at + q + 1)) (drop (at + q + 1) s)
-          there =
-              let z : end - at - (q + 1) ≡ end - (at + q + 1) = omega arith in
-              let y : at + (q + 1) ≡ at + q + 1 = omega arith in
-              rw is (drop-take (q + 1) (end - at) (drop at s) ∙ rw (drop-drop, z, y))
+      module _ (x : Option ℕ) (ex : x ≡ name_index (take q p)) (g : w ≡ true) where
+        pub piece-unknown : x ≡ None → Adds s at end Nothing
+        unfolding stored
+        piece-unknown n t a = rw (← is, add-some (slots_in s t) p some, whether, g, ← found, ← ex, n)
+
+        pub piece-placed : (k : ℕ) → x ≡ Some k → Adds s at end (Value k (at + q + 1))
+        unfolding stored
+        piece-placed k e t a =
+            let n : length p ≤ end - at = rw is (simp length-take (omega arith)) in
+            let some_end : 0 < end = omega arith in
+            let v : value_of p ≡ take (end - (at + q + 1)) (drop (at + q + 1) s) = rw (← found, ← add-one) there in
+            let known : k < 7 = place-known (take q p) k (sym ex ∙ e) in
+            rw (← is, add-some (slots_in s t) p some, whether, g, ← found, ← ex, e)
+            (placed-known s t a k (at + q + 1) end (value_of p) some_end v known ∙ rw found)
+          where
+            there : drop (q + 1) p ≡ take (end - (at + q + 1)) (drop (at + q + 1) s)
+            there =
+                let z : end - at - (q + 1) ≡ end - (at + q + 1) = omega arith in
+                let y : at + (q + 1) ≡ at + q + 1 = omega arith in
+                rw is (drop-take (q + 1) (end - at) (drop at s) ∙ rw (drop-drop, z, y))
+
+        pub is-known : (k : ℕ) → x ≡ Some k → k < 7
+        is-known k e = place-known (take q p) k (sym ex ∙ e)
 
 -- ---- the pieces one after the other
 no_pieces : (u : List Slot) → gather_from u (pieces []) ≡ Values u
@@ -197,22 +198,22 @@ module _ (s : List ℕ) where
     goes_on : (u : List (List ℕ)) → stored s t p end ≡ Values (slots_in s u) → g ≡ gather_from (slots_in s u) (pieces (drop (end + 1) s))
     goes_on u q = after ∙ rw q
 
-    pub gather-bad : not p.ok ≡ true → (u : List (List ℕ)) → scanned s false u ≡ g
+    pub gather-bad : p ≡ Malformed → (u : List (List ℕ)) → scanned s false u ≡ g
     unfolding stored
-    gather-bad h = breaks (rw (not-true p.ok h))
+    gather-bad h = breaks (rw h)
 
-    module _ (good : not p.ok ≡ false) where
-      pub gather-skip : 7 ≤ p.place → g ≡ gather_from (slots_in s t) (pieces (drop (end + 1) s))
-      unfolding stored placed
-      gather-skip h = goes_on t (rw (not-false p.ok good, le-ltb _ _ h))
+    pub gather-skip : p ≡ Nothing → g ≡ gather_from (slots_in s t) (pieces (drop (end + 1) s))
+    unfolding stored
+    gather-skip h = goes_on t (rw h)
 
-      pub gather-twice : p.place < 7 → (end_at t p.place ≡ 0 → ⊥) → (u : List (List ℕ)) → scanned s false u ≡ g
+    module _ (k from : ℕ) (value : p ≡ Value k from) where
+      pub gather-twice : (end_at t k ≡ 0 → ⊥) → (u : List (List ℕ)) → scanned s false u ≡ g
       unfolding stored placed
-      gather-twice h n = breaks (rw (not-false p.ok good, lt-ltb _ _ h, ne_eqb _ _ n))
+      gather-twice n = breaks (rw (value, ne_eqb _ _ n))
 
-      pub gather-new : p.place < 7 → end_at t p.place ≡ 0 → g ≡ gather_from (slots_in s (set t p.place (p.from ∷ (end ∷ [])))) (pieces (drop (end + 1) s))
+      pub gather-new : end_at t k ≡ 0 → g ≡ gather_from (slots_in s (set t k (from ∷ (end ∷ [])))) (pieces (drop (end + 1) s))
       unfolding stored placed
-      gather-new h z = goes_on _ (rw (not-false p.ok good, lt-ltb _ _ h, eq-eqb _ _ z))
+      gather-new z = goes_on _ (rw (value, eq-eqb _ _ z))
 
   pub gather-end : (g : Gathered) (t : List (List ℕ)) (at : ℕ) → g ≡ gather_from (slots_in s t) (pieces (drop at s)) → length s ≤ at → (u : List (List ℕ)) → u ≡ t → scanned s true u ≡ g
   unfolding scanned
@@ -269,4 +270,6 @@ module _ (s : List ℕ) (t : List (List ℕ)) (k : ℕ) (small : k < 7) (sizes :
           rw n none
       go false z = refl
 
-pub ruleset read_piece_laws = (piece-empty, name-size, piece-alone, piece-bad, place-fits, piece-placed)
+pub ruleset read_piece_laws = (piece-empty, name-size, piece-alone, piece-bad, place-fits, piece-unknown, piece-placed, is-known)
+
+pub ruleset gather_laws = (gather-bad, gather-skip, gather-twice, gather-new, gather-end, end_fits, next_fits, next-inside, reach)

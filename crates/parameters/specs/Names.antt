@@ -26,7 +26,7 @@ date_name = 100 ∷ 97 ∷ 116 ∷ 101 ∷ []
 abbrev pub reason_name : List ℕ
 reason_name = 109 ∷ 101 ∷ 115 ∷ []
 
--- their places among the seven; of any other name the place is 7
+-- their places among the seven
 abbrev pub action_place : ℕ
 action_place = 0
 
@@ -48,16 +48,13 @@ date_place = 5
 abbrev pub reason_place : ℕ
 reason_place = 6
 
-abbrev pub no_place : ℕ
-no_place = 7
-
-unfoldable pub name_index : List ℕ → ℕ
+unfoldable pub name_index : List ℕ → Option ℕ
 name_index n =
-    cond (eq_list n action_name) action_place
-    (cond (eq_list n number_name) number_place
-    (cond (eq_list n kind_name) kind_place
-    (cond (eq_list n amount_name) amount_place
-    (cond (eq_list n receipt_name) receipt_place (cond (eq_list n date_name) date_place (cond (eq_list n reason_name) reason_place no_place))))))
+    cond (eq_list n action_name) (Some action_place)
+    (cond (eq_list n number_name) (Some number_place)
+    (cond (eq_list n kind_name) (Some kind_place)
+    (cond (eq_list n amount_name) (Some amount_place)
+    (cond (eq_list n receipt_name) (Some receipt_place) (cond (eq_list n date_name) (Some date_place) (cond (eq_list n reason_name) (Some reason_place) None))))))
 
 -- `check`, `payment`, `status`, `cancel`
 unfoldable pub action_word : Action → List ℕ

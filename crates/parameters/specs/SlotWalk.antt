@@ -1,14 +1,9 @@
--- How the code finds a name's place, and how it holds what is gathered: as the ends of each value in the text. Cited by inner contracts only: it needs no belief.
-use Rattle.std.specs.Prelude.{ℕ, ◌-◌, List, [], ◌∷◌, ◌≡◌, Bool, not, cond, length, get_or, set, take, drop, eqb, ltb}
+-- How the code holds what is gathered: as the ends of each value in the text. Cited by inner contracts only: it needs no belief.
+use Rattle.std.specs.Prelude.{ℕ, ◌-◌, List, [], ◌∷◌, ◌≡◌, Bool, not, cond, length, get_or, set, take, drop, eqb, ◌<◌, ⊤}
 use Rattle.parameters.specs.declared.slots.Piece.{Piece}
+use Rattle.parameters.specs.declared.slots.Piece.TheVariants.{Value, Nothing, Malformed}
 use Rattle.coding.specs.Url.{decoded_within}
-use Rattle.parameters.specs.Names.{receipt_name, date_name, reason_name, receipt_place, date_place, reason_place, no_place}
 use Rattle.parameters.specs.Slots.{Slot, Absent, Holds, Gathered, Broken, Values, add_piece}
-use Rattle.texts.specs.Lists.{eq_list}
-
--- the place of a name behind the first four
-unfoldable pub later_index : List ℕ → ℕ
-later_index n = cond (eq_list n receipt_name) receipt_place (cond (eq_list n date_name) date_place (cond (eq_list n reason_name) reason_place no_place))
 
 -- a value by its places in the text; an end of 0 is an absent name
 unfoldable pub slot_at : List ℕ → ℕ → ℕ → Slot
@@ -32,15 +27,19 @@ is_given t k = not (eqb (end_at t k) 0)
 
 -- a value from `from` to `to` stored under its name's place k
 unfoldable pub placed : List ℕ → List (List ℕ) → ℕ → ℕ → ℕ → Gathered
-placed s t k from to = cond (ltb k 7) (cond (eqb (end_at t k) 0) (Values (slots_in s (set t k (from ∷ to ∷ [])))) Broken) (Values (slots_in s t))
-
--- a piece that gives no value
-abbrev pub nameless : Bool → Piece
-nameless ok = record { ok = ok; place = no_place; from = 0 }
+placed s t k from to = cond (eqb (end_at t k) 0) (Values (slots_in s (set t k (from ∷ to ∷ [])))) Broken
 
 -- a piece that ends at `end`, stored
 unfoldable pub stored : List ℕ → List (List ℕ) → Piece → ℕ → Gathered
-stored s t p end = cond p.ok (placed s t p.place p.from end) Broken
+stored s t (Value k from) end = placed s t k from end
+stored s t Nothing end = Values (slots_in s t)
+stored s t Malformed end = Broken
+
+-- the place of a value is one of the seven
+abbrev pub IsKnown : Piece → Type 0
+IsKnown (Value k from) = k < 7
+IsKnown Nothing = ⊤
+IsKnown Malformed = ⊤
 
 -- stored into any slots, it is what the definition makes of the bytes from `at` to `end`
 abbrev pub Adds : List ℕ → ℕ → ℕ → Piece → Type 0

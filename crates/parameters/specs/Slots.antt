@@ -1,5 +1,5 @@
 -- Document 01, "Requests": the pieces of the parameters, gathered by their names.
-use Rattle.std.specs.Prelude.{ℕ, List, [], ◌∷◌, cond, ◌&&◌, get_or, set, replicate, ltb}
+use Rattle.std.specs.Prelude.{ℕ, List, [], ◌∷◌, cond, ◌&&◌, get_or, set, replicate, Option, Some, None}
 use Rattle.coding.specs.Url.{well_coded}
 use Rattle.coding.specs.Params.{pieces, has_value, name_of, value_of}
 use Rattle.parameters.specs.Names.{name_index}
@@ -19,15 +19,16 @@ abbrev pub place : Slot → List Slot → ℕ → List ℕ → Gathered
 place (Holds w) t k v = Broken
 place Absent t k v = Values (set t k (Holds v))
 
+-- of an unknown name it is ignored
+abbrev pub place_by : Option ℕ → List Slot → List ℕ → Gathered
+place_by None t v = Values t
+place_by (Some k) t v = place (get_or t k Absent) t k v
+
 -- one piece: an empty one is skipped, one without = or with a bad escape in its value is row 31, an unknown name is ignored
 unfoldable pub add_piece : List Slot → List ℕ → Gathered
 add_piece t [] = Values t
 add_piece t (b ∷ p) =
-    cond (has_value (b ∷ p) && well_coded (value_of (b ∷ p)))
-    (cond (ltb (name_index (name_of (b ∷ p))) 7)
-    (place (get_or t (name_index (name_of (b ∷ p))) Absent) t (name_index (name_of (b ∷ p))) (value_of (b ∷ p)))
-    (Values t))
-    Broken
+    cond (has_value (b ∷ p) && well_coded (value_of (b ∷ p))) (place_by (name_index (name_of (b ∷ p))) t (value_of (b ∷ p))) Broken
 
 abbrev pub follow : Gathered → (List Slot → Gathered) → Gathered
 follow Broken f = Broken
