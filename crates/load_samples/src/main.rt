@@ -3,9 +3,8 @@
 mod load_vectors;
 
 use generator::next_value;
-use line_fields::lines;
 use texts::scan;
-use vectors::{escape, given, input, line};
+use vectors::{escape, given, input, walk};
 
 // How many values are printed.
 const VALUES: usize = 10;
@@ -13,12 +12,10 @@ const VALUES: usize = 10;
 // The first ten values after a start.
 fn values(start: u64) {
     let mut v = start;
-    let mut i: usize = 0;
-    while i < VALUES {
+    for _ in 0..VALUES {
         v = next_value(v);
         io::print_decimal(1, v);
         io::write_all(1, b" ");
-        i += 1;
     }
 }
 
@@ -31,36 +28,13 @@ fn product(s: &[u8]) {
 
 // Runs a word on its text.
 fn answer(word: &[u8], text: &[u8]) {
-    let k = line::place(word, b"values product load");
-    match k {
-        0 => values(given::value(text)),
-        1 => product(text),
-        2 => load_vectors::load(text),
+    match word {
+        b"values" => values(given::value(text)),
+        b"product" => product(text),
+        b"load" => load_vectors::load(text),
         _ => {
             io::write_all(1, b"no such word");
         }
-    }
-}
-
-// Prints a line and its answer; the decoded text goes into `space`.
-fn answer_line(line: &[u8], space: &mut [u8]) {
-    io::write_all(1, line);
-    if line::is_heading(line) {
-        return;
-    }
-    io::write_all(1, b": ");
-    let n = escape::unescape(scan::after_byte(line, b' '), space);
-    answer(scan::before_byte(line, b' '), scan::first_bytes(space, n));
-}
-
-// Answers each line of s; a last line without its end is a line too.
-fn answer_lines(s: &[u8], space: &mut [u8]) {
-    let mut at: usize = 0;
-    while at < s.len() {
-        let next = lines::next_line(s, at);
-        answer_line(lines::line_at(s, at), space);
-        io::write_all(1, b"\n");
-        at = next;
     }
 }
 
@@ -68,5 +42,8 @@ fn main() {
     let mut buffer = io::large_buffer();
     let mut space = io::large_buffer();
     let n = input::read_all(&mut buffer);
-    answer_lines(&buffer[..n], &mut space);
+    walk::answer_lines(&buffer[..n], |line| {
+        let n = escape::unescape(scan::after_byte(line, b' '), &mut space);
+        answer(scan::before_byte(line, b' '), scan::first_bytes(&space, n));
+    });
 }
