@@ -1,14 +1,13 @@
 -- Laws of the parameters and of a text split at a separator.
-use Prim.Native.Nat.{ℕ, suc, ◌+◌, ◌-◌, ◌≤◌, ◌<◌}
-use native.Mathlib.Nat.{le_refl, not-suc-le-zero, le_of_suc-le-suc}
-use native.Mathlib.Numerals.{add-one}
+use Prim.Native.Nat.{ℕ, suc, ◌≤◌, ◌<◌}
+use native.Mathlib.Nat.{not-suc-le-zero, le_of_suc-le-suc}
 use native.Mathlib.Omega.{arith}
 use mathlib.Core.Path.{◌≡◌, refl, ap, ◌∙◌}
 use mathlib.Core.List.{List, [], ◌∷◌, ◌++◌}
 use mathlib.Core.Bool.{Bool, true, false, cond}
 use lib.Dec.{eqb}
-use lib.ListN.{length, take, drop, length-drop, length-append, drop_of_length-le}
-use lib.Seq.{take_all, take-append_seam}
+use lib.ListN.{length, take, drop, length-append}
+use lib.Seq.{take-append_seam}
 use Rattle.coding.specs.declared.params.Method.{Method}
 use Rattle.coding.specs.declared.params.Method.TheVariants.{Get, Post}
 use Rattle.texts.specs.Lists.{find}
@@ -21,14 +20,9 @@ module _ (m : Method) (t b : List ℕ) where
   unfolding param_part
   part_post e = rw e
 
-  module _ (e : m ≡ Get) (q : ℕ) (eq : q ≡ find 63 t) where
-    pub part-get : q < length t → take (length t - (q + 1)) (drop (q + 1) t) ≡ param_part m t b
-    unfolding param_part
-    part-get h = take_all (length t - (q + 1)) (drop (q + 1) t) (rw length-drop (le_refl _)) ∙ rw (e, ← eq, add-one)
-
-    pub part_none : length t ≤ q → [] ≡ param_part m t b
-    unfolding param_part
-    part_none h = let k : length t ≤ suc q = omega arith in rw (e, ← eq, drop_of_length-le t k)
+  pub part-get : m ≡ Get → (r : List ℕ) → r ≡ drop (suc (find 63 t)) t → r ≡ param_part m t b
+  unfolding param_part
+  part-get e r q = rw e q
 
 -- ---- a text split at a separator
 module _ (c : ℕ) where

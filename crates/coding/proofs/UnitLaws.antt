@@ -3,18 +3,19 @@ use Prim.Native.Nat.{ℕ, suc, ◌+◌, ◌-◌, ◌*◌, ◌^◌, ◌≤◌, �
 use native.Mathlib.Omega.{arith}
 use mathlib.Core.Path.{◌≡◌, refl, sym, ap, ◌∙◌}
 use mathlib.Core.List.{List, [], ◌∷◌}
-use mathlib.Core.Bool.{Bool, true, false, cond, not, ◌&&◌, and-true, and_assoc}
+use mathlib.Core.Bool.{Bool, true, false, cond, not, ◌&&◌, ◌||◌, and-true, and_assoc}
 use lib.Dec.{eqb, leb}
 use lib.ListN.{length, get_or, take, drop, set, length-append, length-drop, drop_of_length-le}
 use lib.Seq.{drop-drop, take-append_seam}
 use borrow.Author.Tests.{le-leb, lt-leb, eq-eqb, ne_eqb, leb-true, not-true, not-false}
 use mir.Syntax.{w64}
 use mir.Val.{Fits}
+use Rattle.std.specs.List.{list_any}
 use Rattle.texts.specs.Digits.{within}
-use Rattle.texts.specs.Lists.{find, over}
+use Rattle.texts.specs.Lists.{over}
 use Rattle.texts.proofs.ListLaws.{drop-next}
 use Rattle.texts.proofs.OutLaws.{over-step, over_none}
-use Rattle.texts.proofs.Tests.{cond-elim}
+use Rattle.texts.proofs.Tests.{cond-elim, no-claim}
 use Rattle.texts.proofs.DigitLaws.{within-high}
 use Rattle.coding.specs.declared.url.Unit.{Unit}
 use Rattle.coding.specs.Url.{is_hex, hex_value, well_coded, decoded, decoded_into, decoded_count, decoded_within}
@@ -98,8 +99,8 @@ unit-last b (x ∷ []) h = refl
 unit-last b (x ∷ (y ∷ t)) h = absurd (omega arith)
 
 module _ (s : List ℕ) (i : ℕ) (h : i < length s) where
-  pub unit-plain : (get_or s i 0 ≡ 37 → ⊥) → record { byte = get_or s i 0; len = 1; good = true } ≡ unit_of (drop i s)
-  unit-plain n = sym (rw (drop-next s i h) (unit-other (get_or s i 0) (drop (i + 1) s) n ∙ rw (ne_eqb _ _ n)))
+  pub unit_plain : (get_or s i 0 ≡ 37 → ⊥) → unit_of (drop i s) ≡ record { byte = get_or s i 0; len = 1; good = true }
+  unit_plain n = rw (drop-next s i h) (unit-other (get_or s i 0) (drop (i + 1) s) n ∙ rw (ne_eqb _ _ n))
 
   module _ (e : get_or s i 0 ≡ 37) where
     pub unit-short : length s - i < 3 → record { byte = get_or s i 0; len = 1; good = false } ≡ unit_of (drop i s)
@@ -184,25 +185,28 @@ unfolding decoded_within
 within-short room s r h q = q ∙ simp (lt-leb _ _ h)
 
 -- a text without % stands for itself
-decoded-plain : (s : List ℕ) → length s ≤ find 37 s → decoded s ≡ s
-unfolding decoded find
+decoded-plain : (s : List ℕ) → list_any (λ y. eqb y 37) s ≡ false → decoded s ≡ s
+unfolding decoded
 decoded-plain [] h = refl
 decoded-plain (b ∷ []) h = refl
 decoded-plain (b ∷ (x ∷ [])) h = refl
-decoded-plain (b ∷ (x ∷ (y ∷ s))) h = go (decoded-plain (x ∷ (y ∷ s))) (eqb b 37) refl
+decoded-plain (b ∷ (x ∷ (y ∷ s))) h = go (eqb b 37) (decoded-plain (x ∷ (y ∷ s))) h
   where
-    go : (length (x ∷ (y ∷ s)) ≤ find 37 (x ∷ (y ∷ s)) → decoded (x ∷ (y ∷ s)) ≡ x ∷ (y ∷ s))
-        → (c : Bool) → eqb b 37 ≡ c → cond c ((hex_value x * 16 + hex_value y) ∷ decoded s) (b ∷ decoded (x ∷ (y ∷ s))) ≡ b ∷ (x ∷ (y ∷ s))
-    go rest true c = absurd (omega (arith, rw c at h))
-    go rest false c = ap (λ (u : List ℕ). b ∷ u) (rest (omega (arith, rw c at h)))
+    rest : Bool
+    rest = list_any (λ y. eqb y 37) (x ∷ (y ∷ s))
+
+    go : (c : Bool) → (rest ≡ false → decoded (x ∷ (y ∷ s)) ≡ x ∷ (y ∷ s)) → c || rest ≡ false
+        → cond c ((hex_value x * 16 + hex_value y) ∷ decoded s) (b ∷ decoded (x ∷ (y ∷ s))) ≡ b ∷ (x ∷ (y ∷ s))
+    go true ih e = no-claim (sym e)
+    go false ih e = ap (b ∷◌) (ih e)
 
 pub within-room : (d s : List ℕ) → length s ≤ length d → (n : ℕ) → n ≡ decoded_count d s → (b : List ℕ) → b ≡ decoded_into d s → (r : List ℕ) → r ≡ take n b → r ≡ decoded_within (length d) s
 unfolding decoded_within decoded_count decoded_into
 within-room d s l n en b eb r q = q ∙ rw (en, eb, le-leb _ _ l) (take-append_seam (decoded s) (drop (0 + length (decoded s)) d))
 
-pub within-plain : (room : ℕ) (s r : List ℕ) → length s ≤ room → (q : ℕ) → q ≡ find 37 s → length s ≤ q → r ≡ s → r ≡ decoded_within room s
+pub within-plain : (room : ℕ) (s r : List ℕ) → length s ≤ room → (t : Bool) → t ≡ list_any (λ y. eqb y 37) s → t ≡ false → r ≡ s → r ≡ decoded_within room s
 unfolding decoded_within
-within-plain room s r l q found h e = e ∙ rw (le-leb _ _ l) (sym (decoded-plain s (rw (← found) h)))
+within-plain room s r l t any h e = e ∙ rw (le-leb _ _ l) (sym (decoded-plain s (sym any ∙ h)))
 
 -- ---- what a caller reads: the bytes that came stand at the buffer's start
 pub decoded-length : (s : List ℕ) → length (decoded s) ≤ length s

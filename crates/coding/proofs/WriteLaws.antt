@@ -3,10 +3,10 @@ use Prim.Native.Nat.{ℕ, ◌+◌, ◌-◌, ◌/◌, ◌%◌, ◌≤◌, ◌<◌
 use native.Mathlib.Omega.{arith}
 use mathlib.Core.Path.{◌≡◌, refl, sym, ◌∙◌}
 use mathlib.Core.List.{List, [], ◌∷◌, ◌++◌}
-use mathlib.Core.Bool.{Bool, true, false, cond, not}
+use mathlib.Core.Bool.{Bool, true, false, cond}
 use lib.Dec.{leb}
 use lib.ListN.{length, get_or, drop, length-append, drop_of_length-le}
-use borrow.Author.Tests.{le-leb, lt-leb, lt-ltb, le-ltb, leb-true, leb-false, not-true, not-false}
+use borrow.Author.Tests.{le-leb, lt-leb, lt-ltb, le-ltb, leb-true, leb-false}
 use Rattle.texts.specs.Lists.{written, cursor_after}
 use Rattle.texts.proofs.ListLaws.{drop-next}
 use Rattle.texts.proofs.OutLaws.{over_none, no_room, no-room-kept, cursor-moves, written_over, written-length, cursor-then, written_then}
@@ -82,17 +82,17 @@ room-done s i most left l e = sym (e ∙ rw (drop_of_length-le s l) (le-leb 0 le
 -- ---- coded text, byte by byte
 module _ (d₀ s : List ℕ) (at : ℕ) where
   module _ (low : at ≤ length d₀) (t : Bool) (test : t ≡ leb (length (coded s)) (length d₀ - at)) where
-    short : not t ≡ true → length d₀ - at < length (coded s)
-    short e = leb-false (length (coded s)) (length d₀ - at) (sym test ∙ not-true t e)
+    short : t ≡ false → length d₀ - at < length (coded s)
+    short e = leb-false (length (coded s)) (length d₀ - at) (sym test ∙ e)
 
-    pub coded-stays : not t ≡ true → at ≡ cursor_after d₀ at (coded s)
+    pub coded-stays : t ≡ false → at ≡ cursor_after d₀ at (coded s)
     coded-stays e = no_room d₀ (coded s) at low (short e)
 
-    pub coded_kept : not t ≡ true → (x : List ℕ) → x ≡ d₀ → x ≡ written d₀ at (coded s)
+    pub coded_kept : t ≡ false → (x : List ℕ) → x ≡ d₀ → x ≡ written d₀ at (coded s)
     coded_kept e x q = no-room-kept d₀ (coded s) at x q low (short e)
 
-    pub coded-fits : not t ≡ false → at + length (coded s) ≤ length d₀
-    coded-fits e = omega (arith, leb-true (length (coded s)) (length d₀ - at) (sym test ∙ not-false t e))
+    pub coded-fits : t ≡ true → at + length (coded s) ≤ length d₀
+    coded-fits e = omega (arith, leb-true (length (coded s)) (length d₀ - at) (sym test ∙ e))
 
   module _ (d : List ℕ) (p i : ℕ) where
     module _ (h : i < length s) (fit : p + length (coded (drop i s)) ≤ length d) where

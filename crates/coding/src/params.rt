@@ -16,14 +16,7 @@ pub fn parameters<'a>(method: Method, target: &'a [u8], body: &'a [u8]) -> &'a [
     ensures { result.now ≡ param_part method target.now body.now }
 {
     match method {
-        Method::Get => {
-            let q = scan::find_byte(target, b'?');
-            if q < target.len() {
-                &target[q + 1..]
-            } else {
-                &target[..0]
-            }
-        }
+        Method::Get => scan::after_byte(target, b'?'),
         Method::Post => body,
     }
 }

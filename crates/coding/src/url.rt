@@ -6,7 +6,7 @@ ghost use Rattle.coding.specs.Units.{unit_of, code_size};
 
 use texts::{out, scan};
 
-// What stands at a place of coded text: the byte, how many bytes code it, and whether they may.
+// What stands at a place of coded text: the byte, how many bytes code it, and whether they may. No Option: decoding takes the byte of a lone `%` too.
 #[derive(Clone, Copy)]
 pub(crate) struct Unit {
     pub byte: u8,
@@ -15,37 +15,28 @@ pub(crate) struct Unit {
 }
 
 // Whether a byte is a hexadecimal digit.
+#[tactic(auto, unfolding(crate::specs::Url::is_hex))]
 pub fn is_hex(b: u8) -> bool
     ensures { result ≡ is_hex b }
 {
-    match b {
-        b'0'..=b'9' => true,
-        b'A'..=b'F' => true,
-        b'a'..=b'f' => true,
-        _ => false,
-    }
+    b.is_ascii_hexdigit()
 }
 
 // The value of a hexadecimal digit, 0 of any other byte.
+#[tactic(auto, unfolding(crate::specs::Url::hex_value))]
 pub fn hex_value(b: u8) -> u8
     ensures { result ≡ hex_value b }
 {
     match b {
         b'0'..=b'9' => b - b'0',
-        b'A'..=b'F' => b - 55,
-        b'a'..=b'f' => b - 87,
+        b'A'..=b'F' => b - b'A' + 10,
+        b'a'..=b'f' => b - b'a' + 10,
         _ => 0,
     }
 }
 
-// Whether both bytes are hexadecimal digits.
-pub(crate) fn are_hex(h: u8, l: u8) -> bool
-    ensures { result ≡ is_hex h && is_hex l }
-{
-    if is_hex(h) { is_hex(l) } else { false }
-}
-
 // The unit at a place of coded text: a `%` with two bytes behind it takes these too.
+#[tactic(auto, using(crate::proofs::UnitLaws::unit_plain))]
 pub(crate) fn unit_at(s: &[u8], i: usize) -> Unit
     requires { i < length s.now }
     ensures { result ≡ unit_of (drop i s.now) }
@@ -70,7 +61,7 @@ pub(crate) fn unit_at(s: &[u8], i: usize) -> Unit
     Unit {
         byte: hex_value(h) * 16 + hex_value(l),
         len: 3,
-        good: are_hex(h, l),
+        good: is_hex(h) && is_hex(l),
     }
 }
 
@@ -114,7 +105,7 @@ pub fn decoded<'a>(s: &'a [u8], room: &'a mut [u8]) -> &'a [u8]
     if room.len() < s.len() {
         return &s[..0];
     }
-    if s.len() <= scan::find_byte(s, b'%') {
+    if !s.contains(&b'%') {
         return s;
     }
     let n = decode(s, room);
@@ -122,16 +113,11 @@ pub fn decoded<'a>(s: &'a [u8], room: &'a mut [u8]) -> &'a [u8]
 }
 
 // Whether a byte stands for itself in coded text.
+#[tactic(auto, unfolding(crate::specs::Url::is_plain))]
 fn is_plain(b: u8) -> bool
     ensures { result ≡ is_plain b }
 {
-    match b {
-        b'A'..=b'Z' => true,
-        b'a'..=b'z' => true,
-        b'0'..=b':' => true,
-        b'-'..=b'.' => true,
-        _ => false,
-    }
+    b.is_ascii_alphanumeric() || matches!(b, b'-' | b'.' | b':')
 }
 
 // The capital hexadecimal digit of a value below 16.
@@ -139,7 +125,7 @@ pub(crate) fn hex_digit(v: u8) -> u8
     requires { v < 16 }
     ensures { result ≡ hex_digit v }
 {
-    if v < 10 { 48 + v } else { 55 + v }
+    if v < 10 { b'0' + v } else { b'A' + v - 10 }
 }
 
 // How many bytes code a byte.
@@ -154,14 +140,12 @@ pub(crate) fn has_room(src: &[u8], room: usize) -> bool
     ensures { result ≡ leb (length (coded src.now)) room }
 {
     let mut left = room;
-    let mut i: usize = 0;
-    while i < src.len() {
-        let n = code_size(src[i]);
+    for b in src {
+        let n = code_size(*b);
         if left < n {
             return false;
         }
         left -= n;
-        i += 1;
     }
     true
 }
@@ -171,26 +155,22 @@ pub(crate) fn write_byte(b: u8, dst: &mut [u8], at: usize) -> usize
     ensures { (result ≡ cursor_after dst.old at (coded_byte b)) × (dst.new ≡ written dst.old at (coded_byte b)) }
 {
     if is_plain(b) {
-        return out::put_bytes(&[b], dst, at);
+        out::put_bytes(&[b], dst, at)
+    } else {
+        out::put_bytes(&[b'%', hex_digit(b / 16), hex_digit(b % 16)], dst, at)
     }
-    out::put_bytes(&[b'%', hex_digit(b / 16), hex_digit(b % 16)], dst, at)
 }
 
 // Writes bytes url-coded at the cursor, where they have room.
 pub fn write_coded(src: &[u8], dst: &mut [u8], at: usize) -> usize
     ensures { (result ≡ cursor_after dst.old at (coded src.now)) × (dst.new ≡ written dst.old at (coded src.now)) }
 {
-    if dst.len() < at {
-        return at;
-    }
-    if !has_room(src, dst.len() - at) {
+    if dst.len() < at || !has_room(src, dst.len() - at) {
         return at;
     }
     let mut p = at;
-    let mut i: usize = 0;
-    while i < src.len() {
-        p = write_byte(src[i], dst, p);
-        i += 1;
+    for b in src {
+        p = write_byte(*b, dst, p);
     }
     p
 }
