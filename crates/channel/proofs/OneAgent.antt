@@ -11,7 +11,7 @@ use Rattle.texts.proofs.Tests.{no-claim}
 use Rattle.payments.specs.declared.Action.{Action}
 use Rattle.payments.specs.declared.Action.TheVariants.{Payment}
 use Rattle.message.specs.declared.request.Asked.{Asked}
-use Rattle.message.specs.Request.{request_read}
+use Rattle.message.specs.Request.{request_read, asked_of}
 use Rattle.message.proofs.RequestRange.{AskedGood, read-good}
 use Rattle.lists.specs.Lists.{tab, first_from}
 use Rattle.lists.proofs.EachLaws.{each-elem, elem-map}
@@ -51,7 +51,7 @@ module _ (w₀ w : World) (r : Reached w₀ w) (n : ℕ) (a : Action) (receipt :
   fair = each-elem Fair w.sent n (sent_request a receipt text) r.rep.fair e
 
   abbrev q : Asked
-  q = (request_read text).asked
+  q = (asked_of (request_read text))
 
   -- what the model promises of the request
   promised : Ok (world_of w) (M.request (ask_of q))

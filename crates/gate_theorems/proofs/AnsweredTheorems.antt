@@ -16,7 +16,7 @@ use Rattle.texts.proofs.OutLaws.{cursor-moves, text-back}
 use Rattle.payments.specs.declared.Action.{Action}
 use Rattle.payments.specs.declared.Action.TheVariants.{Check, Payment, Status, Cancel}
 use Rattle.payments.specs.declared.Instruction.{Instruction}
-use Rattle.message.specs.Request.{request_read}
+use Rattle.message.specs.Request.{request_read, asked_of, fault_number}
 use Rattle.payments.specs.declared.Answer.{Answer}
 use Rattle.answers.specs.Answer.{answer_bytes}
 use Rattle.answer_reader.specs.AnswerRead.{answer_read}
@@ -52,22 +52,22 @@ unfolding one_of
 decision-never = decision-by (λ (c : ℕ). one_of (8 ∷ 50 ∷ 51 ∷ 68 ∷ []) c ≡ false) refl refl refl refl refl refl refl refl refl refl refl refl
 
 -- a request has no fault, or one of seven
-pub fault-codes : (params : List ℕ) → one_of (0 ∷ 1 ∷ 2 ∷ 3 ∷ 4 ∷ 5 ∷ 31 ∷ 32 ∷ []) (request_read params).fault ≡ true
+pub fault-codes : (params : List ℕ) → one_of (0 ∷ 1 ∷ 2 ∷ 3 ∷ 4 ∷ 5 ∷ 31 ∷ 32 ∷ []) (fault_number (request_read params)) ≡ true
 unfolding one_of
 fault-codes = fault-by (λ (c : ℕ). one_of (0 ∷ 1 ∷ 2 ∷ 3 ∷ 4 ∷ 5 ∷ 31 ∷ 32 ∷ []) c ≡ true) refl refl refl refl refl refl refl refl
 
 -- so its answer has the number that was found at fault
-pub fault-kept : (params : List ℕ) → ((request_read params).fault ≡ 0 → ⊥) → fault_code (request_read params).fault ≡ (request_read params).fault
+pub fault-kept : (params : List ℕ) → ((fault_number (request_read params)) ≡ 0 → ⊥) → fault_code (fault_number (request_read params)) ≡ (fault_number (request_read params))
 unfolding fault_code is_fault
 fault-kept = fault-by (λ (c : ℕ). (c ≡ 0 → ⊥) → fault_code c ≡ c) (λ n. absurd (n refl)) (λ _. refl) (λ _. refl) (λ _. refl) (λ _. refl) (λ _. refl) (λ _. refl) (λ _. refl)
 
 -- ---- a delivery
 abbrev pub asks : List ℕ → Action
-asks params = (request_read params).asked.action
+asks params = (asked_of (request_read params)).action
 
 module _ (g : Gate) (t : Rows) (clock params : List ℕ) where
   abbrev plan : Plan
-  plan = plan_of g (records_of t g.used) (length t.nums) (request_read params).fault (instruction_in params)
+  plan = plan_of g (records_of t g.used) (length t.nums) (fault_number (request_read params)) (instruction_in params)
 
   abbrev after : Changed
   after = changed plan.decided.change g (records_of t g.used) clock (instruction_in params) plan
@@ -84,7 +84,7 @@ module _ (g : Gate) (t : Rows) (clock params : List ℕ) where
       fault (asks params) s v (known-found g t good q f refl))
     where
       fault : ℕ
-      fault = (request_read params).fault
+      fault = (fault_number (request_read params))
 
       q : Instruction
       q = instruction_in params
@@ -190,7 +190,7 @@ module _ (g : Gate) (t : Rows) (clock params out : List ℕ) where
   never-eight e = no-claim (ap (λ (c : ℕ). one_of answer_codes c || is_silent c) (sym e) ∙ codes-of)
 
   -- ---- the call's own codes, each exactly where its test fails first
-  answered-code : (n : ℕ) → one_of answer_codes n ≡ false → table_good g t ≡ true → is_written clock ≡ true → eqb (respond g t clock (request_read params).fault (instruction_in params) out).code n ≡ false
+  answered-code : (n : ℕ) → one_of answer_codes n ≡ false → table_good g t ≡ true → is_written clock ≡ true → eqb (respond g t clock (fault_number (request_read params)) (instruction_in params) out).code n ≡ false
   unfolding respond
   answered-code n h good dated =
       not_in (plan g t clock params).decided.code n (plan-told g t clock params good dated).listed h
@@ -201,7 +201,7 @@ module _ (g : Gate) (t : Rows) (clock params out : List ℕ) where
   own_code n h = go (table_good g t) (leb 512 (length out)) (is_written clock) refl refl
     where
       go : (a b c : Bool) → table_good g t ≡ a → is_written clock ≡ c
-          → eqb (cond a (cond b (cond c (respond g t clock (request_read params).fault (instruction_in params) out) (undelivered 51 g t out)) (undelivered 50 g t out)) (undelivered 68 g t out)).code n
+          → eqb (cond a (cond b (cond c (respond g t clock (fault_number (request_read params)) (instruction_in params) out) (undelivered 51 g t out)) (undelivered 50 g t out)) (undelivered 68 g t out)).code n
           ≡ cond a (cond b (cond c false (eqb 51 n)) (eqb 50 n)) (eqb 68 n)
       go false b c ea ec = refl
       go true false c ea ec = refl
@@ -252,7 +252,7 @@ unsettled-same Cancel c r r' clock h z s = rw h
 
 module _ (g : Gate) (t : Rows) (ready : Ready g t) (clock params out : List ℕ) (good : table_good g t ≡ true) (room : 512 ≤ length out) (dated : is_written clock ≡ true) where
   abbrev fault : ℕ
-  fault = (request_read params).fault
+  fault = (fault_number (request_read params))
 
   abbrev refusal : Answer
   refusal = answer_of (asks params) fault no_record clock
@@ -268,7 +268,7 @@ module _ (g : Gate) (t : Rows) (ready : Ready g t) (clock params out : List ℕ)
       seven = fault-by (λ (c : ℕ). eqb c 7 ≡ false) refl refl refl refl refl refl refl refl params
 
       r : Record
-      r = record_found (records_of t g.used) (find_record (request_read params).asked.receipt (records_of t g.used))
+      r = record_found (records_of t g.used) (find_record (asked_of (request_read params)).receipt (records_of t g.used))
 
       same : answer_of (asks params) fault r clock ≡ refusal
       same = unsettled-same (asks params) fault r no_record clock (rw (ne_eqb fault 0 n, seven) refl) (ne_eqb fault 0 n) seven

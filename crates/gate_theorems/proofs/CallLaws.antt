@@ -30,7 +30,7 @@ use Rattle.table.proofs.AccountLaws.{holder-within}
 use Rattle.ledger.specs.declared.Reply.{Reply}
 use Rattle.payments.specs.declared.Action.TheVariants.{Payment}
 use Rattle.payments.specs.declared.Instruction.{Instruction}
-use Rattle.message.specs.Request.{request_read}
+use Rattle.message.specs.Request.{request_read, fault_number}
 use Rattle.planning.specs.Plan.{is_short}
 use Rattle.ledger.specs.Change.{debited_at}
 use Rattle.gate.specs.Deliver.{instruction_in, respond, deliver}
@@ -257,7 +257,7 @@ module _ (g : Gate) (t : Rows) (ready : Ready g t) (good : table_good g t ≡ tr
     delivered-near : Near (deliver g t clock params out).gate
     delivered-near =
         delivered-by g t clock params out (λ (d : Delivery). Near d.gate) (λ code left size. bound)
-        (λ _ _. outcome-near clock (instruction_in params) (respond g t clock (request_read params).fault (instruction_in params) out) (outcome g t clock (request_read params).fault (instruction_in params) out) room)
+        (λ _ _. outcome-near clock (instruction_in params) (respond g t clock (fault_number (request_read params)) (instruction_in params) out) (outcome g t clock (fault_number (request_read params)) (instruction_in params) out) room)
 
     -- 5: a delivery keeps row 68 where its account has room for a payment
     pub call-good : table_good (deliver g t clock params out).gate (deliver g t clock params out).rows ≡ true

@@ -19,7 +19,7 @@ use Rattle.payments.specs.declared.Action.TheVariants.{Check, Payment, Status, C
 use Rattle.message.specs.declared.request.RequestRead.{RequestRead}
 use Rattle.parameters.specs.Names.{action_of}
 use Rattle.parameters.specs.Slots.{Slot, Absent, Gathered, Broken, Values, gathered}
-use Rattle.message.specs.Request.{held, receipt_field, number_field, kind_field, amount_field, date_field, reason_field, refused, first_fault, field_fault, fields_read, action_read, values_read, request_read}
+use Rattle.message.specs.Request.{held, receipt_field, number_field, kind_field, amount_field, date_field, reason_field, refused, first_fault, field_fault, fields_read, action_read, values_read, request_read, fault_number}
 use Rattle.payments.specs.declared.Answer.{Answer}
 use Rattle.payments.specs.declared.Instruction.{Instruction}
 use Rattle.answers.specs.Answer.{answer_bytes}
@@ -156,7 +156,7 @@ module _ (P : ℕ → Type 0) (none : P 0) (one : P 1) (two : P 2) (three : P 3)
       go None = one
       go (Some a) = cond-elim (λ (r : RequestRead). P r.fault) (eqb (field_fault a t) 0) _ _ (λ _. none) (λ _. field-fault a t)
 
-  pub fault-by : (params : List ℕ) → P (request_read params).fault
+  pub fault-by : (params : List ℕ) → P (fault_number (request_read params))
   unfolding request_read refused
   fault-by params = cond-elim (λ (r : RequestRead). P r.fault) (leb (length params) 2048) _ _ (λ _. values-fault (gathered params)) (λ _. most)
 

@@ -19,7 +19,7 @@ use Rattle.dates.specs.Date.{is_written}
 use Rattle.fields.specs.Number.{is_number}
 use Rattle.payments.specs.declared.Action.TheVariants.{Payment, Cancel}
 use Rattle.payments.specs.declared.Instruction.{Instruction}
-use Rattle.message.specs.Request.{request_read}
+use Rattle.message.specs.Request.{request_read, asked_of, fault_number}
 use Rattle.lists.proofs.ListLaws.{search-within, found_at}
 use Rattle.table.specs.declared.Account.{Account}
 use Rattle.table.specs.declared.Gate.{Gate}
@@ -150,7 +150,7 @@ module _ (g : Gate) (t : Rows) (clock : List ℕ) (q : Instruction) (out : List 
         })
 
 -- ---- a delivery that passes the call's tests
-module _ (g : Gate) (t : Rows) (clock params out : List ℕ) (good : table_good g t ≡ true) (size : 512 ≤ length out) (dated : is_written clock ≡ true) (none : (request_read params).fault ≡ 0) where
+module _ (g : Gate) (t : Rows) (clock params out : List ℕ) (good : table_good g t ≡ true) (size : 512 ≤ length out) (dated : is_written clock ≡ true) (none : (fault_number (request_read params)) ≡ 0) where
   abbrev pub asked : Instruction
   asked = instruction_in params
 
@@ -212,7 +212,7 @@ module _ (g : Gate) (t : Rows) (clock : List ℕ) (q : Instruction) (d : Deliver
 pub deliver-moves : (g : Gate) (t : Rows) (clock params out : List ℕ) → Moves g t clock (instruction_in params) (deliver g t clock params out)
 deliver-moves g t clock params out =
     delivered-by g t clock params out (Moves g t clock (instruction_in params)) (λ code left size. none_moves refl (λ j. refl))
-    (λ good _. outcome-moves g t clock (instruction_in params) (respond g t clock (request_read params).fault (instruction_in params) out) good (outcome g t clock (request_read params).fault (instruction_in params) out))
+    (λ good _. outcome-moves g t clock (instruction_in params) (respond g t clock (fault_number (request_read params)) (instruction_in params) out) good (outcome g t clock (fault_number (request_read params)) (instruction_in params) out))
 
 -- ---- the same as one equation
 -- an amount, where it goes to account j
@@ -291,5 +291,5 @@ module _ (g : Gate) (t : Rows) (clock : List ℕ) (q : Instruction) (d : Deliver
 pub deliver-balance : (g : Gate) (t : Rows) (clock params out : List ℕ) (j : ℕ)
     → balance_at (deliver g t clock params out).gate j
     ≡ (balance_at g j +ℤ pos (raised g (instruction_in params) (deliver g t clock params out) j))
-    -ℤ pos (lowered g t (deliver g t clock params out) (find_record (request_read params).asked.receipt (records_of t g.used)) j)
+    -ℤ pos (lowered g t (deliver g t clock params out) (find_record (asked_of (request_read params)).receipt (records_of t g.used)) j)
 deliver-balance g t clock params out j = moves-balance g t clock (instruction_in params) (deliver g t clock params out) j (deliver-moves g t clock params out)

@@ -16,7 +16,7 @@ use Rattle.fields.specs.Number.{is_number}
 use Rattle.dates.specs.Date.{is_written}
 use Rattle.texts.proofs.Tests.{cond-elim, no-claim}
 use Rattle.payments.specs.declared.Instruction.{Instruction}
-use Rattle.message.specs.Request.{request_read}
+use Rattle.message.specs.Request.{request_read, fault_number}
 use Rattle.table.specs.declared.Gate.{Gate}
 use Rattle.lists.specs.Lists.{is_found}
 use Rattle.table.specs.Table.{Rows}
@@ -50,7 +50,7 @@ module _ (g : Gate) (t : Rows) (clock params out : List ℕ) where
   pub refused-keeps : table_good g t && (leb 512 (length out) && is_written clock) ≡ false
       → ((deliver g t clock params out).gate ≡ g) × ((deliver g t clock params out).rows ≡ t) × ((deliver g t clock params out).out ≡ out)
   unfolding deliver
-  refused-keeps = go (table_good g t) (leb 512 (length out)) (is_written clock) (respond g t clock (request_read params).fault (instruction_in params) out)
+  refused-keeps = go (table_good g t) (leb 512 (length out)) (is_written clock) (respond g t clock (fault_number (request_read params)) (instruction_in params) out)
     where
       go : (a b c : Bool) (x : Delivery) → a && (b && c) ≡ false
           → ((cond a (cond b (cond c x (undelivered 51 g t out)) (undelivered 50 g t out)) (undelivered 68 g t out)).gate ≡ g)
@@ -63,7 +63,7 @@ module _ (g : Gate) (t : Rows) (clock params out : List ℕ) where
 
   -- what holds of every refusal and of every answer holds of a delivery
   pub delivered-by : (P : Delivery → Type 0) → ((code : ℕ) (left : List ℕ) (size : ℕ) → P (record { code = code; gate = g; rows = t; out = left; size = size }))
-      → (table_good g t ≡ true → is_written clock ≡ true → P (respond g t clock (request_read params).fault (instruction_in params) out))
+      → (table_good g t ≡ true → is_written clock ≡ true → P (respond g t clock (fault_number (request_read params)) (instruction_in params) out))
       → P (deliver g t clock params out)
   unfolding deliver
   delivered-by P keep answer =
@@ -96,7 +96,7 @@ module _ (g : Gate) (t : Rows) (ready : Ready g t) (clock : List ℕ) where
   fault-keeps params out =
       delivered-by g t clock params out (λ (d : Delivery). (d.code ≡ 0 → ⊥) → Kept g t d)
       (λ code left size n. record { gate = refl; rows = refl })
-      (λ _ _. respond-keeps (request_read params).fault (instruction_in params) out)
+      (λ _ _. respond-keeps (fault_number (request_read params)) (instruction_in params) out)
 
 -- ---- the same for opening an account and drawing from one
 -- a code other than 0 keeps the gate

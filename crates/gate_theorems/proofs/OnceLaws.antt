@@ -12,7 +12,7 @@ use lib.ListN.{get_or, set}
 use borrow.Author.Tests.{lt-ltb}
 use Rattle.payments.specs.declared.Action.TheVariants.{Payment, Cancel}
 use Rattle.payments.specs.declared.Instruction.{Instruction}
-use Rattle.message.specs.Request.{request_read}
+use Rattle.message.specs.Request.{request_read, asked_of, fault_number}
 use Rattle.table.specs.declared.Account.{Account}
 use Rattle.table.specs.declared.Gate.{Gate}
 use Rattle.table.specs.declared.Record.{Record}
@@ -110,15 +110,15 @@ module _ (g : Gate) (t : Rows) (clock : List ℕ) (fault : ℕ) (q : Instruction
       go d (revokes k r f ea ek er ef es day fu ec eg el) = let y : Payment ≡ Cancel = sym p ∙ ea in let z : ◌≡◌ {A = ℕ} 0 1 = cc in absurd (omega arith)
 
 -- ---- the same for a delivery
-module _ (g : Gate) (t : Rows) (clock params out : List ℕ) (i : ℕ) (known : find_record (request_read params).asked.receipt (records_of t g.used) ≡ Some i) where
+module _ (g : Gate) (t : Rows) (clock params out : List ℕ) (i : ℕ) (known : find_record (asked_of (request_read params)).receipt (records_of t g.used) ≡ Some i) where
   -- a delivery of a recorded receipt adds no record
   pub delivered-once : (deliver g t clock params out).gate.used ≡ g.used
   delivered-once =
       delivered-by g t clock params out (λ (d : Delivery). d.gate.used ≡ g.used) (λ code left size. refl)
-      (λ _ _. once-used g t clock (request_read params).fault (instruction_in params) out i known)
+      (λ _ _. once-used g t clock (fault_number (request_read params)) (instruction_in params) out i known)
 
   -- and raises no balance
   pub delivered-balance : (j : ℕ) → balance_at (deliver g t clock params out).gate j ≤ℤ balance_at g j
   delivered-balance j =
       delivered-by g t clock params out (λ (d : Delivery). balance_at d.gate j ≤ℤ balance_at g j) (λ code left size. ≤ℤ_refl (balance_at g j))
-      (λ _ _. once-balance g t clock (request_read params).fault (instruction_in params) out i known j)
+      (λ _ _. once-balance g t clock (fault_number (request_read params)) (instruction_in params) out i known j)

@@ -9,7 +9,7 @@ use lib.ListN.{length, get_or, set, length-append, length-set, get_or-append}
 use lib.Seq.{get_or_at, get_or-set_same, get_or-set_other}
 use Rattle.texts.proofs.Tests.{no-claim}
 use Rattle.payments.specs.declared.Instruction.{Instruction}
-use Rattle.message.specs.Request.{request_read}
+use Rattle.message.specs.Request.{request_read, fault_number}
 use Rattle.table.specs.declared.Record.{Record}
 use Rattle.table.specs.declared.Gate.{Gate}
 use Rattle.table.specs.Table.{Rows, record_at, records_of, rows_from}
@@ -137,7 +137,7 @@ pub records-last : (g : Gate) (t : Rows) (clock params out : List ℕ) → Lasti
 records-last g t clock params out =
     delivered-by g t clock params out (Lasting g t)
     (λ code left size. record { used = omega arith; identity = λ i z h. same-identity _ _ refl; settled = λ i h e. refl })
-    (λ _ _. respond-lasts g t clock (request_read params).fault (instruction_in params) out)
+    (λ _ _. respond-lasts g t clock (fault_number (request_read params)) (instruction_in params) out)
 
 -- ---- no receipt twice
 -- no two records in use have one receipt
@@ -185,5 +185,5 @@ pub receipts-distinct : (g : Gate) (t : Rows) → Distinct g t → (clock params
 receipts-distinct g t once clock params out =
     delivered-by g t clock params out (λ (d : Delivery). Distinct d.gate d.rows)
     (λ code left size. once)
-    (λ _ _. distinct-outcome g t once (respond g t clock (request_read params).fault (instruction_in params) out) (respond-lasts g t clock (request_read params).fault (instruction_in params) out)
-    clock (instruction_in params) (outcome g t clock (request_read params).fault (instruction_in params) out))
+    (λ _ _. distinct-outcome g t once (respond g t clock (fault_number (request_read params)) (instruction_in params) out) (respond-lasts g t clock (fault_number (request_read params)) (instruction_in params) out)
+    clock (instruction_in params) (outcome g t clock (fault_number (request_read params)) (instruction_in params) out))

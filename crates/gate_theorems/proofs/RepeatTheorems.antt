@@ -15,7 +15,7 @@ use Rattle.payments.specs.declared.Action.TheVariants.{Check, Payment, Status, C
 use Rattle.payments.specs.declared.Answer.{Answer}
 use Rattle.payments.specs.declared.Details.{Details}
 use Rattle.payments.specs.declared.Instruction.{Instruction}
-use Rattle.message.specs.Request.{request_read}
+use Rattle.message.specs.Request.{request_read, asked_of, fault_number}
 use Rattle.answers.specs.Answer.{answer_bytes}
 use Rattle.table.specs.declared.Record.{Record}
 use Rattle.table.specs.declared.Gate.{Gate}
@@ -46,12 +46,12 @@ abbrev pub only : Gate → Rows → List ℕ → Answer → Delivery
 only g t out x = record { code = x.code; gate = g; rows = t; out = written out 0 (answer_bytes x); size = cursor_after out 0 (answer_bytes x) }
 
 module _ (g : Gate) (t : Rows) (ready : Ready g t) (clock params out : List ℕ) (good : table_good g t ≡ true) (room : 512 ≤ length out) (dated : is_written clock ≡ true)
-    (sound : (request_read params).fault ≡ 0) (payment : asks params ≡ Payment) (i : ℕ) (there : find_record (request_read params).asked.receipt (records_of t g.used) ≡ Some i) where
+    (sound : (fault_number (request_read params)) ≡ 0) (payment : asks params ≡ Payment) (i : ℕ) (there : find_record (asked_of (request_read params)).receipt (records_of t g.used) ≡ Some i) where
   abbrev told : Bool
   told = agrees Payment (instruction_in params).details (record_at t i)
 
   within : i < g.used
-  within = receipt-within t g.used (request_read params).asked.receipt i (find_record (request_read params).asked.receipt (records_of t g.used)) refl there
+  within = receipt-within t g.used (asked_of (request_read params)).receipt i (find_record (asked_of (request_read params)).receipt (records_of t g.used)) refl there
 
   -- the same number, type, amount and date
   pub repeat-answered : told ≡ true → deliver g t clock params out ≡ only g t out (repeat_answer (record_at t i))

@@ -20,7 +20,7 @@ use Rattle.payments.specs.declared.Details.{Details}
 use Rattle.payments.specs.declared.Instruction.{Instruction}
 use Rattle.payments.specs.declared.Action.TheVariants.{Payment}
 use Rattle.parameters.specs.Names.{has_account, has_receipt, has_date}
-use Rattle.message.specs.Request.{request_read}
+use Rattle.message.specs.Request.{request_read, fault_number}
 use Rattle.message.proofs.RequestRange.{read-good}
 use Rattle.table.specs.declared.Account.{Account}
 use Rattle.table.specs.declared.Gate.{Gate}
@@ -232,7 +232,7 @@ module _ (g : Gate) (t : Rows) (good : Good g t) (clock : List ℕ) (dated : is_
           pick (no n) = ap (record_good g i) (get_or-set_other (records_of t g.used) k i (revoked clock r) no_record n) ∙ each-used i h
 
 -- a payment that was read without a fault is well formed
-read-formed : (params : List ℕ) → (request_read params).fault ≡ 0 → (instruction_in params).action ≡ Payment → Formed (instruction_in params).details
+read-formed : (params : List ℕ) → (fault_number (request_read params)) ≡ 0 → (instruction_in params).action ≡ Payment → Formed (instruction_in params).details
 read-formed params z e =
     let good = read-good params z in
     record { receipt = good.receipt (ap has_receipt e); amount = good.amount (ap has_account e); date = good.date (ap has_date e) }
@@ -245,8 +245,8 @@ module _ (g : Gate) (t : Rows) (ready : Ready g t) (good : table_good g t ≡ tr
       let facts : Good g t = good-table g t ready.funds.places good in
       delivered-by g t clock params out (λ (d : Delivery). Again g d.gate d.rows)
       (λ code left size. record { good = facts; names = names_same g g refl; whole = ready.whole })
-      (λ _ dated. again-outcome g t facts clock dated (instruction_in params) (respond g t clock (request_read params).fault (instruction_in params) out)
-      (λ z e. read-formed params (respond-zero g t clock (request_read params).fault (instruction_in params) out z) e) (outcome g t clock (request_read params).fault (instruction_in params) out))
+      (λ _ dated. again-outcome g t facts clock dated (instruction_in params) (respond g t clock (fault_number (request_read params)) (instruction_in params) out)
+      (λ z e. read-formed params (respond-zero g t clock (fault_number (request_read params)) (instruction_in params) out z) e) (outcome g t clock (fault_number (request_read params)) (instruction_in params) out))
 
   -- with balances in their bound the table is good and ready for the next call
   pub delivered-good : Near (deliver g t clock params out).gate → table_good (deliver g t clock params out).gate (deliver g t clock params out).rows ≡ true

@@ -10,7 +10,7 @@ use Rattle.days.specs.declared.calendar.Day.{Day}
 use Rattle.payments.specs.declared.Instruction.{Instruction}
 use Rattle.texts.proofs.Tests.{and_left}
 use Rattle.lists.proofs.LentLaws.{lent-facts}
-use Rattle.message.specs.Request.{request_read}
+use Rattle.message.specs.Request.{request_read, fault_number}
 use Rattle.table.specs.declared.Gate.{Gate}
 use Rattle.table.specs.declared.Record.{Record}
 use Rattle.table.specs.Table.{Rows, nums_of, records_of, rows_from}
@@ -91,8 +91,8 @@ module _ (ts : List Record) where
     request : (clock params out : List ℕ) → Holds n (deliver g t clock params out).rows
     request clock params out =
         delivered-by g t clock params out (λ (d : Delivery). Holds n d.rows) (λ _ _ _. kept)
-        (λ good _. answer clock (instruction_in params) (respond g t clock (request_read params).fault (instruction_in params) out) good
-        (outcome g t clock (request_read params).fault (instruction_in params) out))
+        (λ good _. answer clock (instruction_in params) (respond g t clock (fault_number (request_read params)) (instruction_in params) out) good
+        (outcome g t clock (fault_number (request_read params)) (instruction_in params) out))
 
     registry : (clock : List ℕ) (day : Day) (text out : List ℕ) → Holds n (settle g t clock day text out).rows
     unfolding settle_day swept
