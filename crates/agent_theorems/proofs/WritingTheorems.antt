@@ -1,5 +1,5 @@
 -- What a writing may do to the book, and what a reader makes of the request that it wrote.
-use Rattle.std.specs.Prelude.{Option, Some, None}
+use Rattle.std.specs.Prelude.{Option, Some, None, Ok}
 use Prim.Native.Nat.{ℕ, ◌+◌, ◌<◌, ◌≤◌}
 use native.Mathlib.Omega.{arith}
 use mathlib.Core.Path.{◌≡◌, refl, sym, ap, ◌∙◌}
@@ -81,7 +81,7 @@ rest-kept out xs j h = go (leb (0 + length xs) (length out)) refl
     go false e = ap (λ (d : List ℕ). get_or d j 0) (sym (buffer-stays out 0 xs (leb-false (0 + length xs) (length out) e)))
 
 read_back : (q : Request) (out : List ℕ) → length q.date ≡ 19 → is_asked q ≡ true → 512 ≤ length out
-    → request_read (take (cursor_after out 0 (request_text q)) (written out 0 (request_text q))) ≡ record { fault = 0; asked = asked_again q }
+    → request_read (take (cursor_after out 0 (request_text q)) (written out 0 (request_text q))) ≡ Ok (asked_again q)
 unfolding request_text
 read_back q out dated good room =
     let l : length (request_bytes q) ≤ length out = omega (arith, room, request-fits q dated good) in
@@ -135,10 +135,10 @@ module _ (b : Book) (t : BookRows) (a : Action) (receipt reason : ℕ) (out : Li
   -- ---- a request that is written reads back as the fields of its entry
   pub write_again : (i : ℕ) → place_of b t receipt ≡ Some i → (write_request b t a receipt reason out).code ≡ 0
       → request_read (take (write_request b t a receipt reason out).size (write_request b t a receipt reason out).out)
-      ≡ record { fault = 0; asked = asked_again (request_of a (entry_at t i) reason) }
+      ≡ Ok (asked_again (request_of a (entry_at t i) reason))
   unfolding request_of
   write_again i found =
-      write-cases (λ (k : Writing). k.code ≡ 0 → request_read (take k.size k.out) ≡ record { fault = 0; asked = asked_again (request_of a (entry_at t i) reason) })
+      write-cases (λ (k : Writing). k.code ≡ 0 → request_read (take k.size k.out) ≡ Ok (asked_again (request_of a (entry_at t i) reason)))
       (λ code n z. absurd (n z))
       (λ j good room forms e free z.
       let same : j ≡ i = same_place j i (sym e ∙ found) in
@@ -215,9 +215,9 @@ module _ (b : Book) (t : BookRows) (n : Number) (k amount : ℕ) (out : List ℕ
 
   -- one that is written reads back as its account and amount
   pub check-again : (write_check b t n k amount out).code ≡ 0
-      → request_read (take (write_check b t n k amount out).size (write_check b t n k amount out).out) ≡ record { fault = 0; asked = asked_again (check_of n k amount) }
+      → request_read (take (write_check b t n k amount out).size (write_check b t n k amount out).out) ≡ Ok (asked_again (check_of n k amount))
   unfolding check_of
   check-again =
-      check-cases (λ (w : Writing). w.code ≡ 0 → request_read (take w.size w.out) ≡ record { fault = 0; asked = asked_again (check_of n k amount) })
+      check-cases (λ (w : Writing). w.code ≡ 0 → request_read (take w.size w.out) ≡ Ok (asked_again (check_of n k amount)))
       (λ code m z. absurd (m z))
       (λ room h z. read_back (check_of n k amount) out refl (check-asked n k amount ∙ h) room)

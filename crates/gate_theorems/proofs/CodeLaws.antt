@@ -1,5 +1,5 @@
 -- The codes of decisions and faults, and what an answer tells by them: an authcode in its range and a date that is one.
-use Rattle.std.specs.Prelude.{Option, Some, None}
+use Rattle.std.specs.Prelude.{Option, Some, None, Result}
 use Prim.Native.Nat.{ℕ, ◌≤◌, ◌<◌}
 use native.Mathlib.Omega.{arith}
 use native.Mathlib.Decide.{ℕ_discrete}
@@ -9,17 +9,20 @@ use mathlib.Core.List.{List, [], ◌∷◌}
 use lib.Dec.{eqb, leb}
 use lib.ListN.{length, get_or}
 use borrow.Author.Tests.{eqb-true}
-use Rattle.texts.specs.Digits.{within, fault_of}
+use Rattle.texts.specs.Digits.{within}
 use Rattle.texts.proofs.DigitLaws.{within_low, within-high}
 use Rattle.dates.specs.Date.{is_written, empty_date}
 use Rattle.texts.proofs.Tests.{and_right, cond-elim, no-claim}
 use Rattle.dates.proofs.DateLaws.{written-parts}
 use Rattle.payments.specs.declared.Action.{Action}
 use Rattle.payments.specs.declared.Action.TheVariants.{Check, Payment, Status, Cancel}
-use Rattle.message.specs.declared.request.RequestRead.{RequestRead}
+use Rattle.message.specs.declared.request.Asked.{Asked}
+use Rattle.message.specs.declared.request.Refusal.{Refusal}
+use Rattle.message.specs.declared.request.Fault.{Fault}
+use Rattle.message.specs.declared.request.Fault.TheVariants.{NoAction, Account, Amount, Receipt, Date, Malformed, Reason}
 use Rattle.parameters.specs.Names.{action_of}
 use Rattle.parameters.specs.Slots.{Slot, Absent, Gathered, Broken, Values, gathered}
-use Rattle.message.specs.Request.{held, receipt_field, number_field, kind_field, amount_field, date_field, reason_field, refused, first_fault, field_fault, fields_read, action_read, values_read, request_read, fault_number}
+use Rattle.message.specs.Request.{held, fault_code as number_of_fault, fault_number, judged, field_fault, fields_asked, fields_read, action_read, values_read, request_read}
 use Rattle.payments.specs.declared.Answer.{Answer}
 use Rattle.payments.specs.declared.Instruction.{Instruction}
 use Rattle.answers.specs.Answer.{answer_bytes}
@@ -126,39 +129,31 @@ module _ (P : ℕ → Type 0) (zero : P 0) (one : P 1) (two : P 2) (three : P 3)
 
 -- ---- the faults of a request
 module _ (P : ℕ → Type 0) (none : P 0) (one : P 1) (two : P 2) (three : P 3) (four : P 4) (five : P 5) (most : P 31) (reason : P 32) where
-  fault-of : (c : ℕ) (d : Option ℕ) → P c → P (fault_of c d)
-  fault-of c None p = p
-  fault-of c (Some v) p = none
+  of-fault : (f : Fault) → P (number_of_fault f)
+  of-fault NoAction = one
+  of-fault Account = two
+  of-fault Amount = three
+  of-fault Receipt = four
+  of-fault Date = five
+  of-fault Malformed = most
+  of-fault Reason = reason
 
-  first_of : (f : ℕ) (fs : List ℕ) → P f → P (first_fault fs) → P (first_fault (f ∷ fs))
-  unfolding first_fault
-  first_of f fs p q = cond-elim P (eqb f 0) (first_fault fs) f (λ _. q) (λ _. p)
+  of-fields : (f : Option Fault) (a : Action) (q : Asked) → P (fault_number (judged f a q))
+  of-fields None a q = none
+  of-fields (Some f) a q = of-fault f
 
-  first-none : P (first_fault [])
-  unfolding first_fault
-  first-none = none
-
-  field-fault : (a : Action) (t : List Slot) → P (field_fault a t)
-  unfolding field_fault
-  field-fault a t =
-      first_of _ _ (fault-of 4 (receipt_field a t) four)
-      (first_of _ _ (cond-elim P (number_field a t).ok 0 2 (λ _. none) (λ _. two))
-      (first_of _ _ (fault-of 2 (kind_field a t) two)
-      (first_of _ _ (fault-of 3 (amount_field a t) three)
-      (first_of _ _ (cond-elim P (date_field a t).ok 0 5 (λ _. none) (λ _. five)) (first_of _ _ (fault-of 32 (reason_field a t) reason) first-none)))))
-
-  values-fault : (x : Gathered) → P (values_read x).fault
-  unfolding fields_read refused
-  values-fault Broken = most
-  values-fault (Values t) = go (held None action_of (get_or t 0 Absent))
+  of-values : (x : Gathered) → P (fault_number (values_read x))
+  unfolding fields_read
+  of-values Broken = most
+  of-values (Values t) = go (held None action_of (get_or t 0 Absent))
     where
-      go : (a : Option Action) → P (action_read a t).fault
+      go : (a : Option Action) → P (fault_number (action_read a t))
       go None = one
-      go (Some a) = cond-elim (λ (r : RequestRead). P r.fault) (eqb (field_fault a t) 0) _ _ (λ _. none) (λ _. field-fault a t)
+      go (Some a) = of-fields (field_fault a t) a (fields_asked a t)
 
   pub fault-by : (params : List ℕ) → P (fault_number (request_read params))
-  unfolding request_read refused
-  fault-by params = cond-elim (λ (r : RequestRead). P r.fault) (leb (length params) 2048) _ _ (λ _. values-fault (gathered params)) (λ _. most)
+  unfolding request_read
+  fault-by params = cond-elim (λ (r : Result Asked Refusal). P (fault_number r)) (leb (length params) 2048) _ _ (λ _. of-values (gathered params)) (λ _. most)
 
 -- ---- what an answer tells: a code that is answered, an authcode in its range, and a date that is one
 pub record Told (clock : List ℕ) (a : Action) (c : ℕ) (r : Record) : Type 0 where

@@ -1,4 +1,5 @@
 -- A good load's steps: their accounts are named, and their requests well formed and read back.
+use Rattle.std.specs.Prelude.{Ok}
 use Prim.Native.Nat.{ℕ, ◌+◌, ◌%◌, ◌≤◌, ◌<◌}
 use native.Mathlib.Nat.{mod-lt}
 use native.Mathlib.Omega.{arith}
@@ -79,7 +80,7 @@ module _ (l : Load) (h : is_load l ≡ true) (r : Rolls) where
     pub asked-shown : every is_shown (request_text request) ≡ true
     asked-shown = rw request-written (request-shown request (unfold asked_of in number-good) (unfold asked_of in facts.dated))
 
-    pub asked-read : request_read (request_text request) ≡ record { fault = 0; asked = asked_again request }
+    pub asked-read : request_read (request_text request) ≡ Ok (asked_again request)
     asked-read =
         let size : length request.date ≡ 19 = unfold asked_of in (written-parts l.date facts.dated).size in
         rw request-written (request-again request size asked-good)

@@ -1,5 +1,5 @@
 -- Document 02, [4]: what holds of every load. `proofs/LoadClaims.antt` proves it (`load-claims : LoadClaims`).
-use Rattle.std.specs.Prelude.{ℕ, zero, suc, ◌+◌, ◌≤◌, ◌<◌, ◌≡◌, true, List, [], ◌∷◌, ◌++◌, length, take, replicate}
+use Rattle.std.specs.Prelude.{ℕ, zero, suc, ◌+◌, ◌≤◌, ◌<◌, ◌≡◌, true, List, [], ◌∷◌, ◌++◌, length, take, replicate, Ok}
 use Rattle.fields.specs.Number.{number_text, number_of}
 use Rattle.coding.specs.Params.{split_at}
 use Rattle.payments.specs.declared.Action.{Action}
@@ -37,7 +37,7 @@ text_in f = take f.size f.buffer
 pub record LoadClaims : Type 0 where
   -- a request is read as it was meant, hence without 31 and without another fault of form
   pub read : (l : Load) → is_load l ≡ true → (v : ℕ) (action : Action) → step_of (rolls_from v).step ≡ Asks action
-      → request_read (params_in (text_after l v)) ≡ record { fault = 0; asked = asked_again (request_after l v action) }
+      → request_read (params_in (text_after l v)) ≡ Ok (asked_again (request_after l v action))
   -- a session delivers it at the load's date, and draws what a drawing says: no line of a load is 99
   pub asks : (l : Load) → is_load l ≡ true → (v : ℕ) (action : Action) → step_of (rolls_from v).step ≡ Asks action → (x : Console) (t : Rows)
       → order_turn x t (text_after l v) ≡ answered (deliver x.gate t l.date (request_text (request_after l v action)) (replicate 512 0))
