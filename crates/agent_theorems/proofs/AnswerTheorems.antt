@@ -1,5 +1,5 @@
 -- What an answer may do to the book, and what it may not.
-use Rattle.std.specs.Prelude.{Option, Some, None}
+use Rattle.std.specs.Prelude.{Option, Some, None, is_some}
 use Prim.Native.Nat.{ℕ, ◌<◌, ◌≤◌}
 use native.Mathlib.Omega.{arith}
 use mathlib.Core.Path.{◌≡◌, refl, sym, ◌∙◌}
@@ -14,7 +14,7 @@ use Rattle.texts.proofs.DigitLaws.{within-high}
 use Rattle.payments.specs.declared.Action.{Action}
 use Rattle.payments.specs.declared.Action.TheVariants.{Check, Payment, Status, Cancel}
 use Rattle.payments.specs.declared.Answer.{Answer}
-use Rattle.answer_reader.specs.AnswerRead.{answer_read}
+use Rattle.answer_reader.specs.AnswerRead.{answer_read, answer_in}
 use Rattle.answer_reader.proofs.AnswerRange.{read-code}
 use Rattle.book.specs.declared.Book.{Book}
 use Rattle.book.specs.declared.Entry.{Entry}
@@ -93,20 +93,20 @@ final-turned Silent Unposted h = refl
 module _ (b : Book) (t : BookRows) (a : Action) (receipt : ℕ) (text : List ℕ) where
   -- the answer, and what it leaves at a place
   abbrev answer : Answer
-  answer = (answer_read a text).answer
+  answer = answer_in (answer_read a text)
 
   abbrev answered : ℕ → Entry
   answered i = answered_entry (meaning a answer.code) answer (entry_at t i)
 
   module _ (P : Taking → Type 0) (stays : (code : ℕ) → P (took code t))
-      (answers : (i : ℕ) → book_good b t ≡ true → place_of b t receipt ≡ Some i → is_frozen b (entry_at t i).date ≡ false → (answer_read a text).ok ≡ true
+      (answers : (i : ℕ) → book_good b t ≡ true → place_of b t receipt ≡ Some i → is_frozen b (entry_at t i).date ≡ false → is_some (answer_read a text) ≡ true
       → P (took 0 (book_from t (set (entries_of t b.used) i (answered i))))) where
     at-cases : book_good b t ≡ true → (p : Option ℕ) → place_of b t receipt ≡ p → P (take_at_place b t a text p)
     unfolding take_at_place
     at-cases good None e = stays 62
     at-cases good (Some i) e =
         rw (get_d-entries t b.used i no_entry (entry-within t b.used receipt i e))
-        (cond-elim P (answer_read a text).ok _ _
+        (cond-elim P (is_some (answer_read a text)) _ _
         (λ ok. cond-elim P (is_frozen b (entry_at t i).date) _ _ (λ _. stays 0) (λ free. answers i good e free ok))
         (λ _. stays 64))
 

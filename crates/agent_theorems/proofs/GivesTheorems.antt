@@ -1,5 +1,5 @@
 -- What a writing and an answer give for an entry of a good book, where document 01 asks for nothing more.
-use Rattle.std.specs.Prelude.{Some}
+use Rattle.std.specs.Prelude.{Some, is_some}
 use Prim.Native.Nat.{ℕ, ◌+◌, ◌-◌, ◌<◌, ◌≤◌}
 use native.Mathlib.Omega.{arith}
 use mathlib.Core.Path.{◌≡◌, refl, sym, ap, ◌∙◌}
@@ -21,7 +21,7 @@ use Rattle.message.specs.declared.request.Asked.{Asked as Request}
 use Rattle.message.specs.RequestText.{is_asked, request_bytes, request_text}
 use Rattle.message.proofs.RequestAgain.{request-fits}
 use Rattle.payments.specs.declared.Answer.{Answer}
-use Rattle.answer_reader.specs.AnswerRead.{answer_read}
+use Rattle.answer_reader.specs.AnswerRead.{answer_read, answer_in}
 use Rattle.book.specs.declared.Book.{Book}
 use Rattle.book.specs.declared.Entry.{Entry}
 use Rattle.book.specs.declared.State.TheVariants.{Asked, Credited, CancelAsked, Cancelled}
@@ -150,9 +150,9 @@ module _ (b : Book) (t : BookRows) (good : book_good b t ≡ true) (six : (j : �
         )
 
   -- ---- a readable answer on an unfrozen day
-  module _ (a : Action) (text : List ℕ) (ok : (answer_read a text).ok ≡ true) (unfrozen : is_frozen b entry.date ≡ false) where
+  module _ (a : Action) (text : List ℕ) (ok : is_some (answer_read a text) ≡ true) (unfrozen : is_frozen b entry.date ≡ false) where
     abbrev answer : Answer
-    answer = (answer_read a text).answer
+    answer = answer_in (answer_read a text)
 
     no-check-is : (a' : Action) → (a' ≡ Check → ⊥) → is_check a' ≡ false
     no-check-is Check n = absurd (n refl)

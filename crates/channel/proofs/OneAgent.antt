@@ -51,7 +51,7 @@ module _ (w₀ w : World) (r : Reached w₀ w) (n : ℕ) (a : Action) (receipt :
   fair = each-elem Fair w.sent n (sent_request a receipt text) r.rep.fair e
 
   abbrev q : Asked
-  q = (asked_of (request_read text))
+  q = asked_of (request_read text)
 
   -- what the model promises of the request
   promised : Ok (world_of w) (M.request (ask_of q))

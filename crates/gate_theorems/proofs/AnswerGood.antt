@@ -1,4 +1,5 @@
 -- The answers that the gate writes are read back by the agent's reader.
+use Rattle.std.specs.Prelude.{Some}
 use Prim.Native.Nat.{ℕ, ◌≤◌}
 use mathlib.Core.Path.{◌≡◌, refl}
 use mathlib.Core.Bool.{Bool, true, false, cond, not, ◌||◌}
@@ -37,7 +38,7 @@ answer-good Cancel code r clock c n d = rw (le-leb code 9999 c, carried-good (se
 -- so its code, authcode and date are read back
 pub gate-answers : (a : Action) (code : ℕ) (r : Record) (clock : List ℕ) → code ≤ 9999 → r.authcode ≤ 999999999999999
     → (answers_date a code ≡ true → is_written (answer_date a code r clock) ≡ true)
-    → answer_read a (answer_bytes (answer_of a code r clock)) ≡ record { ok = true; answer = answer_again (answer_of a code r clock) }
+    → answer_read a (answer_bytes (answer_of a code r clock)) ≡ Some (answer_again (answer_of a code r clock))
 gate-answers a code r clock c n d = answer-again a (answer_of a code r clock) (answer-good a code r clock c n d)
 
 -- with 1 and 31 no action is known: the answer has no date, and every reader takes it

@@ -1,5 +1,5 @@
 -- What a delivery answers: its codes, its size, and that the agent's reader reads it back.
-use Rattle.std.specs.Prelude.{Option}
+use Rattle.std.specs.Prelude.{Option, Some}
 use Prim.Native.Nat.{ℕ, ◌+◌, ◌≤◌}
 use native.Mathlib.Nat.{zero-add}
 use native.Mathlib.Omega.{arith}
@@ -52,12 +52,12 @@ unfolding one_of
 decision-never = decision-by (λ (c : ℕ). one_of (8 ∷ 50 ∷ 51 ∷ 68 ∷ []) c ≡ false) refl refl refl refl refl refl refl refl refl refl refl refl
 
 -- a request has no fault, or one of seven
-pub fault-codes : (params : List ℕ) → one_of (0 ∷ 1 ∷ 2 ∷ 3 ∷ 4 ∷ 5 ∷ 31 ∷ 32 ∷ []) (fault_number (request_read params)) ≡ true
+pub fault-codes : (params : List ℕ) → one_of (0 ∷ 1 ∷ 2 ∷ 3 ∷ 4 ∷ 5 ∷ 31 ∷ 32 ∷ []) fault_number (request_read params) ≡ true
 unfolding one_of
 fault-codes = fault-by (λ (c : ℕ). one_of (0 ∷ 1 ∷ 2 ∷ 3 ∷ 4 ∷ 5 ∷ 31 ∷ 32 ∷ []) c ≡ true) refl refl refl refl refl refl refl refl
 
 -- so its answer has the number that was found at fault
-pub fault-kept : (params : List ℕ) → ((fault_number (request_read params)) ≡ 0 → ⊥) → fault_code (fault_number (request_read params)) ≡ (fault_number (request_read params))
+pub fault-kept : (params : List ℕ) → (fault_number (request_read params) ≡ 0 → ⊥) → fault_code fault_number (request_read params) ≡ fault_number (request_read params)
 unfolding fault_code is_fault
 fault-kept = fault-by (λ (c : ℕ). (c ≡ 0 → ⊥) → fault_code c ≡ c) (λ n. absurd (n refl)) (λ _. refl) (λ _. refl) (λ _. refl) (λ _. refl) (λ _. refl) (λ _. refl) (λ _. refl)
 
@@ -84,7 +84,7 @@ module _ (g : Gate) (t : Rows) (clock params : List ℕ) where
       fault (asks params) s v (known-found g t good q f refl))
     where
       fault : ℕ
-      fault = (fault_number (request_read params))
+      fault = fault_number (request_read params)
 
       q : Instruction
       q = instruction_in params
@@ -146,11 +146,11 @@ module _ (g : Gate) (t : Rows) (clock params out : List ℕ) where
   deliver-text = answered-by (λ (d : Delivery). take d.size d.out ≡ answer_bytes answer) (λ c r g' t' fits k e. text-back out (answer_bytes (gives c r)) fits ∙ ap answer_bytes (sym e))
 
   -- the agent's reader takes it, and reads that answer again
-  pub deliver-reads : is_silent delivery.code ≡ false → answer_read (asks params) (take delivery.size delivery.out) ≡ record { ok = true; answer = answer }
+  pub deliver-reads : is_silent delivery.code ≡ false → answer_read (asks params) (take delivery.size delivery.out) ≡ Some answer
   deliver-reads h =
       ap (answer_read (asks params)) (deliver-text h)
-      ∙ answered-by (λ (d : Delivery). answer_read (asks params) (answer_bytes answer) ≡ record { ok = true; answer = answer })
-      (λ c r g' t' fits k e. rw e (gate-answers (asks params) c r clock k.small k.auth k.date ∙ ap (λ (x : Answer). record { ok = true; answer = x }) (again-same clock (asks params) c r))) h
+      ∙ answered-by (λ (d : Delivery). answer_read (asks params) (answer_bytes answer) ≡ Some answer)
+      (λ c r g' t' fits k e. rw e (gate-answers (asks params) c r clock k.small k.auth k.date ∙ ap (λ (x : Answer). Some x) (again-same clock (asks params) c r))) h
 
   -- which has the code that is returned
   pub deliver-told : is_silent delivery.code ≡ false → answer.code ≡ delivery.code
@@ -252,7 +252,7 @@ unsettled-same Cancel c r r' clock h z s = rw h
 
 module _ (g : Gate) (t : Rows) (ready : Ready g t) (clock params out : List ℕ) (good : table_good g t ≡ true) (room : 512 ≤ length out) (dated : is_written clock ≡ true) where
   abbrev fault : ℕ
-  fault = (fault_number (request_read params))
+  fault = fault_number (request_read params)
 
   abbrev refusal : Answer
   refusal = answer_of (asks params) fault no_record clock

@@ -150,7 +150,7 @@ module _ (g : Gate) (t : Rows) (clock : List ℕ) (q : Instruction) (out : List 
         })
 
 -- ---- a delivery that passes the call's tests
-module _ (g : Gate) (t : Rows) (clock params out : List ℕ) (good : table_good g t ≡ true) (size : 512 ≤ length out) (dated : is_written clock ≡ true) (none : (fault_number (request_read params)) ≡ 0) where
+module _ (g : Gate) (t : Rows) (clock params out : List ℕ) (good : table_good g t ≡ true) (size : 512 ≤ length out) (dated : is_written clock ≡ true) (none : fault_number (request_read params) ≡ 0) where
   abbrev pub asked : Instruction
   asked = instruction_in params
 

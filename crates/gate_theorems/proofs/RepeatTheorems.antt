@@ -46,7 +46,7 @@ abbrev pub only : Gate → Rows → List ℕ → Answer → Delivery
 only g t out x = record { code = x.code; gate = g; rows = t; out = written out 0 (answer_bytes x); size = cursor_after out 0 (answer_bytes x) }
 
 module _ (g : Gate) (t : Rows) (ready : Ready g t) (clock params out : List ℕ) (good : table_good g t ≡ true) (room : 512 ≤ length out) (dated : is_written clock ≡ true)
-    (sound : (fault_number (request_read params)) ≡ 0) (payment : asks params ≡ Payment) (i : ℕ) (there : find_record (asked_of (request_read params)).receipt (records_of t g.used) ≡ Some i) where
+    (sound : fault_number (request_read params) ≡ 0) (payment : asks params ≡ Payment) (i : ℕ) (there : find_record (asked_of (request_read params)).receipt (records_of t g.used) ≡ Some i) where
   abbrev told : Bool
   told = agrees Payment (instruction_in params).details (record_at t i)
 

@@ -232,7 +232,7 @@ module _ (g : Gate) (t : Rows) (good : Good g t) (clock : List ℕ) (dated : is_
           pick (no n) = ap (record_good g i) (get_or-set_other (records_of t g.used) k i (revoked clock r) no_record n) ∙ each-used i h
 
 -- a payment that was read without a fault is well formed
-read-formed : (params : List ℕ) → (fault_number (request_read params)) ≡ 0 → (instruction_in params).action ≡ Payment → Formed (instruction_in params).details
+read-formed : (params : List ℕ) → fault_number (request_read params) ≡ 0 → (instruction_in params).action ≡ Payment → Formed (instruction_in params).details
 read-formed params z e =
     let good = read-good params z in
     record { receipt = good.receipt (ap has_receipt e); amount = good.amount (ap has_account e); date = good.date (ap has_date e) }
