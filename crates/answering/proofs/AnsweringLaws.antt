@@ -1,7 +1,7 @@
 -- Laws of an answer that the agent takes: the entry that it leaves, and the ways out of the call.
-use Rattle.std.specs.Prelude.{Option, Some, None}
+use Rattle.std.specs.Prelude.{Option, Some, None, is_some}
 use Prim.Native.Nat.{ℕ, ◌<◌}
-use mathlib.Core.Path.{◌≡◌, sym, ap, ◌∙◌}
+use mathlib.Core.Path.{◌≡◌, refl, sym, ap, ◌∙◌}
 use mathlib.Core.Bool.{Bool, true, false, not}
 use mathlib.Core.List.{List}
 use borrow.Author.Tests.{not-true, not-false}
@@ -9,8 +9,7 @@ use Rattle.fields.specs.Codes.{is_receipt}
 use Rattle.payments.specs.declared.Action.{Action}
 use Rattle.payments.specs.declared.Action.TheVariants.{Check}
 use Rattle.payments.specs.declared.Answer.{Answer}
-use Rattle.answer_reader.specs.declared.answer.AnswerRead.{AnswerRead}
-use Rattle.answer_reader.specs.AnswerRead.{answer_read}
+use Rattle.answer_reader.specs.AnswerRead.{answer_read, answer_in}
 use Rattle.answer_reader.specs.AnswerParts.{undated}
 use Rattle.book.specs.declared.Book.{Book}
 use Rattle.book.specs.declared.Entry.{Entry}
@@ -23,20 +22,6 @@ use Rattle.daybook.specs.Freezing.{is_frozen}
 use Rattle.answering.specs.Answering.{Taking, meaning, turned, credits, authcode_after, answered_entry, take_at_place, take_receipt, is_check, check_code, take_answer}
 use Rattle.book_validity.proofs.PassedLaws.{place-in-use}
 
--- ---- the authcode after an answer
-module _ (credited : Bool) (x : Answer) (e : Entry) where
-  pub authcode-new : credited ≡ true → x.authorized ≡ true → x.authcode ≡ authcode_after credited x e
-  unfolding authcode_after
-  authcode-new h k = rw (h, k)
-
-  pub authcode-lacked : credited ≡ true → x.authorized ≡ false → e.authcode ≡ authcode_after credited x e
-  unfolding authcode_after
-  authcode-lacked h k = rw (h, k)
-
-  pub authcode-kept : credited ≡ false → e.authcode ≡ authcode_after credited x e
-  unfolding authcode_after
-  authcode-kept h = rw h
-
 -- ---- the entry that an answer leaves
 pub answered-is : (m : Meaning) (x : Answer) (e : Entry) (s s' : State) (n code : ℕ) (credit : Bool)
     → s ≡ state_of e.state → s' ≡ turned m s → n ≡ state_number s' → credit ≡ credits m s → code ≡ authcode_after credit x e
@@ -45,37 +30,55 @@ unfolding answered_entry
 answered-is m x e s s' n code credit es et en ec ea = rw (en, et, ea, ec, es)
 
 -- ---- an answer says the same without the bytes of its date
-module _ (a : Action) (text : List ℕ) (x : AnswerRead) (ex : x ≡ undated (answer_read a text)) where
-  ok-is : (answer_read a text).ok ≡ x.ok
-  ok-is = sym (ap (λ (v : AnswerRead). v.ok) ex)
+module _ (a : Action) (text : List ℕ) (x : Answer) (ex : Some x ≡ undated (answer_read a text)) where
+  read_is : is_some (answer_read a text) ≡ true
+  read_is = go (answer_read a text) ex
+    where
+      go : (r : Option Answer) → Some x ≡ undated r → is_some r ≡ true
+      go None e = cc
+      go (Some y) e = refl
 
-  code_is : (answer_read a text).answer.code ≡ x.answer.code
-  code_is = sym (ap (λ (v : AnswerRead). v.answer.code) ex)
+  said : (A : Type 0) (f : Answer → A) → ((y : Answer) → f (answer_in (undated (Some y))) ≡ f y) → f (answer_in (answer_read a text)) ≡ f x
+  said A f same = go (answer_read a text) ex
+    where
+      go : (r : Option Answer) → Some x ≡ undated r → f (answer_in r) ≡ f x
+      go None e = cc
+      go (Some y) e = sym (ap (λ (v : Option Answer). f (answer_in v)) e ∙ same y)
 
-  entry-is : (m : Meaning) (e : Entry) → answered_entry m (answer_read a text).answer e ≡ answered_entry m x.answer e
+  code_is : (answer_in (answer_read a text)).code ≡ x.code
+  code_is = said ℕ (λ (y : Answer). y.code) (λ y. refl)
+
+  entry-is : (m : Meaning) (e : Entry) → answered_entry m (answer_in (answer_read a text)) e ≡ answered_entry m x e
   unfolding answered_entry authcode_after
-  entry-is m e = sym (ap (λ (v : AnswerRead). answered_entry m v.answer e) ex)
+  entry-is m e = said Entry (λ (y : Answer). answered_entry m y e) (λ y. refl)
+
+unread_is : (a : Action) (text : List ℕ) → None ≡ undated (answer_read a text) → is_some (answer_read a text) ≡ false
+unread_is a text e = go (answer_read a text) e
+  where
+    go : (r : Option Answer) → None ≡ undated r → is_some r ≡ false
+    go None e = refl
+    go (Some y) e = cc
 
 -- ---- the entry at i
-module _ (b : Book) (t : BookRows) (i : ℕ) (a : Action) (text : List ℕ) (x : AnswerRead) (ex : x ≡ undated (answer_read a text)) where
-  pub at-unread : (rows : BookRows) → not x.ok ≡ true → rows ≡ t → ◌≡◌ {A = Taking} (record { code = 64; rows = rows }) (take_at_place b t a text (Some i))
+module _ (b : Book) (t : BookRows) (i : ℕ) (a : Action) (text : List ℕ) where
+  pub at-unread : None ≡ undated (answer_read a text) → (rows : BookRows) → rows ≡ t → ◌≡◌ {A = Taking} (record { code = 64; rows = rows }) (take_at_place b t a text (Some i))
   unfolding take_at_place
-  at-unread rows h er = rw (ok-is a text x ex, not-true x.ok h, er)
+  at-unread h rows er = rw (unread_is a text h, er)
 
-  module _ (h : not x.ok ≡ false) (l : i < b.used) (e : Entry) (ee : e ≡ entry_at t i) (f : Bool) (ef : f ≡ is_frozen b e.date) where
+  module _ (x : Answer) (ex : Some x ≡ undated (answer_read a text)) (l : i < b.used) (e : Entry) (ee : e ≡ entry_at t i) (f : Bool) (ef : f ≡ is_frozen b e.date) where
     frozen-there : f ≡ is_frozen b (entry_at t i).date
     frozen-there = ef ∙ ap (λ (v : Entry). is_frozen b v.date) ee
 
     pub at-frozen : (rows : BookRows) → f ≡ true → rows ≡ t → ◌≡◌ {A = Taking} (record { code = 0; rows = rows }) (take_at_place b t a text (Some i))
     unfolding take_at_place
-    at-frozen rows y er = rw (ok-is a text x ex, not-false x.ok h, get_d-entries t b.used i no_entry l, ← frozen-there, y, er)
+    at-frozen rows y er = rw (read_is a text x ex, get_d-entries t b.used i no_entry l, ← frozen-there, y, er)
 
-    pub at-answered : (m : Meaning) (e' : Entry) (rows : BookRows) → f ≡ false → ReadyBook b t → m ≡ meaning a x.answer.code → e' ≡ answered_entry m x.answer e
+    pub at-answered : (m : Meaning) (e' : Entry) (rows : BookRows) → f ≡ false → ReadyBook b t → m ≡ meaning a x.code → e' ≡ answered_entry m x e
         → rows ≡ book_with t i e' → ◌≡◌ {A = Taking} (record { code = 0; rows = rows }) (take_at_place b t a text (Some i))
     unfolding take_at_place
     at-answered m e' rows n ready em ea er =
-        let w : e' ≡ answered_entry m x.answer (entry_at t i) = ea ∙ ap (answered_entry m x.answer) ee in
-        rw (ok-is a text x ex, not-false x.ok h, get_d-entries t b.used i no_entry l, ← frozen-there, n, code_is a text x ex, ← em, entry-is a text x ex m (entry_at t i), ← w, book-set t b.used ready.whole i e' l, er)
+        let w : e' ≡ answered_entry m x (entry_at t i) = ea ∙ ap (answered_entry m x) ee in
+        rw (read_is a text x ex, get_d-entries t b.used i no_entry l, ← frozen-there, n, code_is a text x ex, ← em, entry-is a text x ex m (entry_at t i), ← w, book-set t b.used ready.whole i e' l, er)
 
 -- ---- a receipt
 module _ (b : Book) (t : BookRows) (a : Action) (receipt : ℕ) (text : List ℕ) (r : Bool) (er : r ≡ is_receipt receipt) where
@@ -93,14 +96,14 @@ module _ (b : Book) (t : BookRows) (a : Action) (receipt : ℕ) (text : List ℕ
     one_found i k y q = q ∙ rw (← er, not-false r h, ← ep, y)
 
 -- ---- a check
-module _ (text : List ℕ) (x : AnswerRead) (ex : x ≡ undated (answer_read Check text)) where
-  pub check-read : x.ok ≡ true → 0 ≡ check_code text
+module _ (text : List ℕ) where
+  pub check-read : (x : Answer) → Some x ≡ undated (answer_read Check text) → 0 ≡ check_code text
   unfolding check_code
-  check-read h = rw (ok-is Check text x ex, h)
+  check-read x ex = rw (read_is Check text x ex)
 
-  pub check-unread : x.ok ≡ false → 64 ≡ check_code text
+  pub check-unread : None ≡ undated (answer_read Check text) → 64 ≡ check_code text
   unfolding check_code
-  check-unread h = rw (ok-is Check text x ex, h)
+  check-unread h = rw (unread_is Check text h)
 
 -- ---- the call
 module _ (b : Book) (t : BookRows) (a : Action) (receipt : ℕ) (text : List ℕ) (g : Bool) (eg : g ≡ book_good b t) where
@@ -117,7 +120,11 @@ module _ (b : Book) (t : BookRows) (a : Action) (receipt : ℕ) (text : List ℕ
     unfolding take_answer
     take-receipt k n q = q ∙ rw (← eg, not-false g h, ← ec, n)
 
+pub ruleset answered_entry_laws = (answered-is)
+
 pub ruleset take_at_laws = (at-unread, at-frozen)
+
+pub ruleset take_check_laws = (check-read, check-unread)
 
 pub ruleset take_receipt_laws = (not-receipt, none_found, one_found, place-in-use)
 

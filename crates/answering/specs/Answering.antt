@@ -1,10 +1,10 @@
 -- Document 01, "Agent" and the rows 68, 60, 62 and 64: an answer is handed in together with the action and the receipt that it answers.
-use Rattle.std.specs.Prelude.{ℕ, List, Bool, true, false, cond, eqb, get_or, set, Option, Some, None}
+use Rattle.std.specs.Prelude.{ℕ, List, Bool, true, false, cond, eqb, get_or, set, Option, Some, None, is_some}
 use Rattle.fields.specs.Codes.{is_receipt}
 use Rattle.payments.specs.declared.Action.{Action}
 use Rattle.payments.specs.declared.Action.TheVariants.{Check, Payment, Status, Cancel}
 use Rattle.payments.specs.declared.Answer.{Answer}
-use Rattle.answer_reader.specs.AnswerRead.{answer_read}
+use Rattle.answer_reader.specs.AnswerRead.{answer_read, answer_in}
 use Rattle.book.specs.declared.Book.{Book}
 use Rattle.book.specs.declared.Entry.{Entry}
 use Rattle.book.specs.declared.State.{State}
@@ -84,9 +84,9 @@ unfoldable pub take_at_place : Book → BookRows → Action → List ℕ → Opt
 take_at_place b t a text None = took 62 t
 take_at_place b t a text (Some i) =
     let e = get_or (entries_of t b.used) i no_entry in
-    cond (answer_read a text).ok
+    cond (is_some (answer_read a text))
     (cond (is_frozen b e.date) (took 0 t)
-    (took 0 (book_from t (set (entries_of t b.used) i (answered_entry (meaning a (answer_read a text).answer.code) (answer_read a text).answer e)))))
+    (took 0 (book_from t (set (entries_of t b.used) i (answered_entry (meaning a (answer_in (answer_read a text)).code) (answer_in (answer_read a text)) e)))))
     (took 64 t)
 
 unfoldable pub take_receipt : Book → BookRows → Action → ℕ → List ℕ → Taking
@@ -100,7 +100,7 @@ is_check Status = false
 is_check Cancel = false
 
 unfoldable pub check_code : List ℕ → ℕ
-check_code text = cond (answer_read Check text).ok 0 64
+check_code text = cond (is_some (answer_read Check text)) 0 64
 
 unfoldable pub take_answer : Book → BookRows → Action → ℕ → List ℕ → Taking
 take_answer b t a receipt text =

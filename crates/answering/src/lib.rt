@@ -15,31 +15,27 @@ use fields::codes;
 use payments::{Action, Answer};
 
 // The authcode of an entry after an answer.
+#[tactic(auto, unfolding(crate::specs::Answering::authcode_after))]
 pub(crate) fn authcode_after(credited: bool, x: Answer, e: Entry) -> u64
     ensures { result ≡ authcode_after credited x e }
 {
-    if credited {
-        if x.authorized { x.authcode } else { e.authcode }
+    if credited && x.authorized {
+        x.authcode
     } else {
         e.authcode
     }
 }
 
 // The entry that an answer leaves.
+#[tactic(auto, using(crate::proofs::AnsweringLaws::answered_entry_laws))]
 pub(crate) fn answered_entry(m: meaning::Meaning, x: Answer, e: Entry) -> Entry
     ensures { result ≡ answered_entry m x e }
 {
     let s = states::state_of(e.state);
-    let number = e.number;
-    let date = e.date;
     Entry {
-        receipt: e.receipt,
-        number,
-        kind: e.kind,
-        amount: e.amount,
-        date,
         state: states::state_number(meaning::turn(m, s)),
         authcode: authcode_after(meaning::is_credit(m, s), x, e),
+        ..e
     }
 }
 
@@ -57,16 +53,13 @@ pub(crate) fn take_at(
     requires { ReadyBook b (lent_book nums.old numbers.old dates.old) × (i < b.used) }
     ensures { taking_of result (lent_book nums.new numbers.new dates.new) ≡ take_at_place b (lent_book nums.old numbers.old dates.old) a text.now (Some i) }
 {
-    let x = read::read_undated(a, text);
-    if !x.ok {
+    let Some(answer) = read::read_undated(a, text) else {
         return 64;
-    }
+    };
     let e = rows::load_entry(nums, numbers, dates, i);
-    let written = e.date;
-    if frozen::is_frozen(b, written) {
+    if frozen::is_frozen(b, e.date) {
         return 0;
     }
-    let answer = x.answer;
     let m = meaning::meaning_of(a, answer.code);
     rows::store_entry(nums, numbers, dates, i, answered_entry(m, answer, e));
     0
@@ -99,23 +92,21 @@ pub(crate) fn take_receipt(
 pub(crate) fn is_check(a: Action) -> bool
     ensures { result ≡ is_check a }
 {
-    match a {
-        Action::Check => true,
-        Action::Payment => false,
-        Action::Status => false,
-        Action::Cancel => false,
-    }
+    matches!(a, Action::Check)
 }
 
 // A check's answer moves nothing.
+#[tactic(auto, using(crate::proofs::AnsweringLaws::take_check_laws))]
 pub(crate) fn take_check(text: &[u8]) -> u64
     ensures { result ≡ check_code text.now }
 {
-    let x = read::read_undated(Action::Check, text);
-    if x.ok { 0 } else { 64 }
+    match read::read_undated(Action::Check, text) {
+        Some(_) => 0,
+        None => 64,
+    }
 }
 
-// Takes the answer to a request of this action and receipt; a fault keeps all.
+// Takes the answer to a request of this action and receipt; a fault keeps all. The number is what `roosteryore_take_payment_answer` and the like give to C.
 #[tactic(auto, using(crate::proofs::AnsweringLaws::take_answer_laws))]
 pub fn take_answer(
     nums: &mut [[u64; 6]],

@@ -13,6 +13,7 @@ pub enum Meaning {
 }
 
 // A payment's or a status' answer.
+#[tactic(auto, unfolding(crate::specs::Answering::payment_meaning))]
 pub(crate) fn payment_meaning(code: u64) -> Meaning
     ensures { result ≡ payment_meaning code }
 {
@@ -24,64 +25,44 @@ pub(crate) fn payment_meaning(code: u64) -> Meaning
 }
 
 // A cancel's answer.
+#[tactic(auto, unfolding(crate::specs::Answering::cancel_meaning))]
 pub(crate) fn cancel_meaning(code: u64) -> Meaning
     ensures { result ≡ cancel_meaning code }
 {
     match code {
-        0 => Meaning::Revoked,
-        7 => Meaning::Revoked,
+        0 | 7 => Meaning::Revoked,
         _ => Meaning::Silent,
     }
 }
 
 // What an answer to the action says.
+#[tactic(auto, unfolding(crate::specs::Answering::meaning))]
 pub(crate) fn meaning_of(a: Action, code: u64) -> Meaning
     ensures { result ≡ meaning a code }
 {
     match a {
         Action::Check => Meaning::Silent,
-        Action::Payment => payment_meaning(code),
-        Action::Status => payment_meaning(code),
+        Action::Payment | Action::Status => payment_meaning(code),
         Action::Cancel => cancel_meaning(code),
     }
 }
 
 // The state that it leaves.
+#[tactic(auto, unfolding(crate::specs::Answering::turned))]
 pub(crate) fn turn(m: Meaning, s: State) -> State
     ensures { result ≡ turned m s }
 {
-    match m {
-        Meaning::Paid => match s {
-            State::Asked => State::Credited,
-            State::Credited => State::Credited,
-            State::CancelAsked => State::CancelAsked,
-            State::Cancelled => State::Cancelled,
-            State::Unposted => State::Unposted,
-        },
-        Meaning::Revoked => match s {
-            State::Asked => State::Cancelled,
-            State::Credited => State::Credited,
-            State::CancelAsked => State::Cancelled,
-            State::Cancelled => State::Cancelled,
-            State::Unposted => State::Unposted,
-        },
-        Meaning::Silent => s,
+    match (m, s) {
+        (Meaning::Paid, State::Asked) => State::Credited,
+        (Meaning::Revoked, State::Asked | State::CancelAsked) => State::Cancelled,
+        _ => s,
     }
 }
 
 // Whether it turns asked to credited.
+#[tactic(auto, unfolding(crate::specs::Answering::credits))]
 pub(crate) fn is_credit(m: Meaning, s: State) -> bool
     ensures { result ≡ credits m s }
 {
-    match m {
-        Meaning::Paid => match s {
-            State::Asked => true,
-            State::Credited => false,
-            State::CancelAsked => false,
-            State::Cancelled => false,
-            State::Unposted => false,
-        },
-        Meaning::Revoked => false,
-        Meaning::Silent => false,
-    }
+    matches!((m, s), (Meaning::Paid, State::Asked))
 }

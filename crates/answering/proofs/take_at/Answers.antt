@@ -3,5 +3,5 @@ use Rattle.answering.proofs.take_at.Goals as goal
 
 pub returns : goal.returns
 returns c =
-    at-answered _ _ _ _ _ _ c.read_undated-x.ensures c.if-not-x.false c.requires.1 _ c.load_entry-e.ensures.value _ c.is_frozen.ensures
+    at-answered _ _ _ _ _ _ c.in-Some.ensures c.requires.1 _ c.load_entry-e.ensures.value _ c.is_frozen.ensures
     _ _ _ c.if-is_frozen.false c.requires.0 c.meaning_of-m.ensures c.answered_entry.ensures c.store_entry.ensures
