@@ -2,16 +2,14 @@
 use Prim.Native.Nat.{ℕ, suc, ◌+◌, ◌*◌, ◌<◌, ◌≤◌}
 use native.Mathlib.Nat.{add-zero}
 use native.Mathlib.Omega.{arith}
-use mathlib.Core.Path.{◌≡◌, sym, ap, ◌∙◌}
+use mathlib.Core.Path.{◌≡◌, refl, sym, ap, ◌∙◌}
 use mathlib.Core.Bool.{Bool, true, false, cond, not, ◌&&◌}
 use mathlib.Core.List.{List, [], ◌∷◌, ◌++◌, map}
-use lib.Dec.{eqb}
 use lib.ListN.{length, drop, length-append, drop_of_length-le}
-use borrow.Author.Tests.{le-leb, lt-leb, not-true, not-false}
 use Rattle.days.specs.declared.calendar.Day.{Day}
 use Rattle.texts.specs.Lists.{written, cursor_after}
 use Rattle.fields.specs.Amount.{is_amount}
-use Rattle.days.specs.Calendar.{is_day, day_before, on_day}
+use Rattle.days.specs.Calendar.{on_day}
 use Rattle.fields.specs.Codes.{is_receipt, is_kind}
 use Rattle.dates.specs.Date.{date_day, is_written}
 use Rattle.fields.specs.Number.{is_number}
@@ -24,22 +22,11 @@ use Rattle.registry.specs.Registry.{registry_bytes}
 use Rattle.lines.proofs.LineParts.{line-is, text-is, line-length}
 use Rattle.book.specs.declared.Book.{Book}
 use Rattle.book.specs.declared.Entry.{Entry}
-use Rattle.book.specs.declared.State.TheVariants.{Cancelled}
-use Rattle.book.specs.Entries.{BookRows, state_number, is_cancelled, entry_at, entries_of}
+use Rattle.book.specs.Entries.{BookRows, is_cancelled, entry_at, entries_of}
 use Rattle.book_validity.specs.BookValid.{entry_fields, in_turn, entry_good, day_count, days_good, book_lent, book_head, book_good}
 use Rattle.book.proofs.EntryLaws.{length-entries, entries-rest}
 use Rattle.book_validity.proofs.BookLaws.{fields-dated, good_book}
-use Rattle.listing.specs.Listing.{is_listed, listed, entry_line, registry_of, Listing, unlisted, list_on, write_registry}
-
--- ---- the test
-module _ (day : Day) (e : Entry) (o : Bool) (eo : o ≡ on_day day (date_day e.date)) where
-  pub listed-other-day : not o ≡ true → false ≡ is_listed day e
-  unfolding is_listed
-  listed-other-day h = rw (← eo, not-true o h)
-
-  pub listed-uncancelled : (s : ℕ) → not o ≡ false → s ≡ state_number Cancelled → not (eqb e.state s) ≡ is_listed day e
-  unfolding is_listed
-  listed-uncancelled s h es = rw (← eo, not-false o h, es)
+use Rattle.listing.specs.Listing.{is_listed, listed, entry_line, registry_of}
 
 -- ---- one entry before others
 module _ (day : Day) (e : Entry) (es : List Entry) where
@@ -96,103 +83,64 @@ pub registry-few : (b : Book) (t : BookRows) (day : Day) → book_good b t ≡ t
 registry-few b t day h =
     omega (arith, registry-size b day 0 (entries_of t b.used) (entries-all b t h), (good_book b t h).days day)
 
--- ---- a writing keeps the buffer's length
-pub line-kept : (out₀ out : List ℕ) (at : ℕ) (x : Line) (d : List ℕ) → d ≡ written out at (line_text x) → length out ≡ length out₀ → length d ≡ length out₀
-line-kept out₀ out at x d ed h = ap length ed ∙ written-length out at (line_text x) ∙ h
-
 -- ---- a loop that has written the lines of the first i entries: what is left to write gives the whole
+pub record LinesLeft (day : Day) (es : List Entry) (out₀ out : List ℕ) (at i : ℕ) : Type 0 where
+  pub room : at + length (registry_of day (drop i es)) ≤ length out
+  pub cursor : cursor_after out₀ 0 (registry_of day es) ≡ cursor_after out at (registry_of day (drop i es))
+  pub text : written out₀ 0 (registry_of day es) ≡ written out at (registry_of day (drop i es))
+
 module _ (b : Book) (t : BookRows) (day : Day) where
   abbrev es : List Entry
   es = entries_of t b.used
 
-  pub lines_start : (out : List ℕ) → book_good b t ≡ true → 65536 ≤ length out → 0 + length (registry_of day es) ≤ length out
-  lines_start out g l = omega (arith, registry-few b t day g)
+  pub lines_start : (out : List ℕ) → book_good b t ≡ true → 65536 ≤ length out → LinesLeft day es out out 0 0
+  lines_start out g l = record { room = omega (arith, registry-few b t day g); cursor = refl; text = refl }
 
-  module _ (i : ℕ) (e : Entry) (h : i < b.used) (is : e ≡ entry_at t i) (l : Bool) (el : l ≡ is_listed day e) where
-    module _ (n : not l ≡ true) where
-      skip : registry_of day (drop i es) ≡ registry_of day (drop (i + 1) es)
-      skip = ap (registry_of day) (entries-rest t b.used i e h is) ∙ registry-skip day e (drop (i + 1) es) (sym el ∙ not-true l n)
+  module _ {out₀ out : List ℕ} {at i : ℕ} (left : LinesLeft day es out₀ out at i) where
+    module _ (e : Entry) (h : i < b.used) (is : e ≡ entry_at t i) (l : Bool) (el : l ≡ is_listed day e) where
+      pub lines-skip : l ≡ false → (p : ℕ) → p ≡ at → (d : List ℕ) → d ≡ out → LinesLeft day es out₀ d p (i + 1)
+      lines-skip n p ep d ed =
+          let skip : registry_of day (drop i es) ≡ registry_of day (drop (i + 1) es) = ap (registry_of day) (entries-rest t b.used i e h is) ∙ registry-skip day e (drop (i + 1) es) (sym el ∙ n) in
+          rw (ep, ed) (record { room = rw (← skip) left.room; cursor = left.cursor ∙ rw skip; text = left.text ∙ rw skip })
 
-      pub skip-room : (out : List ℕ) (at : ℕ) → at + length (registry_of day (drop i es)) ≤ length out → at + length (registry_of day (drop (i + 1) es)) ≤ length out
-      skip-room out at m = rw (← skip) m
+      module _ (y : l ≡ true) (good : book_good b t ≡ true) (x : Line) (ex : x ≡ entry_line e)
+          (p : ℕ) (ep : p ≡ cursor_after out at (line_text x)) (d : List ℕ) (ed : d ≡ written out at (line_text x)) where
+        text : line_text x ≡ line_bytes (entry_line e)
+        text =
+            ap line_text ex
+            ∙ text-is (entry_line e) (entry-line e (in-range b t good i h e is))
 
-      pub skip-cursor : (out₀ out : List ℕ) (at : ℕ) → cursor_after out₀ 0 (registry_of day es) ≡ cursor_after out at (registry_of day (drop i es))
-          → cursor_after out₀ 0 (registry_of day es) ≡ cursor_after out at (registry_of day (drop (i + 1) es))
-      skip-cursor out₀ out at m = m ∙ rw skip
+        line : registry_of day (drop i es) ≡ line_text x ++ registry_of day (drop (i + 1) es)
+        line =
+            ap (registry_of day) (entries-rest t b.used i e h is)
+            ∙ registry-line day e (drop (i + 1) es) (sym el ∙ y)
+            ∙ ap (λ (s : List ℕ). s ++ registry_of day (drop (i + 1) es)) (sym text)
 
-      pub skip-written : (out₀ out : List ℕ) (at : ℕ) → written out₀ 0 (registry_of day es) ≡ written out at (registry_of day (drop i es))
-          → written out₀ 0 (registry_of day es) ≡ written out at (registry_of day (drop (i + 1) es))
-      skip-written out₀ out at m = m ∙ rw skip
+        room-both : at + (length (line_text x) + length (registry_of day (drop (i + 1) es))) ≤ length out
+        room-both = let m : length (registry_of day (drop i es)) ≡ length (line_text x) + length (registry_of day (drop (i + 1) es)) = ap length line ∙ length-append (line_text x) _ in omega (arith, left.room)
 
-    module _ (n : not l ≡ false) (good : book_good b t ≡ true) (x : Line) (ex : x ≡ entry_line e)
-        (out : List ℕ) (at : ℕ) (room : at + length (registry_of day (drop i es)) ≤ length out)
-        (p : ℕ) (ep : p ≡ cursor_after out at (line_text x)) (d : List ℕ) (ed : d ≡ written out at (line_text x)) where
-      text : line_text x ≡ line_bytes (entry_line e)
-      text =
-          ap line_text ex
-          ∙ text-is (entry_line e) (entry-line e (in-range b t good i h e is))
+        line-room : p + length (registry_of day (drop (i + 1) es)) ≤ length d
+        line-room =
+            let f : at + length (line_text x) ≤ length out = omega (arith, room-both) in
+            let q : at + length (line_text x) ≡ p = cursor-moves out at (line_text x) f ∙ sym ep in
+            let k : length d ≡ length out = ap length ed ∙ written-length out at (line_text x) in
+            omega (arith, room-both)
 
-      line : registry_of day (drop i es) ≡ line_text x ++ registry_of day (drop (i + 1) es)
-      line =
-          ap (registry_of day) (entries-rest t b.used i e h is)
-          ∙ registry-line day e (drop (i + 1) es) (sym el ∙ not-false l n)
-          ∙ ap (λ (s : List ℕ). s ++ registry_of day (drop (i + 1) es)) (sym text)
+        pub lines-line : LinesLeft day es out₀ d p (i + 1)
+        lines-line =
+            record {
+              room = line-room;
+              cursor = left.cursor ∙ ap (cursor_after out at) line ∙ sym (cursor-then out at (line_text x) (registry_of day (drop (i + 1) es)) room-both) ∙ rw (ep, ed);
+              text = left.text ∙ ap (written out at) line ∙ sym (written_then out at (line_text x) (registry_of day (drop (i + 1) es)) room-both) ∙ rw (ep, ed);
+            }
 
-      room-both : at + (length (line_text x) + length (registry_of day (drop (i + 1) es))) ≤ length out
-      room-both = let m : length (registry_of day (drop i es)) ≡ length (line_text x) + length (registry_of day (drop (i + 1) es)) = ap length line ∙ length-append (line_text x) _ in omega arith
-
-      pub line-room : p + length (registry_of day (drop (i + 1) es)) ≤ length d
-      line-room =
-          let f : at + length (line_text x) ≤ length out = omega (arith, room-both) in
-          let q : at + length (line_text x) ≡ p = cursor-moves out at (line_text x) f ∙ sym ep in
-          let k : length d ≡ length out = ap length ed ∙ written-length out at (line_text x) in
-          omega (arith, room-both)
-
-      pub line-cursor : (out₀ : List ℕ) → cursor_after out₀ 0 (registry_of day es) ≡ cursor_after out at (registry_of day (drop i es))
-          → cursor_after out₀ 0 (registry_of day es) ≡ cursor_after d p (registry_of day (drop (i + 1) es))
-      line-cursor out₀ m = m ∙ ap (cursor_after out at) line ∙ sym (cursor-then out at (line_text x) (registry_of day (drop (i + 1) es)) room-both) ∙ rw (ep, ed)
-
-      pub line-written : (out₀ : List ℕ) → written out₀ 0 (registry_of day es) ≡ written out at (registry_of day (drop i es))
-          → written out₀ 0 (registry_of day es) ≡ written d p (registry_of day (drop (i + 1) es))
-      line-written out₀ m = m ∙ ap (written out at) line ∙ sym (written_then out at (line_text x) (registry_of day (drop (i + 1) es)) room-both) ∙ rw (ep, ed)
-
-  module _ (out₀ out : List ℕ) (at i : ℕ) (room : at + length (registry_of day (drop i es)) ≤ length out) (h : b.used ≤ i) where
-    none : registry_of day (drop i es) ≡ []
+    pub lines-end : b.used ≤ i → (at ≡ cursor_after out₀ 0 (registry_of day es)) × (out ≡ written out₀ 0 (registry_of day es))
     unfolding registry_of listed registry_bytes
-    none = let l : length es ≤ i = omega (arith, length-entries t b.used) in ap (registry_of day) (drop_of_length-le es l)
-
-    fits : at + 0 ≤ length out
-    fits = let m : length (registry_of day (drop i es)) ≡ 0 = ap length none in omega arith
-
-    pub lines-cursor : cursor_after out₀ 0 (registry_of day es) ≡ cursor_after out at (registry_of day (drop i es)) → at ≡ cursor_after out₀ 0 (registry_of day es)
-    lines-cursor m = sym (m ∙ ap (cursor_after out at) none ∙ sym (cursor-moves out at [] fits) ∙ add-zero at)
-
-    pub lines-written : written out₀ 0 (registry_of day es) ≡ written out at (registry_of day (drop i es)) → out ≡ written out₀ 0 (registry_of day es)
-    lines-written m = sym (m ∙ ap (written out at) none ∙ sym (written_over out at [] fits) ∙ over_none out at)
-
--- ---- the call; r is what is answered and left
-module _ (b : Book) (t : BookRows) (day : Day) (out : List ℕ) (r : Listing) (g : Bool) (eg : g ≡ book_good b t) where
-  pub registry-not-book : not g ≡ true → r ≡ unlisted 68 out → r ≡ write_registry b t day out
-  unfolding write_registry
-  registry-not-book h q = q ∙ rw (← eg, not-true g h)
-
-  module _ (h : not g ≡ false) where
-    pub registry-no-room : length out < 65536 → r ≡ unlisted 50 out → r ≡ write_registry b t day out
-    unfolding write_registry
-    registry-no-room l q = q ∙ rw (← eg, not-false g h, lt-leb _ _ l)
-
-    module _ (l : 65536 ≤ length out) (v : Bool) (ev : v ≡ is_day day) where
-      pub registry-no-date : not v ≡ true → r ≡ unlisted 55 out → r ≡ write_registry b t day out
-      unfolding write_registry list_on
-      registry-no-date c q = q ∙ rw (← eg, not-false g h, le-leb _ _ l, ← ev, not-true v c)
-
-      module _ (c : not v ≡ false) (f : Bool) (ef : f ≡ day_before b.frozen day) where
-        pub registry-later : f ≡ true → r ≡ unlisted 55 out → r ≡ write_registry b t day out
-        unfolding write_registry list_on
-        registry-later k q = q ∙ rw (← eg, not-false g h, le-leb _ _ l, ← ev, not-false v c, ← ef, k)
-
-        pub registry-made : f ≡ false → (size : ℕ) → size ≡ cursor_after out 0 (registry_of day (entries_of t b.used))
-            → (left : List ℕ) → left ≡ written out 0 (registry_of day (entries_of t b.used))
-            → r ≡ record { code = 0; out = left; size = size } → r ≡ write_registry b t day out
-        unfolding write_registry list_on
-        registry-made k size es left el q = q ∙ rw (← eg, not-false g h, le-leb _ _ l, ← ev, not-false v c, ← ef, k, es, el)
+    lines-end h =
+        let l : length es ≤ i = omega (arith, length-entries t b.used) in
+        let none : registry_of day (drop i es) ≡ [] = ap (registry_of day) (drop_of_length-le es l) in
+        let m : length (registry_of day (drop i es)) ≡ 0 = ap length none in
+        let fits : at + 0 ≤ length out = omega (arith, left.room) in (
+          sym (left.cursor ∙ ap (cursor_after out at) none ∙ sym (cursor-moves out at [] fits) ∙ add-zero at),
+          sym (left.text ∙ ap (written out at) none ∙ sym (written_over out at [] fits) ∙ over_none out at),
+        )

@@ -19,29 +19,32 @@ use lines::line::Line;
 const REGISTRY_ROOM: usize = 65536;
 
 // Whether the day's registry lists an entry whose date is known to be written.
+#[tactic(auto, unfolding(crate::specs::Listing::is_listed))]
 pub fn is_listed(day: Day, e: Entry) -> bool
     requires { is_written e.date ≡ true }
     ensures { result ≡ is_listed day e }
 {
-    let written = e.date;
-    if !date::written_on(day, written) {
-        return false;
-    }
-    e.state != states::state_number(State::Cancelled)
+    date::written_on(day, e.date) && e.state != states::state_number(State::Cancelled)
 }
 
 // The line of an entry.
 pub(crate) fn entry_line(e: Entry) -> Line
     ensures { result ≡ entry_line e }
 {
-    let number = e.number;
-    let date = e.date;
+    let Entry {
+        number,
+        kind,
+        date,
+        amount,
+        receipt,
+        ..
+    } = e;
     Line {
         number,
-        kind: e.kind,
+        kind,
         date,
-        amount: e.amount,
-        receipt: e.receipt,
+        amount,
+        receipt,
     }
 }
 
@@ -59,23 +62,18 @@ pub(crate) fn write_lines(
     ensures { (result ≡ cursor_after out.old 0 (registry_of day (entries_of (lent_book nums.now numbers.now dates.now) b.used)))
         × (out.new ≡ written out.old 0 (registry_of day (entries_of (lent_book nums.now numbers.now dates.now) b.used))) }
 {
-    let used = b.used;
     let mut at: usize = 0;
-    let mut i: usize = 0;
-    while i < used {
+    for i in 0..b.used {
         let e = rows::load_entry(nums, numbers, dates, i);
-        if !is_listed(day, e) {
-            i += 1;
-            continue;
+        if is_listed(day, e) {
+            at = entry_line(e).put(out, at);
         }
-        let x = entry_line(e);
-        at = x.put(out, at);
-        i += 1;
     }
     at
 }
 
 // Writes the registry of a day up to the frozen one, alike each time; a fault keeps all.
+#[tactic(auto, unfolding(crate::specs::Listing::write_registry, crate::specs::Listing::list_on))]
 pub fn write_registry(
     nums: &[[u64; 6]],
     numbers: &[[u8; 30]],
@@ -92,11 +90,7 @@ pub fn write_registry(
     if out.len() < REGISTRY_ROOM {
         return Writing { code: 50, size: 0 };
     }
-    if !day.is_valid() {
-        return Writing { code: 55, size: 0 };
-    }
-    let frozen = book.frozen;
-    if frozen.before(day) {
+    if !day.is_valid() || book.frozen.before(day) {
         return Writing { code: 55, size: 0 };
     }
     let size = write_lines(nums, numbers, dates, book, day, out);
