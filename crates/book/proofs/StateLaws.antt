@@ -1,22 +1,15 @@
 -- The states of an entry and their numbers.
-use mathlib.Core.Path.{◌≡◌, refl, sym, ap, ◌∙◌}
+use mathlib.Core.Path.{◌≡◌, refl}
 use mathlib.Core.Bool.{Bool, true, false}
 use Prim.Native.Nat.{ℕ, zero, suc}
 use native.Mathlib.Omega.{arith}
 use lib.Dec.{leb}
-use borrow.Author.Tests.{ne_eqb, leb-true}
+use borrow.Author.Tests.{leb-true}
 use Rattle.texts.specs.Digits.{within}
 use Rattle.texts.proofs.Tests.{and_right, no-claim}
 use Rattle.book.specs.declared.State.{State}
 use Rattle.book.specs.declared.State.TheVariants.{Asked, Credited, CancelAsked, Cancelled, Unposted}
 use Rattle.book.specs.Entries.{state_number, state_of}
-
-pub state-at : (n m : ℕ) (s : State) → n ≡ m → s ≡ state_of m → s ≡ state_of n
-state-at n m s e q = q ∙ ap state_of (sym e)
-
-pub state-last : (n : ℕ) → (n ≡ 1 → ⊥) → (n ≡ 2 → ⊥) → (n ≡ 3 → ⊥) → (n ≡ 4 → ⊥) → Unposted ≡ state_of n
-unfolding state_of
-state-last n a b c d = rw (ne_eqb _ _ a, ne_eqb _ _ b, ne_eqb _ _ c, ne_eqb _ _ d)
 
 -- each reads the other back
 pub state-again : (s : State) → state_of (state_number s) ≡ s

@@ -28,7 +28,7 @@ pub struct Book {
     pub settled: bool,
 }
 
-#[derive(Clone, Copy)]
+#[derive(Clone, Copy, Debug, PartialEq, Eq)]
 pub enum State {
     Asked,
     Credited,

@@ -11,18 +11,18 @@ fn entry_of(w: [u64; 6], bytes: [u8; 30], date: [u8; 19]) -> Entry
     ensures value { result ≡ entry_from w bytes date }
     ensures w_len { length w ≡ 6 }
 {
-    let number = Number {
-        bytes: bytes,
-        len: w[1] as usize,
-    };
+    let [receipt, len, kind, amount, state, authcode] = w;
     Entry {
-        receipt: w[0],
-        number: number,
-        kind: w[2],
-        amount: w[3],
-        date: date,
-        state: w[4],
-        authcode: w[5],
+        receipt,
+        number: Number {
+            bytes,
+            len: len as usize,
+        },
+        kind,
+        amount,
+        date,
+        state,
+        authcode,
     }
 }
 
@@ -33,10 +33,7 @@ pub fn load_entry(nums: &[[u64; 6]], numbers: &[[u8; 30]], dates: &[[u8; 19]], i
     ensures i_len { length (get_or nums.now i []) ≡ 6 }
     ensures bytes_len { (length result.number.bytes ≡ 30) × (length result.date ≡ 19) }
 {
-    let w = nums[i];
-    let bytes = numbers[i];
-    let d = dates[i];
-    entry_of(w, bytes, d)
+    entry_of(nums[i], numbers[i], dates[i])
 }
 
 // Puts e at i.
@@ -50,12 +47,12 @@ pub fn store_entry(
     requires { (i < length nums.old) × (i < length numbers.old) × (i < length dates.old) }
     ensures { lent_book nums.new numbers.new dates.new ≡ book_with (lent_book nums.old numbers.old dates.old) i e }
 {
-    let number = e.number;
-    let len = number.len as u64;
-    let w = [e.receipt, len, e.kind, e.amount, e.state, e.authcode];
-    nums[i] = w;
-    let bytes = number.bytes;
+    let Entry {
+        number: Number { bytes, len },
+        date,
+        ..
+    } = e;
+    nums[i] = [e.receipt, len as u64, e.kind, e.amount, e.state, e.authcode];
     numbers[i] = bytes;
-    let date = e.date;
     dates[i] = date;
 }
