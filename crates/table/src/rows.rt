@@ -50,10 +50,15 @@ pub fn store(
     requires { (i < length nums.old) × (i < length numbers.old) × (i < length dates.old) }
     ensures { lent nums.new numbers.new dates.new ≡ rows_with (lent nums.old numbers.old dates.old) i r }
 {
-    let Number { bytes, len } = r.number;
+    let Record {
+        number: Number { bytes, len },
+        date,
+        credit,
+        cancel,
+        ..
+    } = r;
     nums[i] = [r.receipt, len as u64, r.kind, r.amount, r.state, r.authcode];
     numbers[i] = bytes;
-    let (date, credit, cancel) = (r.date, r.credit, r.cancel);
     dates[i] = [date, credit, cancel];
 }
 
