@@ -3,9 +3,11 @@ use Rattle.days.specs.declared.calendar.Day.{Day}
 use Rattle.std.specs.Prelude.{ℕ, List, Bool, true, cond, ◌&&◌, eqb, leb, replicate, Option, Some, None}
 use Rattle.texts.specs.Digits.{digits_read}
 use Rattle.fields.specs.Codes.{kind_read}
-use Rattle.fields.specs.Number.{number_read}
+use Rattle.std.specs.Option.{unwrap_or}
+use Rattle.fields.specs.declared.number.Number.{Number}
+use Rattle.fields.specs.Number.{empty_number, number_read}
 use Rattle.days.specs.Calendar.{day_fault, day_read}
-use Rattle.dates.specs.Date.{date_read}
+use Rattle.dates.specs.Date.{empty_date, date_read}
 use Rattle.table.specs.declared.Gate.{Gate}
 use Rattle.table.specs.Table.{Rows, records_of}
 use Rattle.table.specs.Columns.{Columns, gate_of}
@@ -59,19 +61,21 @@ start_on x t d = record { code = day_fault 99 d; console = start_at x d; rows = 
 unfoldable pub start_turn : Console → Rows → List ℕ → Turn
 start_turn x t l = cond (has_letter 67 l && eqb (field_count l) 2) (start_on x t (day_read (field_at 1 l))) (unread x t)
 
--- a type that is malformed, as a type that is none
-abbrev pub kind_in : Option ℕ → ℕ
-kind_in None = 1000
-kind_in (Some k) = k
+-- the account that a line names: a number that is malformed is one without bytes, and a type that is malformed one that there is not
+abbrev pub number_in : List ℕ → Number
+number_in l = unwrap_or (number_read (field_at 1 l)) empty_number
+
+abbrev pub kind_in : List ℕ → ℕ
+kind_in l = unwrap_or (kind_read (field_at 2 l)) 1000
 
 -- O number type
 unfoldable pub open_turn : Console → Rows → List ℕ → Turn
-open_turn x t l = replied t (open_account x.gate t (number_read (field_at 1 l)).number (kind_in (kind_read (field_at 2 l))))
+open_turn x t l = replied t (open_account x.gate t (number_in l) (kind_in l))
 
 -- D number type kopecks: kopecks are 1 to 15 digits
 abbrev pub draw_of : Console → Rows → List ℕ → Option ℕ → Turn
 draw_of x t l None = unread x t
-draw_of x t l (Some n) = replied t (draw_funds x.gate t (number_read (field_at 1 l)).number (kind_in (kind_read (field_at 2 l))) n)
+draw_of x t l (Some n) = replied t (draw_funds x.gate t (number_in l) (kind_in l) n)
 
 unfoldable pub draw_turn : Console → Rows → List ℕ → Turn
 draw_turn x t l = draw_of x t l (digits_read 15 (field_at 3 l))
@@ -80,8 +84,12 @@ draw_turn x t l = draw_of x t l (digits_read 15 (field_at 3 l))
 abbrev pub answered : Delivery → Turn
 answered d = record { code = d.code; console = record { started = true; gate = d.gate }; rows = d.rows; shown = Figures }
 
+-- a clock that is malformed is nineteen zeros
+abbrev pub clock_in : List ℕ → List ℕ
+clock_in l = unwrap_or (date_read (field_at 1 l)) empty_date
+
 unfoldable pub ask_turn : Console → Rows → List ℕ → Turn
-ask_turn x t l = answered (deliver x.gate t (date_read (field_at 1 l)).date (params_in l) (replicate 512 0))
+ask_turn x t l = answered (deliver x.gate t (clock_in l) (params_in l) (replicate 512 0))
 
 -- P day: a day that is a date is printed; as with every call, not from a table that is out of its ranges
 abbrev pub list_of : Console → Rows → Option Day → Turn

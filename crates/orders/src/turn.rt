@@ -1,13 +1,11 @@
 // What a line of a session does.
 ghost use Rattle.std.specs.Prelude.{◌≡◌, true};
-ghost use Rattle.fields.specs.Codes.{kind_read};
-ghost use Rattle.fields.specs.Number.{number_read};
 ghost use Rattle.table.specs.Table.{Rows};
 ghost use Rattle.table.specs.Lent.{lent};
 ghost use Rattle.table.specs.Columns.{Columns, columns_of};
 ghost use Rattle.opening.specs.Opening.{lent_reply};
-ghost use Rattle.line_fields.specs.LineFields.{field_at};
-ghost use Rattle.orders.specs.Order.{console_of, turn_of, unread, replied, kind_in, start_turn, open_turn, draw_turn, ask_turn, list_turn, order_turn, line_turn};
+ghost use Rattle.orders.specs.declared.turn.Shown.TheVariants.{Figures};
+ghost use Rattle.orders.specs.Order.{console_of, turn_of, unread, replied, number_in, kind_in, start_turn, open_turn, draw_turn, ask_turn, list_turn, order_turn, line_turn};
 
 use crate::ConsoleHead;
 use dates::date;
@@ -17,6 +15,7 @@ use fields::number::Number;
 use fields::{codes, number};
 use gate::deliver;
 use ledger::HeadReply;
+use table::Head;
 use texts::digits;
 use validity::valid;
 
@@ -44,7 +43,7 @@ struct Subject {
 
 // A line that is not understood.
 fn not_read(x: ConsoleHead) -> Turn
-    ensures { (a : Columns) (t : Rows) → turn_of result a t ≡ unread (console_of x a) t }
+    ensures { (result.code ≡ 99) × (result.console ≡ x) × (result.shown ≡ Figures) }
 {
     Turn {
         code: 99,
@@ -55,40 +54,33 @@ fn not_read(x: ConsoleHead) -> Turn
 
 // What a call at the gate answers.
 fn answered(r: HeadReply) -> Turn
-    ensures { (a : Columns) (t : Rows) → turn_of result a t ≡ replied t (lent_reply r a) }
+    ensures { (result.code ≡ r.code) × (result.console ≡ record { started = true; head = r.head }) × (result.shown ≡ Figures) }
 {
-    let head = r.head;
     Turn {
         code: r.code,
         console: ConsoleHead {
             started: true,
-            head,
+            head: r.head,
         },
         shown: Shown::Figures,
     }
 }
 
-// A malformed type counts as one that there is not.
-fn kind_in(d: Option<u64>) -> u64
-    ensures { result ≡ kind_in d }
-{
-    match d {
-        Some(k) => k,
-        None => 1000,
-    }
-}
-
-// Number and type in the fields of an opening and of a draw.
+// Number and type in the fields of an opening and of a draw: without bytes where the number is malformed, and one that there is not where the type is.
 fn subject_of(line: &[u8]) -> Subject
-    ensures { (result.number ≡ (number_read (field_at 1 line.now)).number) × (result.kind ≡ kind_in (kind_read (field_at 2 line.now))) }
+    ensures { (result.number ≡ number_in line.now) × (result.kind ≡ kind_in line.now) }
 {
-    let n = number::read_number(line_fields::field_at(line, 1));
-    let kind = kind_in(codes::read_kind(line_fields::field_at(line, 2)));
-    let number = n.number;
+    let none = Number {
+        bytes: [0; 30],
+        len: 0,
+    };
+    let number = number::read_number(line_fields::field_at(line, 1)).unwrap_or(none);
+    let kind = codes::read_kind(line_fields::field_at(line, 2)).unwrap_or(1000);
     Subject { number, kind }
 }
 
 // C: a day starts the session.
+#[tactic(auto, unfolding(crate::specs::Order::start_turn))]
 fn start_turn(x: ConsoleHead, line: &[u8]) -> Turn
     ensures { (a : Columns) (t : Rows) → turn_of result a t ≡ start_turn (console_of x a) t line.now }
 {
@@ -98,16 +90,18 @@ fn start_turn(x: ConsoleHead, line: &[u8]) -> Turn
     let Some(d) = calendar::read_day(line_fields::field_at(line, 1)) else {
         return not_read(x);
     };
-    let mut head = x.head;
-    head.closed = d;
     answered(HeadReply {
         code: 0,
-        head,
+        head: Head {
+            closed: d,
+            ..x.head
+        },
         size: 0,
     })
 }
 
 // O: an opening.
+#[tactic(auto, unfolding(crate::specs::Order::open_turn))]
 fn open_turn(
     nums: &[[u64; 6]],
     numbers: &[[u8; 30]],
@@ -128,6 +122,7 @@ fn open_turn(
 }
 
 // D: a draw, of kopecks in 1 to 15 digits.
+#[tactic(auto, unfolding(crate::specs::Order::draw_turn))]
 fn draw_turn(
     nums: &[[u64; 6]],
     numbers: &[[u8; 30]],
@@ -151,6 +146,7 @@ fn draw_turn(
 }
 
 // R: a request; its answer is not shown.
+#[tactic(auto, unfolding(crate::specs::Order::ask_turn))]
 fn ask_turn(
     nums: &mut [[u64; 6]],
     numbers: &mut [[u8; 30]],
@@ -165,15 +161,15 @@ fn ask_turn(
         ≡ ask_turn (console_of x (columns_of names.now keys.now balances.old)) (lent nums.old numbers.old dates.old) line.now }
 {
     let mut out = [0u8; 512];
-    let d = date::read_date(line_fields::field_at(line, 1));
+    let clock = date::read_date(line_fields::field_at(line, 1)).unwrap_or([0; 19]);
     let params = line_fields::params_in(line);
-    let clock = d.date;
     answered(deliver::deliver_lent(
         nums, numbers, dates, names, keys, balances, x.head, clock, params, &mut out,
     ))
 }
 
 // P: the payments of a day are printed.
+#[tactic(auto, unfolding(crate::specs::Order::list_turn))]
 fn list_turn(
     nums: &[[u64; 6]],
     numbers: &[[u8; 30]],
@@ -205,7 +201,7 @@ fn list_turn(
 }
 
 // A line of a started session, by its letter.
-#[tactic(auto, using(crate::proofs::TurnLaws::order_turn_laws))]
+#[tactic(auto, unfolding(crate::specs::Order::order_turn))]
 fn order_turn(
     nums: &mut [[u64; 6]],
     numbers: &mut [[u8; 30]],
@@ -220,21 +216,20 @@ fn order_turn(
         ≡ order_turn (console_of x (columns_of names.old keys.old balances.old)) (lent nums.old numbers.old dates.old) line.now }
 {
     if line_fields::has_form(line, b'O', 3) {
-        return open_turn(nums, numbers, dates, names, keys, balances, x, line);
+        open_turn(nums, numbers, dates, names, keys, balances, x, line)
+    } else if line_fields::has_form(line, b'D', 4) {
+        draw_turn(nums, numbers, dates, names, keys, balances, x, line)
+    } else if line_fields::has_least(line, b'R', 3) {
+        ask_turn(nums, numbers, dates, names, keys, balances, x, line)
+    } else if line_fields::has_form(line, b'P', 2) {
+        list_turn(nums, numbers, dates, names, keys, balances, x, line)
+    } else {
+        not_read(x)
     }
-    if line_fields::has_form(line, b'D', 4) {
-        return draw_turn(nums, numbers, dates, names, keys, balances, x, line);
-    }
-    if line_fields::has_least(line, b'R', 3) {
-        return ask_turn(nums, numbers, dates, names, keys, balances, x, line);
-    }
-    if line_fields::has_form(line, b'P', 2) {
-        return list_turn(nums, numbers, dates, names, keys, balances, x, line);
-    }
-    not_read(x)
 }
 
 // What a line does: the first of a session starts it.
+#[tactic(auto, unfolding(crate::specs::Order::line_turn))]
 pub fn line_turn(
     nums: &mut [[u64; 6]],
     numbers: &mut [[u8; 30]],
