@@ -3,10 +3,6 @@
 ghost use Rattle.std.specs.Prelude.{◌≡◌, ◌*◌, ◌%◌, ◌^◌};
 ghost use Rattle.generator.specs.Generator.{next_value, roll_of, rolls_from};
 
-use std::num;
-
-const HALF: u64 = 4294967296;
-
 const FACTOR: u64 = 6364136223846793005;
 
 const INCREMENT: u64 = 1442695040888963407;
@@ -21,29 +17,27 @@ pub struct Rolls {
     pub next: u64,
 }
 
-// a * b modulo 2^64, by halves of 32 bits: no product of two halves is over 64 bits, and the product of the upper ones is a multiple of 2^64.
+// a * b modulo 2^64.
 pub fn product(a: u64, b: u64) -> u64
     ensures { result ≡ (a * b) % 2 ^ 64 }
 {
-    let low = (a % HALF) * (b % HALF);
-    let first = (a / HALF) * (b % HALF) % HALF;
-    let second = (a % HALF) * (b / HALF) % HALF;
-    let carry = low / HALF;
-    (first + second + carry) % HALF * HALF + low % HALF
+    a.wrapping_mul(b)
 }
 
 // The value after v.
+#[tactic(auto, unfolding(crate::specs::Generator::next_value))]
 pub fn next_value(v: u64) -> u64
     ensures { result ≡ next_value v }
 {
-    num::wrapping_add_u64(product(v, FACTOR), INCREMENT)
+    product(v, FACTOR).wrapping_add(INCREMENT)
 }
 
 // The upper 32 bits of a value.
+#[tactic(auto, unfolding(crate::specs::Generator::roll_of))]
 pub fn roll_of(v: u64) -> u64
     ensures { result ≡ roll_of v }
 {
-    v / HALF
+    v >> 32
 }
 
 // Four values after v are the rolls of a step, whatever it uses of them.
