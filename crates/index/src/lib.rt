@@ -18,6 +18,7 @@ pub fn no_links() -> [u16; 4096]
 }
 
 // The slot of a key.
+#[tactic(auto, unfolding(crate::specs::Index::slot_of))]
 fn slot(key: u64) -> usize
     ensures { (result ≡ slot_of key) × (result < 8192) }
 {
@@ -25,20 +26,12 @@ fn slot(key: u64) -> usize
     (halves * 1640531527 / 524288 % 8192) as usize
 }
 
-// A link as a number.
-fn wide(link: u16) -> usize
-    ensures { result ≡ link }
-{
-    link as usize
-}
-
 // The link to the first place of a key's slot.
 pub fn first(heads: &[u16], key: u64) -> usize
     requires { length heads.now ≡ 8192 }
     ensures { result ≡ get_or heads.now (slot_of key) 0 }
 {
-    let s = slot(key);
-    wide(heads[s])
+    usize::from(heads[slot(key)])
 }
 
 // The link behind place i.
@@ -46,7 +39,7 @@ pub fn after(next: &[u16], i: usize) -> usize
     requires { i < length next.now }
     ensures { result ≡ get_or next.now i 0 }
 {
-    wide(next[i])
+    usize::from(next[i])
 }
 
 // Puts place i before the others of its key's slot.
