@@ -2,13 +2,13 @@
 use Rattle.std.specs.Prelude.{Option, Some, None}
 use mathlib.Core.Path.{◌≡◌, refl, sym, ap, subst⁻¹, ◌∙◌}
 use mathlib.Core.Logic.{◌≢◌}
-use mathlib.Core.Bool.{Bool, true, false, not, ◌&&◌}
+use mathlib.Core.Bool.{Bool, true, ◌&&◌}
 use mathlib.Core.List.{List}
 use Prim.Native.Nat.{ℕ, ◌+◌, ◌-◌, ◌<◌, ◌≤◌}
 use native.Mathlib.Decide.{ℕ_discrete}
 use native.Mathlib.Omega.{arith}
 use lib.ListN.{length, get_or, length-set}
-use borrow.Author.Tests.{eq-eqb, eqb-true, not-false}
+use borrow.Author.Tests.{eq-eqb, eqb-true}
 use Rattle.days.specs.declared.calendar.Day.{Day}
 use Rattle.days.specs.Calendar.{is_day}
 use Rattle.fields.specs.Amount.{is_amount}
@@ -64,9 +64,9 @@ module _ (b : Book) (t : BookRows) where
       ap (λ (e : Entry). in_turn b i e && entry_fields e) (sym (get_d-entries t b.used i (entry_at t i) l))
       ∙ (unfold entry_good in all-at (entry_good b) entries (entry_at t i) i h (omega (arith, length-entries t b.used)))
 
-  pub entries-dated : (g : Bool) → g ≡ all_from (entry_good b) 0 (entries_of t b.used) → not g ≡ false → Dated t b.used
-  entries-dated g eg n i l =
-      fields-dated (entry_at t i) (and_right (in_turn b i (entry_at t i)) (entry_fields (entry_at t i)) (each-good (sym eg ∙ not-false g n) i l))
+  pub entries-dated : all_good ≡ true → Dated t b.used
+  entries-dated good i l =
+      fields-dated (entry_at t i) (and_right (in_turn b i (entry_at t i)) (entry_fields (entry_at t i)) (each-good good i l))
 
   pub good_book : book_good b t ≡ true → GoodBook b t
   good_book h =
@@ -233,3 +233,5 @@ module _ (b : Book) (t : BookRows) (good : book_good b t ≡ true) (x : ℕ) whe
 
   pub entry_past : b.first ≤ x → b.used ≤ x - b.first → None ≡ find_entry x (entries_of t b.used)
   entry_past h k = outside b t x (good_book b t good) (λ i l q. omega arith)
+
+pub ruleset find_laws = (entry-before, entry_here, entry_past)

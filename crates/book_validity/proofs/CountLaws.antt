@@ -2,7 +2,7 @@
 use Rattle.std.specs.Prelude.{Option, Some, None}
 use mathlib.Core.Path.{◌≡◌, refl, sym, ap, ◌∙◌}
 use mathlib.Core.Logic.{◌⊎◌, inl, inr}
-use mathlib.Core.Bool.{Bool, true, false, cond, not}
+use mathlib.Core.Bool.{Bool, true, false, cond}
 use mathlib.Core.List.{List, [], ◌∷◌, ◌++◌}
 use Prim.Native.Nat.{ℕ, zero, suc, ◌+◌, ◌-◌, ◌^◌, ◌<◌, ◌≤◌}
 use native.Mathlib.Numerals.{add-one}
@@ -10,7 +10,7 @@ use native.Mathlib.Omega.{arith}
 use lib.Dec.{leb}
 use lib.ListN.{length, get_or, set, replicate, length-set, length-replicate, get_or-replicate}
 use lib.Seq.{get_or-set_same, get_or-set_other}
-use borrow.Author.Tests.{le-leb, leb-true, eq-eqb, not-true, not-false}
+use borrow.Author.Tests.{le-leb, leb-true, eq-eqb}
 use mir.Syntax.{w64}
 use mir.Val.{Fits}
 use Rattle.days.specs.declared.calendar.Day.{Day}
@@ -67,7 +67,7 @@ unfolding entries_of tab
 entries_next t i = ap (λ (k : ℕ). tab k (entry_at t)) (add-one i)
 
 module _ (d : Day) (t : BookRows) where
-  count_next : (i : ℕ) → day_count d (entries_of t (i + 1)) ≡ day_count d (entries_of t i) + cond (is_on d (entry_at t i)) 1 0
+  pub count_next : (i : ℕ) → day_count d (entries_of t (i + 1)) ≡ day_count d (entries_of t i) + cond (is_on d (entry_at t i)) 1 0
   count_next i = ap (day_count d) (entries_next t i) ∙ count-more d (entries_of t i) (entry_at t i)
 
   -- more entries are no fewer of the day
@@ -82,21 +82,8 @@ module _ (d : Day) (t : BookRows) where
 
   -- ---- a loop that has counted the first i entries
   module _ (i n : ℕ) (counted : n ≡ day_count d (entries_of t i)) where
-    module _ (e : Entry) (is : e ≡ entry_at t i) (b : Bool) (on : b ≡ on_day d (date_day e.date)) where
-      tested : is_on d (entry_at t i) ≡ b
-      tested = sym (on ∙ ap (is_on d) is)
-
-      pub count-off : not b ≡ true → n ≡ day_count d (entries_of t (i + 1))
-      count-off y = counted ∙ sym (count_next i ∙ rw (tested, not-true b y) (omega arith))
-
-      pub count-on : not b ≡ false → n + 1 ≡ day_count d (entries_of t (i + 1))
-      count-on y = let z : day_count d (entries_of t (i + 1)) ≡ day_count d (entries_of t i) + 1 = count_next i ∙ rw (tested, not-false b y) in omega arith
-
     pub count_fits : (u : ℕ) → i < u → u < 2 ^ 64 → Fits w64 (n + 1)
     count_fits u h k = record { fits = omega (arith, count-length d (entries_of t i), length-entries t i) }
-
-    pub count-end : (u : ℕ) → i ≤ u → u ≤ i → n ≡ day_count d (entries_of t u)
-    count-end u h k = let e : i ≡ u = omega arith in rw (← e) counted
 
 -- the date of an entry that was loaded
 pub date-known : (t : BookRows) (n i : ℕ) (e : Entry) → Dated t n → i < n → e ≡ entry_at t i → is_written e.date ≡ true
@@ -269,3 +256,5 @@ module _ (counts : List ℕ) (t : BookRows) (i : ℕ) (c : DayCounts counts (ent
 
 pub counts_end : (counts : List ℕ) (t : BookRows) (i u : ℕ) → DayCounts counts (entries_of t i) → i ≤ u → u ≤ i → true ≡ days_good (entries_of t u)
 counts_end counts t i u c h k = let e : i ≡ u = omega arith in rw (← e) (sym (days-kept (entries_of t i) c.few))
+
+pub ruleset count_laws = (date-known, count_none, count_next, count_fits)

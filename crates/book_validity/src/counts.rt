@@ -17,6 +17,7 @@ pub const DAY_MOST: usize = 512;
 const COUNT_MOST: u16 = 512;
 
 // How many of the first `used` entries are on the day.
+#[tactic(auto, using(crate::proofs::CountLaws::count_laws))]
 pub fn count_day(
     nums: &[[u64; 6]],
     numbers: &[[u8; 30]],
@@ -28,17 +29,12 @@ pub fn count_day(
     requires dated { Dated (lent_book nums.now numbers.now dates.now) used }
     ensures { result ≡ day_count day (entries_of (lent_book nums.now numbers.now dates.now) used) }
 {
-    let mut n: usize = 0;
-    let mut i: usize = 0;
-    while i < used {
+    let mut n = 0;
+    for i in 0..used {
         let e = rows::load_entry(nums, numbers, dates, i);
-        let written = e.date;
-        if !date::written_on(day, written) {
-            i += 1;
-            continue;
+        if date::written_on(day, e.date) {
+            n += 1;
         }
-        n += 1;
-        i += 1;
     }
     n
 }
@@ -48,10 +44,7 @@ fn day_slot(d: Day) -> usize
     requires { is_day d ≡ true }
     ensures { (result ≡ day_slot d) × (result < 38432) }
 {
-    let years = d.year as usize - 2000;
-    let month = d.month as usize;
-    let day = d.day as usize;
-    years * 384 + month * 32 + day
+    (usize::from(d.year) - 2000) * 384 + usize::from(d.month) * 32 + usize::from(d.day)
 }
 
 // A count of 0 for each slot.
@@ -76,17 +69,13 @@ pub(crate) fn days_good(
         return true;
     }
     let mut counts = no_counts();
-    let mut i: usize = 0;
-    while i < used {
+    for i in 0..used {
         let e = rows::load_entry(nums, numbers, dates, i);
-        let written = e.date;
-        let s = day_slot(date::written_day(written));
-        let before = counts[s];
-        if COUNT_MOST <= before {
+        let s = day_slot(date::written_day(e.date));
+        if COUNT_MOST <= counts[s] {
             return false;
         }
-        counts[s] = before + 1;
-        i += 1;
+        counts[s] += 1;
     }
     true
 }

@@ -7,6 +7,7 @@ ghost use Rattle.book_validity.specs.BookValid.{book_good};
 use book::Book;
 
 // The entry of a receipt: receipts are consecutive, so its place is known.
+#[tactic(auto, using(crate::proofs::BookLaws::find_laws))]
 pub fn find_entry(
     nums: &[[u64; 6]],
     numbers: &[[u8; 30]],
@@ -17,12 +18,10 @@ pub fn find_entry(
     requires { book_good b (lent_book nums.now numbers.now dates.now) ≡ true }
     ensures { result ≡ find_entry receipt (entries_of (lent_book nums.now numbers.now dates.now) b.used) }
 {
-    if receipt < b.first {
-        return None;
-    }
-    let place = receipt - b.first;
+    let place = receipt.checked_sub(b.first)?;
     if place < b.used as u64 {
-        return Some(place as usize);
+        Some(place as usize)
+    } else {
+        None
     }
-    None
 }

@@ -16,41 +16,26 @@ use texts::digits;
 const AUTHCODE_MOST: u64 = 999999999999999;
 
 // Whether the fields of an entry are in their ranges.
+#[tactic(auto, unfolding(crate::specs::BookValid::entry_fields))]
 fn entry_fields(e: Entry) -> bool
     ensures { result ≡ entry_fields e }
 {
-    if !codes::is_receipt(e.receipt) {
-        return false;
-    }
-    let n = e.number;
-    if !n.is_valid() {
-        return false;
-    }
-    if !codes::is_kind(e.kind) {
-        return false;
-    }
-    if !amount::is_amount(e.amount) {
-        return false;
-    }
-    let written = e.date;
-    if !date::is_written(written) {
-        return false;
-    }
-    if !digits::is_within(1, 5, e.state) {
-        return false;
-    }
-    digits::is_within(0, AUTHCODE_MOST, e.authcode)
+    codes::is_receipt(e.receipt)
+        && e.number.is_valid()
+        && codes::is_kind(e.kind)
+        && amount::is_amount(e.amount)
+        && date::is_written(e.date)
+        && digits::is_within(1, 5, e.state)
+        && digits::is_within(0, AUTHCODE_MOST, e.authcode)
 }
 
 // Whether the entry at i has the receipt of its place, and its fields are in their ranges.
+#[tactic(auto, using(crate::proofs::ValidLaws::turn_laws), unfolding(crate::specs::BookValid::entry_good, crate::specs::BookValid::in_turn))]
 fn entry_good(b: Book, i: usize, e: Entry) -> bool
     requires { (is_receipt b.first ≡ true) × (i < 4096) }
     ensures { result ≡ entry_good b i e }
 {
-    if e.receipt != b.first + i as u64 {
-        return false;
-    }
-    entry_fields(e)
+    e.receipt == b.first + i as u64 && entry_fields(e)
 }
 
 // Whether each entry in use is good.
@@ -60,42 +45,30 @@ fn entries_good(nums: &[[u64; 6]], numbers: &[[u8; 30]], dates: &[[u8; 19]], b: 
     ensures value { result ≡ all_from (entry_good b) 0 (entries_of (lent_book nums.now numbers.now dates.now) b.used) }
     ensures whole_book { result ≡ true → WholeBook (lent_book nums.now numbers.now dates.now) b.used }
 {
-    let used = b.used;
-    let mut i: usize = 0;
-    while i < used {
-        let e = rows::load_entry(nums, numbers, dates, i);
-        if !entry_good(b, i, e) {
+    for i in 0..b.used {
+        if !entry_good(b, i, rows::load_entry(nums, numbers, dates, i)) {
             return false;
         }
-        i += 1;
     }
     true
 }
 
 // Whether the first receipt is one, and the frozen day a date.
+#[tactic(auto, unfolding(crate::specs::BookValid::book_head))]
 fn head_good(b: Book) -> bool
     ensures { result ≡ book_head b }
 {
-    if !codes::is_receipt(b.first) {
-        return false;
-    }
-    let frozen = b.frozen;
-    frozen.is_valid()
+    codes::is_receipt(b.first) && b.frozen.is_valid()
 }
 
 // Whether a lent book is in its ranges.
+#[tactic(auto, using(crate::proofs::ValidLaws::book_laws), unfolding(crate::specs::BookValid::book_good))]
 pub fn book_good(nums: &[[u64; 6]], numbers: &[[u8; 30]], dates: &[[u8; 19]], b: Book) -> bool
     ensures value { result ≡ book_good b (lent_book nums.now numbers.now dates.now) }
     ensures ready_book { result ≡ true → ReadyBook b (lent_book nums.now numbers.now dates.now) }
 {
-    if !lists::is_lent(b.used, nums.len(), numbers.len(), dates.len()) {
-        return false;
-    }
-    if !head_good(b) {
-        return false;
-    }
-    if !entries_good(nums, numbers, dates, b) {
-        return false;
-    }
-    counts::days_good(nums, numbers, dates, b.used)
+    lists::is_lent(b.used, nums.len(), numbers.len(), dates.len())
+        && head_good(b)
+        && entries_good(nums, numbers, dates, b)
+        && counts::days_good(nums, numbers, dates, b.used)
 }
