@@ -13,7 +13,7 @@ use daybook::frozen;
 use fields::number::Number;
 use fields::{amount, codes};
 
-// The receipt is 0 with a fault.
+// The receipt is 0 with a fault. `roosteryore_accept` gives it to C as it is.
 #[repr(C)]
 #[derive(Clone, Copy)]
 pub struct Acceptance {
@@ -23,25 +23,19 @@ pub struct Acceptance {
 }
 
 // Whether the fields are well formed and the date is not frozen.
+#[tactic(auto, unfolding(crate::specs::Acceptance::may_accept))]
 pub fn may_accept(b: Book, n: Number, kind: u64, kopecks: u64, written: [u8; 19]) -> bool
     ensures { result ≡ may_accept b n kind kopecks written }
 {
-    if !n.is_valid() {
-        return false;
-    }
-    if !codes::is_kind(kind) {
-        return false;
-    }
-    if !amount::is_amount(kopecks) {
-        return false;
-    }
-    if !date::is_written(written) {
-        return false;
-    }
-    !frozen::is_frozen(b, written)
+    n.is_valid()
+        && codes::is_kind(kind)
+        && amount::is_amount(kopecks)
+        && date::is_written(written)
+        && !frozen::is_frozen(b, written)
 }
 
 // Whether the day has fewer than its 512 entries.
+#[tactic(auto, using(crate::proofs::AcceptLaws::day_open_laws))]
 pub fn day_open(
     nums: &[[u64; 6]],
     numbers: &[[u8; 30]],
@@ -56,13 +50,11 @@ pub fn day_open(
     let Some(day) = date::day_of_date(written) else {
         return false;
     };
-    if used < counts::DAY_MOST {
-        return true;
-    }
-    counts::count_day(nums, numbers, dates, used, day) < counts::DAY_MOST
+    used < counts::DAY_MOST || counts::count_day(nums, numbers, dates, used, day) < counts::DAY_MOST
 }
 
 // Whether the book, the day and the receipts have a place left.
+#[tactic(auto, using(crate::proofs::AcceptLaws::has_place_laws), unfolding(crate::specs::Acceptance::has_place, crate::specs::Acceptance::next_receipt))]
 pub fn has_place(
     nums: &[[u64; 6]],
     numbers: &[[u8; 30]],
@@ -73,17 +65,13 @@ pub fn has_place(
     requires { (book_good b (lent_book nums.now numbers.now dates.now) ≡ true) × ReadyBook b (lent_book nums.now numbers.now dates.now) }
     ensures { result ≡ has_place b (lent_book nums.now numbers.now dates.now) written }
 {
-    let used = b.used;
-    if nums.len() <= used {
-        return false;
-    }
-    if !day_open(nums, numbers, dates, used, written) {
-        return false;
-    }
-    codes::is_receipt(b.first + used as u64)
+    b.used < nums.len()
+        && day_open(nums, numbers, dates, b.used, written)
+        && codes::is_receipt(b.first + b.used as u64)
 }
 
 // The entry of a payment that is accepted now.
+#[tactic(auto, unfolding(crate::specs::Acceptance::made_entry, crate::specs::Acceptance::next_receipt))]
 pub fn made_entry(b: Book, n: Number, kind: u64, kopecks: u64, written: [u8; 19]) -> Entry
     requires { (b.first < 1000000000000000) × (b.used ≤ 4096) }
     ensures { result ≡ made_entry b n kind kopecks written }
@@ -100,6 +88,7 @@ pub fn made_entry(b: Book, n: Number, kind: u64, kopecks: u64, written: [u8; 19]
 }
 
 // The fault of an acceptance, or 0.
+#[tactic(auto, using(crate::proofs::AcceptLaws::accept_fault_laws), unfolding(crate::specs::Acceptance::accept_fault))]
 pub fn accept_fault(
     nums: &[[u64; 6]],
     numbers: &[[u8; 30]],
@@ -126,6 +115,7 @@ pub fn accept_fault(
 }
 
 // Accepts a payment and gives its receipt; a fault keeps all.
+#[tactic(auto, using(crate::proofs::AcceptLaws::accept_laws))]
 pub fn accept(
     nums: &mut [[u64; 6]],
     numbers: &mut [[u8; 30]],
@@ -146,14 +136,14 @@ pub fn accept(
             receipt: 0,
         };
     }
-    let used = book.used;
     let e = made_entry(book, number, kind, kopecks, written);
-    rows::store_entry(nums, numbers, dates, used, e);
-    let mut next = book;
-    next.used = used + 1;
+    rows::store_entry(nums, numbers, dates, book.used, e);
     Acceptance {
         code: 0,
-        book: next,
+        book: Book {
+            used: book.used + 1,
+            ..book
+        },
         receipt: e.receipt,
     }
 }
