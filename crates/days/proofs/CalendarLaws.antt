@@ -1,6 +1,6 @@
 -- Laws of days, at each way out of the calendar's functions.
 use Rattle.std.specs.Prelude.{Option, Some, None}
-use Prim.Native.Nat.{ℕ, ◌+◌, ◌-◌, ◌*◌, ◌%◌, ◌≤◌, ◌<◌}
+use Prim.Native.Nat.{ℕ, ◌+◌, ◌-◌, ◌*◌, ◌≤◌, ◌<◌}
 use native.Mathlib.Omega.{arith}
 use mathlib.Core.Path.{◌≡◌, refl, sym, ◌∙◌}
 use mathlib.Core.Bool.{Bool, true, false, cond, ◌&&◌, and-false}
@@ -8,25 +8,12 @@ use mathlib.Core.Logic.{◌⊎◌, inl, inr}
 use mathlib.Core.List.{List}
 use mir.Syntax.{w16}
 use mir.Val.{Fits}
-use lib.Dec.{eqb, leb, ltb}
+use lib.Dec.{eqb, leb}
 use lib.ListN.{get_or, length}
 use borrow.Author.Tests.{le-leb, lt-leb, lt-ltb, le-ltb, eq-eqb, ne_eqb, leb-true}
 use Rattle.days.specs.declared.calendar.Day.{Day}
-use Rattle.days.specs.Calendar.{leap_year, days_in, is_date, day_of, is_day, next_day, day_key, day_before, same_day, on_day, two_digits, day_with, day_part, day_read}
+use Rattle.days.specs.Calendar.{leap_year, days_in, is_date, day_of, is_day, next_day, same_day, on_day, two_digits, day_with, day_part, day_read}
 use Rattle.texts.proofs.Tests.{and_left, and_right, by-test}
-
-module _ (y : ℕ) where
-  pub leap-not-4 : (y % 4 ≡ 0 → ⊥) → false ≡ leap_year y
-  unfolding leap_year
-  leap-not-4 n = simp (ne_eqb _ _ n)
-
-  pub leap-not-100 : y % 4 ≡ 0 → (y % 100 ≡ 0 → ⊥) → true ≡ leap_year y
-  unfolding leap_year
-  leap-not-100 e n = simp (eq-eqb _ _ e, ne_eqb _ _ n)
-
-  pub leap-400 : y % 4 ≡ 0 → y % 100 ≡ 0 → eqb (y % 400) 0 ≡ leap_year y
-  unfolding leap_year
-  leap-400 e f = simp (eq-eqb _ _ e, eq-eqb _ _ f)
 
 module _ (y m : ℕ) where
   pub february-leap : m ≡ 2 → (b : Bool) → b ≡ leap_year y → b ≡ true → 29 ≡ days_in y m
@@ -50,30 +37,6 @@ module _ (y m : ℕ) where
       simp (ne_eqb _ _ p, ne_eqb m 4 (λ e. q (inl e)), ne_eqb m 6 (λ e. q (inr (inl e))), ne_eqb m 9 (λ e. q (inr (inr (inl e)))), ne_eqb m 11 (λ e. q (inr (inr (inr e)))))
 
   module _ (d : ℕ) where
-    pub year-low : y < 2000 → false ≡ is_date y m d
-    unfolding is_date
-    year-low h = simp lt-leb
-
-    pub year-high : 2099 < y → false ≡ is_date y m d
-    unfolding is_date
-    year-high h = simp (lt-leb, and-false)
-
-    pub month-low : m < 1 → false ≡ is_date y m d
-    unfolding is_date
-    month-low h = simp (lt-leb, and-false)
-
-    pub month-high : 12 < m → false ≡ is_date y m d
-    unfolding is_date
-    month-high h = simp (lt-leb, and-false)
-
-    pub day-low : d < 1 → false ≡ is_date y m d
-    unfolding is_date
-    day-low h = simp (lt-leb, and-false)
-
-    pub day-last : 2000 ≤ y → y ≤ 2099 → 1 ≤ m → m ≤ 12 → 1 ≤ d → (n : ℕ) → n ≡ days_in y m → leb d n ≡ is_date y m d
-    unfolding is_date
-    day-last a b f g h n e = rw (← e) (simp le-leb)
-
     module _ (t : Bool) (test : t ≡ is_date y m d) where
       pub day-good : (r : Option Day) → r ≡ Some (record { year = y; month = m; day = d }) → t ≡ true → r ≡ day_of y m d
       unfolding day_of
@@ -110,61 +73,13 @@ module _ (x : Day) (t : Bool) (test : t ≡ is_date x.year x.month x.day) where
       unfolding next_day
       next-year r h g e = e ∙ rw (← test, i, ← last) (simp le-ltb)
 
--- ---- order
-module _ (x y : Day) where
-  pub before-is : ltb (day_key x) (day_key y) ≡ day_before x y
-  unfolding day_before
-  before-is = refl
-
-  pub other-year : (x.year ≡ y.year → ⊥) → false ≡ same_day x y
-  unfolding same_day
-  other-year n = simp (ne_eqb _ _ n)
-
-  pub other-month : (x.month ≡ y.month → ⊥) → false ≡ same_day x y
-  unfolding same_day
-  other-month n = simp (ne_eqb _ _ n, and-false)
-
-  pub same-month : x.year ≡ y.year → x.month ≡ y.month → eqb x.day y.day ≡ same_day x y
-  unfolding same_day
-  same-month e f = simp (eq-eqb _ _ e, eq-eqb _ _ f)
+pub ruleset next_laws = (next-no-date, next-year-fits, next-in-month, next-month, next-year)
 
 -- ---- a day that is read
 module _ (a b : ℕ) where
-  pub tens-low : a < 48 → 100 ≡ two_digits a b
-  unfolding two_digits
-  tens-low h = simp lt-leb
-
-  pub tens-high : 57 < a → 100 ≡ two_digits a b
-  unfolding two_digits
-  tens-high h = simp (lt-leb, and-false)
-
-  pub ones_low : b < 48 → 100 ≡ two_digits a b
-  unfolding two_digits
-  ones_low h = simp (lt-leb, and-false)
-
-  pub ones-high : 57 < b → 100 ≡ two_digits a b
-  unfolding two_digits
-  ones-high h = simp (lt-leb, and-false)
-
   pub two_good : 48 ≤ a → a ≤ 57 → 48 ≤ b → b ≤ 57 → (a - 48) * 10 + (b - 48) ≡ two_digits a b
   unfolding two_digits
   two_good h i j k = simp le-leb
-
-module _ (a b c y m d : ℕ) where
-  pub with-dash : (a ≡ 45 → ⊥) → None ≡ day_with a b c y m d
-  with-dash n = simp (ne_eqb _ _ n)
-
-  pub with-other : (b ≡ 45 → ⊥) → None ≡ day_with a b c y m d
-  with-other n = simp (ne_eqb _ _ n, and-false)
-
-  pub with-century : (c ≡ 20 → ⊥) → None ≡ day_with a b c y m d
-  with-century n = simp (ne_eqb _ _ n, and-false)
-
-  pub with-year : 99 < y → None ≡ day_with a b c y m d
-  with-year h = simp (lt-leb _ _ h, and-false)
-
-  pub with-good : (r : Option Day) → a ≡ 45 → b ≡ 45 → c ≡ 20 → y ≤ 99 → r ≡ day_of (2000 + y) m d → r ≡ day_with a b c y m d
-  with-good r ea eb ec l e = e ∙ simp (eq-eqb _ _ ea, eq-eqb _ _ eb, eq-eqb _ _ ec, le-leb _ _ l)
 
 -- ---- the day of dashes and digits, and another
 module _ (day : Day) (a b c y m d : ℕ) where
@@ -245,14 +160,4 @@ module _ (s : List ℕ) where
   unfolding day_read
   alone r l e = e ∙ simp (eq-eqb _ _ l)
 
--- ---- what was read, and a day
-module _ (day : Day) (x : Option Day) where
-  pub this-none : x ≡ None → false ≡ on_day day x
-  this-none e = rw e
-
-  pub this-day : (y : Day) → x ≡ Some y → (b : Bool) → b ≡ same_day y day → b ≡ on_day day x
-  this-day y e b eb = rw (e, eb)
-
-module _ (day : Day) (x d : Option Day) (ex : x ≡ d) (b : Bool) where
-  pub this-of : b ≡ on_day day x → b ≡ on_day day d
-  this-of e = e ∙ rw ex
+pub ruleset with_laws = (on-dash, on-other, on-century, on-year, on-month, on-day, on-all)

@@ -6,7 +6,7 @@ ghost use Rattle.days.specs.Calendar.{two_digits, day_with, leap_year, days_in, 
 const CENTURY: u8 = 20;
 
 #[repr(C)]
-#[derive(Clone, Copy)]
+#[derive(Clone, Copy, PartialEq, Eq, PartialOrd, Ord)]
 pub struct Day {
     pub year: u16,
     pub month: u8,
@@ -14,16 +14,11 @@ pub struct Day {
 }
 
 // Whether a year has a 29th of February.
+#[tactic(auto, unfolding(crate::specs::Calendar::leap_year))]
 fn is_leap(year: u16) -> bool
     ensures { result ≡ leap_year year }
 {
-    if year % 4 != 0 {
-        return false;
-    }
-    if year % 100 != 0 {
-        return true;
-    }
-    year % 400 == 0
+    year % 4 == 0 && (year % 100 != 0 || year % 400 == 0)
 }
 
 // How many days a month has.
@@ -38,25 +33,13 @@ fn days_in(year: u16, month: u8) -> u8
 }
 
 // Whether these numbers are a date of 2000 to 2099.
+#[tactic(auto, unfolding(crate::specs::Calendar::is_date))]
 fn is_date(year: u16, month: u8, day: u8) -> bool
     ensures { result ≡ is_date year month day }
 {
-    if year < 2000 {
-        return false;
-    }
-    if 2099 < year {
-        return false;
-    }
-    if month < 1 {
-        return false;
-    }
-    if 12 < month {
-        return false;
-    }
-    if day < 1 {
-        return false;
-    }
-    day <= days_in(year, month)
+    (2000..=2099).contains(&year)
+        && (1..=12).contains(&month)
+        && (1..=days_in(year, month)).contains(&day)
 }
 
 // The day with these numbers.
@@ -79,123 +62,81 @@ impl Day {
     }
 
     // The following day, where there is one.
+    #[tactic(auto, using(crate::proofs::CalendarLaws::next_laws))]
     pub fn next(self) -> Option<Day>
         ensures { result ≡ next_day self }
     {
-        if is_date(self.year, self.month, self.day) {
-            if self.day < days_in(self.year, self.month) {
-                return day_of(self.year, self.month, self.day + 1);
-            }
-            if self.month < 12 {
-                return day_of(self.year, self.month + 1, 1);
-            }
-            day_of(self.year + 1, 1, 1)
+        if !self.is_valid() {
+            return None;
+        }
+        if self.day < days_in(self.year, self.month) {
+            day_of(self.year, self.month, self.day + 1)
+        } else if self.month < 12 {
+            day_of(self.year, self.month + 1, 1)
         } else {
-            None
+            day_of(self.year + 1, 1, 1)
         }
     }
 
     // Whether this day comes before another.
+    #[tactic(auto, unfolding(crate::specs::Calendar::day_before))]
     pub fn before(self, other: Day) -> bool
         ensures { result ≡ day_before self other }
     {
-        let a = (self.year as u64) * 65536 + (self.month as u64) * 256 + self.day as u64;
-        let b = (other.year as u64) * 65536 + (other.month as u64) * 256 + other.day as u64;
-        a < b
+        self < other
     }
 
     // Whether two days are one.
+    #[tactic(auto, unfolding(crate::specs::Calendar::same_day))]
     pub fn same(self, other: Day) -> bool
         ensures { result ≡ same_day self other }
     {
-        if self.year != other.year {
-            return false;
-        }
-        if self.month != other.month {
-            return false;
-        }
-        self.day == other.day
+        self == other
     }
 
     // Whether two dashes and four pairs of digits are this day: no other day is made to be compared.
+    #[tactic(auto, using(crate::proofs::CalendarLaws::with_laws))]
     pub fn is_with(self, dash: u8, other: u8, century: u8, y: u8, month: u8, day: u8) -> bool
         ensures { result ≡ on_day self (day_with dash other century y month day) }
     {
-        if dash != b'-' {
-            return false;
-        }
-        if other != b'-' {
-            return false;
-        }
-        if century != CENTURY {
-            return false;
-        }
-        if 2000 + y as u16 != self.year {
-            return false;
-        }
-        if month != self.month {
-            return false;
-        }
-        if day != self.day {
-            return false;
-        }
-        self.is_valid()
+        dash == b'-'
+            && other == b'-'
+            && century == CENTURY
+            && 2000 + u16::from(y) == self.year
+            && month == self.month
+            && day == self.day
+            && self.is_valid()
     }
 
     // Whether this day comes right after another.
     pub fn follows(self, last: Day) -> bool
         ensures { result ≡ on_day self (next_day last) }
     {
-        is_this(self, last.next())
+        last.next() == Some(self)
     }
 }
 
-// Whether what was read is this day.
-fn is_this(day: Day, x: Option<Day>) -> bool
-    ensures { result ≡ on_day day x }
-{
-    match x {
-        None => false,
-        Some(own) => own.same(day),
-    }
-}
-
-// The value of two digits, or 100 where one is none.
+// The value of two digits, or 100 where one is none: the test of the range, which each caller makes, then fails too.
+#[tactic(auto, unfolding(crate::specs::Calendar::two_digits))]
 pub fn two(a: u8, b: u8) -> u8
     ensures { result ≡ two_digits a b }
 {
-    if a < 48 {
-        return 100;
+    if a.is_ascii_digit() && b.is_ascii_digit() {
+        (a - b'0') * 10 + (b - b'0')
+    } else {
+        100
     }
-    if 57 < a {
-        return 100;
-    }
-    if b < 48 {
-        return 100;
-    }
-    if 57 < b {
-        return 100;
-    }
-    (a - 48) * 10 + (b - 48)
 }
 
 // The day of two dashes and four pairs of digits: its parts as numbers, so that no text is copied for it.
 pub fn day_with(dash: u8, other: u8, century: u8, y: u8, month: u8, day: u8) -> Option<Day>
     ensures { result ≡ day_with dash other century y month day }
 {
-    if dash != b'-' {
-        return None;
+    if dash == b'-' && other == b'-' && century == CENTURY && y <= 99 {
+        day_of(2000 + u16::from(y), month, day)
+    } else {
+        None
     }
-    if other != b'-' {
-        return None;
-    }
-    if century != CENTURY {
-        return None;
-    }
-    if 99 < y {
-        return None;
-    }
-    day_of(2000 + y as u16, month, day)
 }
 
 // The day that the first ten bytes are.
