@@ -4,52 +4,24 @@ use Prim.Native.Nat.{ℕ, ◌+◌, ◌-◌, ◌*◌, ◌≤◌, ◌<◌}
 use native.Mathlib.Nat.{add_assoc, le_trans}
 use native.Mathlib.Omega.{arith}
 use mathlib.Core.Path.{◌≡◌, refl, sym, ap, ◌∙◌}
-use mathlib.Core.Bool.{Bool, true, false, not, ◌&&◌, and-false}
-use mathlib.Core.List.{List, append-nil}
+use mathlib.Core.Bool.{Bool, true, false, ◌&&◌, and-false}
+use mathlib.Core.List.{List}
 use mir.Syntax.{w8}
 use mir.Val.{Fits}
 use lib.Dec.{eqb, leb}
-use lib.ListN.{get_or, length, drop, drop_of_length-le}
-use borrow.Author.Tests.{le-leb, lt-leb, eq-eqb, ne_eqb, leb-true, eqb-true, not-true, not-false}
+use lib.ListN.{get_or, length, drop}
+use borrow.Author.Tests.{eq-eqb, ne_eqb, leb-true, eqb-true}
 use Rattle.days.specs.declared.calendar.Day.{Day}
-use Rattle.texts.specs.Lists.{every, written}
+use Rattle.texts.specs.Lists.{every}
 use Rattle.texts.specs.Digits.{is_digit}
-use Rattle.days.specs.Calendar.{is_date, day_of, is_day, same_day, day_before, on_day, up_to, two_digits, two_at, day_with, day_part}
-use Rattle.dates.specs.Date.{clock_time, date_day, found, is_written, empty_date, date_read}
-use Rattle.texts.proofs.Tests.{both, cond-elim, no-claim}
+use Rattle.days.specs.Calendar.{is_date, day_of, is_day, on_day, two_digits, two_at, day_with, day_part}
+use Rattle.dates.specs.Date.{clock_time, date_day, found, is_written, date_read}
+use Rattle.texts.proofs.Tests.{both, cond-elim}
 use Rattle.texts.proofs.ListLaws.{every-step, every-all}
-use Rattle.texts.proofs.OutLaws.{written_over}
 use Rattle.days.proofs.CalendarLaws.{two_good, part-with}
 use Rattle.days.proofs.DayLaws.{is-date, days-high, read-good, made}
 
 module _ (s : List ℕ) where
-  pub time-mark : (get_or s 10 0 ≡ 84 → ⊥) → false ≡ clock_time s
-  unfolding clock_time
-  time-mark n = simp (ne_eqb _ _ n)
-
-  pub time-mark-2 : (get_or s 13 0 ≡ 58 → ⊥) → false ≡ clock_time s
-  unfolding clock_time
-  time-mark-2 n = simp (ne_eqb _ _ n, and-false)
-
-  pub time-mark-3 : (get_or s 16 0 ≡ 58 → ⊥) → false ≡ clock_time s
-  unfolding clock_time
-  time-mark-3 n = simp (ne_eqb _ _ n, and-false)
-
-  pub hour-high : (h : ℕ) → h ≡ two_digits (get_or s 11 0) (get_or s 12 0) → 23 < h → false ≡ clock_time s
-  unfolding clock_time
-  hour-high h e l = rw (← e) (simp (lt-leb, and-false))
-
-  pub minute-high : (h : ℕ) → h ≡ two_digits (get_or s 14 0) (get_or s 15 0) → 59 < h → false ≡ clock_time s
-  unfolding clock_time
-  minute-high h e l = rw (← e) (simp (lt-leb, and-false))
-
-  pub second_is : (h m t : ℕ) → get_or s 10 0 ≡ 84 → get_or s 13 0 ≡ 58 → get_or s 16 0 ≡ 58
-      → h ≡ two_digits (get_or s 11 0) (get_or s 12 0) → h ≤ 23
-      → m ≡ two_digits (get_or s 14 0) (get_or s 15 0) → m ≤ 59
-      → t ≡ two_digits (get_or s 17 0) (get_or s 18 0) → leb t 59 ≡ clock_time s
-  unfolding clock_time
-  second_is h m t a b c eh lh em lm et = rw (← eh, ← em, ← et) (simp (eq-eqb _ _ a, eq-eqb _ _ b, eq-eqb _ _ c, le-leb h 23 lh, le-leb m 59 lm))
-
   module _ (t : Bool) (test : t ≡ clock_time s) where
     pub date-no-time : t ≡ false → None ≡ date_day s
     unfolding date_day
@@ -73,24 +45,11 @@ module _ (s : List ℕ) where
         → r ≡ on_day day (day_with (get_or s 4 0) (get_or s 7 0) c y m d) → r ≡ on_day day (date_day s)
     on-good f l day c y m d r ec ey em ed e = e ∙ ap (on_day day) (date-good f l c y m d _ ec ey em ed refl)
 
-  module _ (x : Option Day) (ex : x ≡ date_day s) where
-    pub written_is : (y : Day) → x ≡ Some y → true ≡ is_written s
-    written_is y e = rw (← ex, e)
-
-    pub written-not : x ≡ None → false ≡ is_written s
-    written-not e = rw (← ex, e)
-
 -- ---- a field that holds one
 module _ (s : List ℕ) where
   pub date-size : (length s ≡ 19 → ⊥) → None ≡ date_read s
   unfolding date_read date_day
   date-size n = simp (ne_eqb _ _ n)
-
-  pub date-whole : length s ≡ 19 → (d : List ℕ) → d ≡ written empty_date 0 s → d ≡ s
-  date-whole l d e =
-      let fit : 0 + length s ≤ length empty_date = omega arith in
-      let past : length empty_date ≤ 0 + length s = omega arith in
-      e ∙ sym (written_over empty_date 0 s fit) ∙ rw (drop_of_length-le empty_date past) (append-nil s)
 
   module _ (d : List ℕ) (same : d ≡ s) (t : Bool) (judged : t ≡ is_written d) where
     pub date-held : t ≡ true → Some d ≡ date_read s
@@ -285,19 +244,12 @@ module _ (s : List ℕ) (h : is_written s ≡ true) where
       let own = (read-good (is_date (2000 + two_at s 2) (two_at s 5) (two_at s 8)) _ part.1).1 in
       x.is ∙ sym own ∙ rw (← ey, ← em, ← ed)
 
-module _ (s : List ℕ) (t : Bool) (et : t ≡ is_written s) where
-  pub known_written : not t ≡ false → is_written s ≡ true
-  known_written n = sym et ∙ not-false t n
+pub ruleset day_laws = (date-no-time, date-good)
 
-  pub until_none : not t ≡ true → (last : Day) → true ≡ up_to last (date_day s)
-  until_none n last = go (date_day s) (sym et ∙ not-true t n)
-    where
-      go : (x : Option Day) → found x ≡ false → true ≡ up_to last x
-      go (Some y) e = no-claim (sym e)
-      go None e = refl
+pub ruleset on_laws = (on-no-time, on-good)
 
-pub until-written : (s : List ℕ) (last own : Day) → date_day s ≡ Some own → (r : Bool) → r ≡ day_before last own → not r ≡ up_to last (date_day s)
-until-written s last own e r q = ap not q ∙ rw e
+pub ruleset text_laws = (size-written, text-written, size-on, text-on)
 
-pub same-on : (s : List ℕ) (day own : Day) → date_day s ≡ Some own → (r : Bool) → r ≡ same_day own day → r ≡ on_day day (date_day s)
-same-on s day own e r q = q ∙ rw e
+pub ruleset pair_laws = (tens-least, ones-least, tens-fit, pair_fits, pair_is)
+
+pub ruleset written_laws = (year-pair, month-pair, day-pair, day-written)

@@ -1,5 +1,5 @@
--- No date: bytes whose sum is 0 are zeros.
-use Prim.Native.Nat.{ℕ, zero, suc, ◌+◌, ◌*◌, ◌<◌, ◌≤◌}
+-- What `==` says of two dates, that their lists are equal; and no date: bytes whose sum is 0 are zeros.
+use Prim.Native.Nat.{ℕ, zero, suc, ◌+◌, ◌<◌, ◌≤◌}
 use native.Mathlib.Omega.{arith}
 use native.Mathlib.Nat.{zero-add}
 use mathlib.Core.Path.{◌≡◌, refl, sym, ap, ◌∙◌}
@@ -9,11 +9,18 @@ use lib.Dec.{eqb}
 use borrow.Author.Tests.{ne_eqb}
 use lib.ListN.{length, drop, get_or, replicate}
 use lib.ListN.{drop_of_length-le}
-use mir.Syntax.{w32}
-use mir.Val.{Fits}
+use Rattle.std.specs.Prelude.{nat_eq}
+use Rattle.std.specs.Cmp.Lexicographic.{pointwise}
 use Rattle.texts.specs.Lists.{eq_list}
 use Rattle.texts.proofs.ListLaws.{drop-next}
 use Rattle.dates.specs.Date.{empty_date}
+
+pub equal-bytes : (a b : List ℕ) → pointwise nat_eq a b ≡ eq_list a b
+unfolding eq_list
+equal-bytes [] [] = refl
+equal-bytes [] (y ∷ b) = refl
+equal-bytes (x ∷ a) [] = refl
+equal-bytes (x ∷ a) (y ∷ b) = rw (equal-bytes a b)
 
 unfoldable pub total : List ℕ → ℕ
 total [] = 0
@@ -40,8 +47,4 @@ module _ (d : List ℕ) (i sum : ℕ) (size : length d ≡ 19) (passed : total d
       let all : total d ≡ sum = passed ∙ omega (arith, rest) in
       e ∙ ap (λ (n : ℕ). eqb n 0) (sym all) ∙ sym (zeros d) ∙ ap (λ (n : ℕ). eq_list d (replicate n 0)) size
 
-pub sum_bound : (sum i w : ℕ) → sum ≤ i * 255 → w < 256 → sum + w ≤ (i + 1) * 255
-sum_bound sum i w h l = omega arith
-
-pub sum_fits : (sum i w : ℕ) → sum ≤ i * 255 → i < 19 → w < 256 → Fits w32 (sum + w)
-sum_fits sum i w h k l = omega arith
+pub ruleset empty_laws = (sum_more, sum-empty)
