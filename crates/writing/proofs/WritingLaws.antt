@@ -93,3 +93,5 @@ module _ (b : Book) (t : BookRows) (n : Number) (k amount : ℕ) (out : List ℕ
 pub ruleset write_entry_laws = (at-closed)
 
 pub ruleset write_for_laws = (not-book, no_room, no-forms, no-entry, one-entry)
+
+pub ruleset write_check_laws = (check-not-book, check-no-room, check-malformed, check-written)

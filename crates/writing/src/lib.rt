@@ -40,7 +40,7 @@ pub(crate) fn write_entry(
     Writing { code: 0, size }
 }
 
-// A request of an entry, by its receipt.
+// A request of an entry, by its receipt. A fault is a number and no bytes: `roosteryore_write_payment` and the like give both to C.
 #[tactic(auto, using(crate::proofs::WritingLaws::write_for_laws))]
 pub(crate) fn write_for(
     nums: &mut [[u64; 6]],
@@ -63,11 +63,10 @@ pub(crate) fn write_for(
     if !asking::forms_good(a, receipt, reason) {
         return Writing { code: 60, size: 0 };
     }
-    let found = find::find_entry(nums, numbers, dates, b, receipt);
-    match found {
-        None => Writing { code: 62, size: 0 },
-        Some(i) => write_entry(nums, numbers, dates, b, i, a, reason, out),
-    }
+    let Some(i) = find::find_entry(nums, numbers, dates, b, receipt) else {
+        return Writing { code: 62, size: 0 };
+    };
+    write_entry(nums, numbers, dates, b, i, a, reason, out)
 }
 
 // Writes the payment of a receipt.
@@ -123,6 +122,7 @@ pub fn write_cancel(
 }
 
 // Writes a check of an account and an amount.
+#[tactic(auto, using(crate::proofs::WritingLaws::write_check_laws))]
 pub fn write_check(
     nums: &[[u64; 6]],
     numbers: &[[u8; 30]],
