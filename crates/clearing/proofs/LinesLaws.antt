@@ -6,7 +6,7 @@ use mathlib.Core.Path.{◌≡◌, refl, sym, ap, ◌∙◌}
 use mathlib.Core.List.{List, ◌++◌, map}
 use lib.IntN.{ℤ, pos, ◌+ℤ◌}
 use lib.Signed.{mag}
-use lib.ListN.{length, drop, length-map}
+use lib.ListN.{length, get_or, drop, length-map, drop_of_length-le}
 use mir.Syntax.{w64}
 use mir.Val.{to_z, of_z}
 use lib.Seq.{drop-append-add, drop-drop}
@@ -25,14 +25,14 @@ use Rattle.posting.specs.Steps.{Held, Left, paid, Applied}
 use Rattle.planning.specs.Plan.{Within}
 use Rattle.directory.specs.Directory.{Listed}
 use Rattle.directory.proofs.FindLaws.{listed-used, listed-moved}
-use Rattle.line_rows.specs.Lines.{LineRows, line_at, lines_of, Read}
+use Rattle.line_rows.specs.Lines.{no_line, Read}
 use Rattle.posting.proofs.PostLaws.{line-applied}
 use Rattle.posting.proofs.DueLaws.{due-balance, paid-none, paid-at}
 use Rattle.posting.proofs.LookupLaws.{line-used, line-chained}
 use Rattle.index.specs.Index.{Chained}
 use Rattle.posting.specs.Lookup.{receipt_at}
 use Rattle.posting.proofs.HeldLaws.{held_more, Step, line_step, left-size, left-records, left-held}
-use Rattle.line_rows.proofs.ReadLaws.{next-line, last_line, read_small}
+use Rattle.line_rows.proofs.ReadLaws.{next-line, read_small}
 
 -- ---- rows from rows
 pub from-from : (t : Rows) (rs qs : List Record) → length rs ≤ length qs → rows_from (rows_from t rs) qs ≡ rows_from t qs
@@ -63,31 +63,31 @@ going_start clock xs t g held =
       size = refl;
     }
 
-module _ (clock : List ℕ) (u : LineRows) (n : ℕ) (read : Read u n) (t₀ : Rows) (whole : Ledger) (t : Rows) (g : Gate) (i : ℕ) (going : Going clock (lines_of u n) t₀ whole t g i) where
-  pub going-last : i ≤ n → Held g t 11000000000000
+module _ (clock : List ℕ) (xs : List Line) (read : Read xs) (t₀ : Rows) (whole : Ledger) (t : Rows) (g : Gate) (i : ℕ) (going : Going clock xs t₀ whole t g i) where
+  pub going-last : i ≤ length xs → Held g t 11000000000000
   going-last h = held_more g t (10000000000000 + i * 1000000000) 11000000000000 going.held (omega (arith, read.few))
 
-  going-held : i < n → Held g t 10000000000000000
+  going-held : i < length xs → Held g t 10000000000000000
   going-held h = held_more g t 11000000000000 10000000000000000 (going-last (omega arith)) (omega arith)
 
-  pub ledger-end : n ≤ i → whole ≡ ledger_of g t
+  pub ledger-end : length xs ≤ i → whole ≡ ledger_of g t
   unfolding settle_lines
-  ledger-end h = going.rest ∙ rw (last_line u n i h)
+  ledger-end h = going.rest ∙ rw (drop_of_length-le xs h)
 
-  pub going_end : n ≤ i → Left t₀ whole g t
+  pub going_end : length xs ≤ i → Left t₀ whole g t
   going_end h = rw (ledger-end h) (record { gates = refl; left = going.rows })
 
-  pub going_on : i < n → (x : Line) → x ≡ line_at u i → (g' : Gate) (t' : Rows) → Left t (settle_line clock (length t.nums) x (ledger_of g t)) g' t'
-      → Going clock (lines_of u n) t₀ whole t' g' (i + 1)
+  pub going_on : i < length xs → (x : Line) → x ≡ get_or xs i no_line → (g' : Gate) (t' : Rows) → Left t (settle_line clock (length t.nums) x (ledger_of g t)) g' t'
+      → Going clock xs t₀ whole t' g' (i + 1)
   unfolding settle_lines
   going_on h x ex g' t' left =
       let bound : ℕ = 10000000000000 + i * 1000000000 in
       let l : Ledger = settle_line clock (length t.nums) x (ledger_of g t) in
-      let step : Step t g.used (bound + 1000000000) l = line_step g t bound going.held clock x (read_small u n read i h x ex) in
+      let step : Step t g.used (bound + 1000000000) l = line_step g t bound going.held clock x (read_small xs read i h x ex) in
       let same : records_of t' g'.used ≡ l.records = left-records t g.used (bound + 1000000000) l step g' t' left in
       let after : l ≡ ledger_of g' t' = ledger-is l g' (records_of t' g'.used) left.gates same in
       record {
-        rest = going.rest ∙ rw (next-line u n i x ex h, ← going.size, ← after);
+        rest = going.rest ∙ rw (next-line xs i x ex h, ← going.size, ← after);
         held = held_more g' t' (bound + 1000000000) (10000000000000 + (i + 1) * 1000000000)
             (left-held t g.used (bound + 1000000000) l step g' t' left g bound going.held) (omega arith);
         rows = left.left ∙ rw same (again l step);
@@ -103,24 +103,24 @@ module _ (clock : List ℕ) (u : LineRows) (n : ℕ) (read : Read u n) (t₀ : R
           ∙ from-from t₀ (records_of t g.used) l.records (omega (arith, step.longer, length-records t g.used))
 
 -- ---- what the loop keeps at line i: beside the settlement, the sizes, the names and the chains
-pub record Kept (clock : List ℕ) (u : LineRows) (n : ℕ) (names keys : List (List ℕ)) (t₀ : Rows) (whole : Ledger) (heads₀ next₀ : List ℕ) (t : Rows) (g : Gate) (heads next : List ℕ) (i : ℕ) : Type 0 where
-  pub most : i ≤ n
+pub record Kept (clock : List ℕ) (xs : List Line) (names keys : List (List ℕ)) (t₀ : Rows) (whole : Ledger) (heads₀ next₀ : List ℕ) (t : Rows) (g : Gate) (heads next : List ℕ) (i : ℕ) : Type 0 where
+  pub most : i ≤ length xs
   pub numbers-kept : length t.numbers ≡ length t₀.numbers
   pub dates-kept : length t.dates ≡ length t₀.dates
   pub listed : Listed names keys g
-  pub going : Going clock (lines_of u n) t₀ whole t g i
+  pub going : Going clock xs t₀ whole t g i
   pub heads-kept : length heads ≡ length heads₀
   pub next-kept : length next ≡ length next₀
   pub chained : Chained (receipt_at t.nums) 0 g.used heads next
 
 -- ---- a turn of the loop: the line at i is read, judged and applied. First what the turn is of, then what is known of it
 pub record Turn : Type 0 where
-  pub of : record { clock : List ℕ; u : LineRows; n : ℕ; names : List (List ℕ); keys : List (List ℕ); t₀ : Rows; whole : Ledger; heads₀ : List ℕ; next₀ : List ℕ; t : Rows; g : Gate; heads : List ℕ; next : List ℕ; i : ℕ; x : Line; v : Verdict; d : Due; t' : Rows }
-  pub read : Read of.u of.n
+  pub of : record { clock : List ℕ; xs : List Line; names : List (List ℕ); keys : List (List ℕ); t₀ : Rows; whole : Ledger; heads₀ : List ℕ; next₀ : List ℕ; t : Rows; g : Gate; heads : List ℕ; next : List ℕ; i : ℕ; x : Line; v : Verdict; d : Due; t' : Rows }
+  pub read : Read of.xs
   pub room : 4096 ≡ length of.next₀
-  pub kept : Kept of.clock of.u of.n of.names of.keys of.t₀ of.whole of.heads₀ of.next₀ of.t of.g of.heads of.next of.i
-  pub more : of.i < of.n
-  pub line : of.x ≡ line_at of.u of.i
+  pub kept : Kept of.clock of.xs of.names of.keys of.t₀ of.whole of.heads₀ of.next₀ of.t of.g of.heads of.next of.i
+  pub more : of.i < length of.xs
+  pub line : of.x ≡ get_or of.xs of.i no_line
   pub judged : of.v ≡ verdict_of of.g (records_of of.t of.g.used) (length of.t.nums) of.x
   pub applied : Applied of.names of.keys of.g.used of.t of.clock of.x of.v of.d of.t'
   pub within : Within of.d.account (length of.names)
@@ -128,13 +128,13 @@ pub record Turn : Type 0 where
   pub dates-kept : length of.t'.dates ≡ length of.t.dates
 
 -- a turn from what is known of it
-abbrev pub turn-of : {clock : List ℕ} {u : LineRows} {n : ℕ} {names keys : List (List ℕ)} {t₀ : Rows} {whole : Ledger} {heads₀ next₀ : List ℕ} {t : Rows} {g : Gate} {heads next : List ℕ} {i : ℕ}
-    {x : Line} {v : Verdict} {d : Due} {t' : Rows} → Read u n → 4096 ≡ length next₀ → Kept clock u n names keys t₀ whole heads₀ next₀ t g heads next i → i < n → x ≡ line_at u i
+abbrev pub turn-of : {clock : List ℕ} {xs : List Line} {names keys : List (List ℕ)} {t₀ : Rows} {whole : Ledger} {heads₀ next₀ : List ℕ} {t : Rows} {g : Gate} {heads next : List ℕ} {i : ℕ}
+    {x : Line} {v : Verdict} {d : Due} {t' : Rows} → Read xs → 4096 ≡ length next₀ → Kept clock xs names keys t₀ whole heads₀ next₀ t g heads next i → i < length xs → x ≡ get_or xs i no_line
     → v ≡ verdict_of g (records_of t g.used) (length t.nums) x → Applied names keys g.used t clock x v d t' → Within d.account (length names)
     → length t'.numbers ≡ length t.numbers → length t'.dates ≡ length t.dates → Turn
-turn-of {clock = clock} {u = u} {n = n} {names = names} {keys = keys} {t₀ = t₀} {whole = whole} {heads₀ = heads₀} {next₀ = next₀} {t = t} {g = g} {heads = heads} {next = next} {i = i} {x = x} {v = v} {d = d} {t' = t'} read room kept more line judged applied within nk dk =
+turn-of {clock = clock} {xs = xs} {names = names} {keys = keys} {t₀ = t₀} {whole = whole} {heads₀ = heads₀} {next₀ = next₀} {t = t} {g = g} {heads = heads} {next = next} {i = i} {x = x} {v = v} {d = d} {t' = t'} read room kept more line judged applied within nk dk =
     record {
-      of = record { clock = clock; u = u; n = n; names = names; keys = keys; t₀ = t₀; whole = whole; heads₀ = heads₀; next₀ = next₀; t = t; g = g; heads = heads; next = next; i = i; x = x; v = v; d = d; t' = t' };
+      of = record { clock = clock; xs = xs; names = names; keys = keys; t₀ = t₀; whole = whole; heads₀ = heads₀; next₀ = next₀; t = t; g = g; heads = heads; next = next; i = i; x = x; v = v; d = d; t' = t' };
       read = read;
       room = room;
       kept = kept;
@@ -149,21 +149,21 @@ turn-of {clock = clock} {u = u} {n = n} {names = names} {keys = keys} {t₀ = t�
 
 module _ (turn : Turn) where
   open turn use {of, read, room, kept, more, line, judged, applied, within}
-  open of use {clock, u, n, names, keys, t₀, whole, heads₀, next₀, t, g, heads, next, i, x, v, d, t'}
+  open of use {clock, xs, names, keys, t₀, whole, heads₀, next₀, t, g, heads, next, i, x, v, d, t'}
   open kept use {listed, going, chained}
 
   pub turn_small : x.amount < 1000000000
-  turn_small = read_small u n read i more x line
+  turn_small = read_small xs read i more x line
 
-  on : (g' : Gate) → g' ≡ paid g d x.amount → Going clock (lines_of u n) t₀ whole t' g' (i + 1)
+  on : (g' : Gate) → g' ≡ paid g d x.amount → Going clock xs t₀ whole t' g' (i + 1)
   on g' eg =
-      going_on clock u n read t₀ whole t g i going more x line g' t'
+      going_on clock xs read t₀ whole t g i going more x line g' t'
       (line-applied g t clock x (length t.nums) v judged g' t' (rw eg (applied.left g listed refl)))
 
   -- the account of what is due
   module _ (at : ℕ) (ea : d.account ≡ Some at) where
     funds : Funds g 10000000000000000
-    funds = (going-held clock u n read t₀ whole t g i going more).backed.funds
+    funds = (going-held clock xs read t₀ whole t g i going more).backed.funds
 
     near : mag (balance_at g at) ≤ 10000000000000000
     near = due-balance names keys g listed d.account within at ea 10000000000000000 funds
@@ -183,7 +183,7 @@ module _ (turn : Turn) where
 
   -- and once they have, the next turn is at hand
   module _ (heads' next' : List ℕ) (he : length heads' ≡ length heads) (ne : length next' ≡ length next) (follow : Chained (receipt_at t'.nums) 0 d.used heads' next') where
-    turned : (g' : Gate) → g'.used ≡ d.used → Listed names keys g' → g' ≡ paid g d x.amount → Kept clock u n names keys t₀ whole heads₀ next₀ t' g' heads' next' (i + 1)
+    turned : (g' : Gate) → g'.used ≡ d.used → Listed names keys g' → g' ≡ paid g d x.amount → Kept clock xs names keys t₀ whole heads₀ next₀ t' g' heads' next' (i + 1)
     turned g' eu listed' eg =
         record {
           most = omega (arith, more);
@@ -196,16 +196,16 @@ module _ (turn : Turn) where
           chained = rw eu follow;
         }
 
-    pub turn-none : d.account ≡ None → Kept clock u n names keys t₀ whole heads₀ next₀ t' (with_used g d.used) heads' next' (i + 1)
+    pub turn-none : d.account ≡ None → Kept clock xs names keys t₀ whole heads₀ next₀ t' (with_used g d.used) heads' next' (i + 1)
     turn-none e = turned _ refl (listed-used names keys g listed d.used) (paid-none g d x.amount e)
 
     -- what is due credited
     pub turn-credited : (at : ℕ) → d.account ≡ Some at → (z : ℤ) → z ≡ to_z w64 (of_z w64 (balance_at g at)) +ℤ pos x.amount → mag z < 2 ^ 63
-        → Kept clock u n names keys t₀ whole heads₀ next₀ t' (gate_balance (with_used g d.used) at z) heads' next' (i + 1)
+        → Kept clock xs names keys t₀ whole heads₀ next₀ t' (gate_balance (with_used g d.used) at z) heads' next' (i + 1)
     turn-credited at ea z ez fits =
         turned _ refl (listed-moved _ _ _ (listed-used names keys g listed d.used) _ _) (paid-at g d x.amount at ea (near at ea) z fits ez)
 
     -- and as the balance is read back
     pub turn-credited-back : (at : ℕ) → d.account ≡ Some at → (z : ℤ) → z ≡ to_z w64 (of_z w64 (balance_at g at)) +ℤ pos x.amount → mag z < 2 ^ 63
-        → Kept clock u n names keys t₀ whole heads₀ next₀ t' (gate_balance (with_used g d.used) at (to_z w64 (of_z w64 z))) heads' next' (i + 1)
+        → Kept clock xs names keys t₀ whole heads₀ next₀ t' (gate_balance (with_used g d.used) at (to_z w64 (of_z w64 z))) heads' next' (i + 1)
     turn-credited-back at ea z ez fits = rw (back z fits) (turn-credited at ea z ez fits)

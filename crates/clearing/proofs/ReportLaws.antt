@@ -5,7 +5,7 @@ use native.Mathlib.Omega.{arith}
 use mathlib.Core.Path.{◌≡◌, refl, sym, ap, ◌∙◌}
 use mathlib.Core.Bool.{Bool, cond}
 use mathlib.Core.List.{List}
-use lib.ListN.{length, drop, set}
+use lib.ListN.{length, get_or, drop, set, drop_of_length-le}
 use Rattle.texts.specs.Lists.{over}
 use Rattle.texts.proofs.OutLaws.{over-step, over_none}
 use Rattle.lines.specs.declared.line.Line.{Line}
@@ -15,8 +15,8 @@ use Rattle.index.proofs.WalkLaws.{found-any}
 use Rattle.posting.specs.declared.lookup.Sought.TheVariants.{MatchedDone}
 use Rattle.posting.specs.Lookup.{fits}
 use Rattle.clearing.specs.Clearing.{any_done, report_of}
-use Rattle.line_rows.specs.Lines.{LineRows, line_at, lines_of}
-use Rattle.line_rows.proofs.ReadLaws.{next-line, last_line}
+use Rattle.line_rows.specs.Lines.{no_line}
+use Rattle.line_rows.proofs.ReadLaws.{next-line}
 
 -- ---- a line that matches a done record
 pub done-found : (x : Line) (rs : List Record) (f : Option ℕ) → f ≡ first_from (fits MatchedDone x) 0 rs → (b : Bool) → b ≡ is_found f → b ≡ any_done x rs
@@ -24,17 +24,14 @@ unfolding any_done
 done-found x rs f e b eb = eb ∙ ap is_found e ∙ found-any (fits MatchedDone x) (any_done x) refl (λ r l. refl) 0 rs
 
 -- ---- a loop that has written the bytes of i lines
-module _ (u : LineRows) (m : ℕ) (rs : List Record) (d₀ d : List ℕ) (i : ℕ) (left : over d₀ 0 (report_of (lines_of u m) rs) ≡ over d i (report_of (drop i (lines_of u m)) rs)) where
-  pub report-end : m ≤ i → d ≡ over d₀ 0 (report_of (lines_of u m) rs)
+module _ (xs : List Line) (rs : List Record) (d₀ d : List ℕ) (i : ℕ) (left : over d₀ 0 (report_of xs rs) ≡ over d i (report_of (drop i xs) rs)) where
+  pub report-end : length xs ≤ i → d ≡ over d₀ 0 (report_of xs rs)
   unfolding report_of
-  report-end h = sym (left ∙ rw (last_line u m i h) (over_none d i))
+  report-end h = sym (left ∙ rw (drop_of_length-le xs h) (over_none d i))
 
-  pub report-on : i < m → m ≤ length d → (x : Line) → x ≡ line_at u i → (y : Bool) → y ≡ any_done x rs → (b : ℕ) → b ≡ cond y 49 48
-      → over d₀ 0 (report_of (lines_of u m) rs) ≡ over (set d i b) (i + 1) (report_of (drop (i + 1) (lines_of u m)) rs)
+  pub report-on : i < length xs → length xs ≤ length d → (y : Bool) → y ≡ any_done (get_or xs i no_line) rs → (b : ℕ) → b ≡ cond y 49 48
+      → over d₀ 0 (report_of xs rs) ≡ over (set d i b) (i + 1) (report_of (drop (i + 1) xs) rs)
   unfolding report_of
-  report-on h room x ex y ey b eb =
+  report-on h room y ey b eb =
       let p : i < length d = omega arith in
-      left ∙ rw (next-line u m i x ex h, ← ey, ← eb) (over-step d i b (report_of (drop (i + 1) (lines_of u m)) rs) p)
-
-pub report-place : (m i : ℕ) (d : List ℕ) → m ≤ length d → i < m → i < length d
-report-place m i d l h = omega arith
+      left ∙ rw (next-line xs i (get_or xs i no_line) refl h, ← ey, ← eb) (over-step d i b (report_of (drop (i + 1) xs) rs) p)

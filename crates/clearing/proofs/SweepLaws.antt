@@ -12,7 +12,7 @@ use lib.ListN.{length, get_or, take, drop, set, length-set, length-map, drop_of_
 use mir.Syntax.{w64}
 use mir.Val.{to_z, of_z}
 use lib.Seq.{drop-cons}
-use Rattle.lists.proofs.ListLaws.{partly-get, partly-turn, partly-all}
+use Rattle.lists.proofs.ListLaws.{get_d-other, partly-get, partly-turn, partly-all}
 use Rattle.table.proofs.TableLaws.{length-records, get_d-records, rows-kept}
 use Rattle.table.proofs.SignedLaws.{back}
 use Rattle.posting.proofs.HeldLaws.{held_more, Step, left-records, left-held}
@@ -23,7 +23,6 @@ use Rattle.posting.proofs.PostLaws.{found_within}
 use Rattle.posting.proofs.DueLaws.{due-place, due-balance, due-near}
 use Rattle.directory.specs.Directory.{holders_of, Listed}
 use Rattle.directory.proofs.FindLaws.{listed-find, listed-moved}
-use Rattle.line_rows.proofs.ReadLaws.{length-lines, get_d-lines}
 use Rattle.index.specs.Index.{slot_of, Chained}
 use Rattle.index.proofs.ChainLaws.{slot-below, chained_same}
 use Rattle.index.proofs.WalkLaws.{Walk, walk_from, walk-hit, walk-next, walk_none, found-any}
@@ -33,15 +32,14 @@ use Rattle.days.specs.declared.calendar.Day.{Day}
 use Rattle.lines.specs.declared.line.Line.{Line}
 use Rattle.table.specs.declared.Gate.{Gate}
 use Rattle.table.specs.declared.Record.{Record}
-use Rattle.table.specs.Table.{Rows, record_at, records_of, rows_from, rows_with, no_record, done}
-use Rattle.table.specs.Daily.{stands_on}
+use Rattle.table.specs.Table.{Rows, record_at, records_of, rows_from, rows_with, no_record}
 use Rattle.table.specs.Accounts.{find_account, balance_at, gate_balance, Funds}
 use Rattle.ledger.specs.Change.{revoked, debited_at}
 use Rattle.texts.proofs.Tests.{cond-elim}
 use Rattle.posting.specs.Posting.{matches, Ledger, ledger_of}
 use Rattle.posting.specs.Lookup.{receipt_at}
 use Rattle.clearing.specs.Clearing.{any_matches, is_stray, swept_record, swept_gate, sweep_gates, swept}
-use Rattle.line_rows.specs.Lines.{LineRows, line_at, lines_of}
+use Rattle.line_rows.specs.Lines.{no_line}
 use Rattle.posting.specs.Steps.{Held, Left}
 use Rattle.clearing.specs.Steps.{receipt_in}
 
@@ -50,39 +48,25 @@ any_found : (xs : List Line) (r : Record) → is_found (first_from (λ (x : Line
 unfolding any_matches
 any_found xs r = found-any (λ (x : Line). matches x r) (λ (l : List Line). any_matches l r) refl (λ x l. refl) 0 xs
 
-module _ (u : LineRows) (n : ℕ) (r : Record) where
-  pub any-start : (heads next : List ℕ) → Chained (receipt_in u.nums) 0 n heads next → (at : ℕ) → at ≡ get_or heads (slot_of r.receipt) 0
-      → Walk (λ (x : Line). matches x r) (lines_of u n) (receipt_in u.nums) (slot_of r.receipt) n at
+module _ (xs : List Line) (r : Record) where
+  pub any-start : (heads next : List ℕ) → Chained (receipt_in xs) 0 (length xs) heads next → (at : ℕ) → at ≡ get_or heads (slot_of r.receipt) 0
+      → Walk (λ (x : Line). matches x r) xs (receipt_in xs) (slot_of r.receipt) (length xs) at
   any-start heads next c at e =
-      rw e (walk_from (λ (x : Line). matches x r) (lines_of u n) (line_at u 0) (receipt_in u.nums) (slot_of r.receipt) n (length-lines u n)
-      (λ j z h y. ap slot_of (sym (match-receipt (line_at u j) r (ap (λ (x : Line). matches x r) (sym (get_d-lines u n j z h)) ∙ y))))
+      rw e (walk_from (λ (x : Line). matches x r) xs no_line (receipt_in xs) (slot_of r.receipt) (length xs) refl
+      (λ j z h y. ap slot_of (sym (match-receipt (get_or xs j no_line) r (ap (λ (x : Line). matches x r) (get_d-other xs j no_line z h) ∙ y))))
       _ (c.head (slot_of r.receipt) (slot-below r.receipt)))
 
-  module _ (at : ℕ) (k : Walk (λ (x : Line). matches x r) (lines_of u n) (receipt_in u.nums) (slot_of r.receipt) n at) where
-    pub any_none : at ≤ 0 → false ≡ any_matches (lines_of u n) r
-    any_none h = sym (sym (any_found (lines_of u n) r) ∙ ap is_found (walk_none k h))
+  module _ (at : ℕ) (k : Walk (λ (x : Line). matches x r) xs (receipt_in xs) (slot_of r.receipt) (length xs) at) where
+    pub any_none : at ≤ 0 → false ≡ any_matches xs r
+    any_none h = sym (sym (any_found xs r) ∙ ap is_found (walk_none k h))
 
-    module _ (h : 0 < at) (x : Line) (ex : x ≡ line_at u (at - 1)) (b : Bool) (eb : b ≡ matches x r) where
-      tested : matches (get_or (lines_of u n) (at - 1) x) r ≡ b
-      tested = ap (λ (y : Line). matches y r) (get_d-lines u n (at - 1) x (omega (arith, k.most)) ∙ sym ex) ∙ sym eb
+    module _ (h : 0 < at) (b : Bool) (eb : b ≡ matches (get_or xs (at - 1) no_line) r) where
+      pub any_here : b ≡ true → true ≡ any_matches xs r
+      any_here y = sym (sym (any_found xs r) ∙ ap is_found (walk-hit k h no_line (sym eb ∙ y)))
 
-      pub any_here : b ≡ true → true ≡ any_matches (lines_of u n) r
-      any_here y = sym (sym (any_found (lines_of u n) r) ∙ ap is_found (walk-hit k h x (tested ∙ y)))
-
-      pub any_next : b ≡ false → (heads next : List ℕ) → Chained (receipt_in u.nums) 0 n heads next → (to : ℕ) → to ≡ get_or next (at - 1) 0
-          → Walk (λ (x : Line). matches x r) (lines_of u n) (receipt_in u.nums) (slot_of r.receipt) n to
-      any_next y heads next c to e = walk-next k h heads next c to e x (tested ∙ y)
-
--- ---- whether a record is a stray
-module _ (day : Day) (xs : List Line) (r : Record) where
-  module _ (s : Bool) (es : s ≡ stands_on day done r) where
-    pub other-day : not s ≡ true → false ≡ is_stray day xs r
-    unfolding is_stray
-    other-day n = rw (← es, not-true s n)
-
-    pub of-day : not s ≡ false → (b : Bool) → b ≡ any_matches xs r → not b ≡ is_stray day xs r
-    unfolding is_stray
-    of-day n b eb = rw (← es, not-false s n, eb)
+      pub any_next : b ≡ false → (heads next : List ℕ) → Chained (receipt_in xs) 0 (length xs) heads next → (to : ℕ) → to ≡ get_or next (at - 1) 0
+          → Walk (λ (x : Line). matches x r) xs (receipt_in xs) (slot_of r.receipt) (length xs) to
+      any_next y heads next c to e = walk-next k h heads next c to e no_line (sym eb ∙ y)
 
 set_same : (rs : List Record) (i : ℕ) (z : Record) → set rs i (get_or rs i z) ≡ rs
 set_same [] i z = refl

@@ -7,9 +7,9 @@ ghost use Rattle.posting.specs.Posting.{Ledger, ledger_of};
 ghost use Rattle.posting.specs.Lookup.{receipt_at};
 ghost use Rattle.clearing.specs.Clearing.{settle_lines};
 ghost use Rattle.posting.specs.Steps.{Held, Left};
-ghost use Rattle.line_rows.specs.Lines.{lines_of, Read, lines_lent};
+ghost use Rattle.line_rows.specs.Lines.{Read};
 
-use line_rows::reading;
+use lines::line::Line;
 use posting::{applying, lookup, verdict};
 use table::{Gate, accounts};
 
@@ -22,45 +22,36 @@ pub fn settle_lines(
     dates: &mut [[[u8; 19]; 3]],
     g: Gate,
     clock: [u8; 19],
-    values: &[[u64; 4]],
-    holders: &[[u8; 30]],
-    days: &[[u8; 19]],
-    count: usize,
+    lines: &[Line],
     names: &[[u8; 30]],
     keys: &[[u64; 3]],
     heads: &mut [u16],
     next: &mut [u16],
 ) -> Gate
-    requires held { Held g (lent nums.old numbers.old dates.old) 10000000000000 × Read (lines_lent values.now holders.now days.now) count }
+    requires held { Held g (lent nums.old numbers.old dates.old) 10000000000000 × Read lines.now }
     requires listed { Listed names.now keys.now g }
     requires chained { Chained (receipt_at nums.old) 0 g.used heads.old next.old × (4096 ≡ length next.old) }
     ensures left { Left (lent nums.old numbers.old dates.old)
-        (settle_lines clock (length nums.old) (lines_of (lines_lent values.now holders.now days.now) count) (ledger_of g (lent nums.old numbers.old dates.old)))
+        (settle_lines clock (length nums.old) lines.now (ledger_of g (lent nums.old numbers.old dates.old)))
         result (lent nums.new numbers.new dates.new) }
     ensures held_2 { Held result (lent nums.new numbers.new dates.new) 11000000000000 }
-    ensures fact { ◌≡◌ {A = Ledger} (settle_lines clock (length nums.old) (lines_of (lines_lent values.now holders.now days.now) count) (ledger_of g (lent nums.old numbers.old dates.old)))
+    ensures fact { ◌≡◌ {A = Ledger} (settle_lines clock (length nums.old) lines.now (ledger_of g (lent nums.old numbers.old dates.old)))
         (ledger_of result (lent nums.new numbers.new dates.new)) }
     ensures listed_2 { Listed names.now keys.now result }
     ensures chained_2 { Chained (receipt_at nums.new) 0 result.used heads.new next.new }
 {
     let mut gate = g;
-    let mut i: usize = 0;
-    while i < count {
-        let x = reading::line_at(values, holders, days, i);
+    for x in lines {
         let used = gate.used;
-        let v = verdict::judge(nums, numbers, dates, used, names, keys, x, heads, next);
-        let due = applying::apply(nums, numbers, dates, used, names, keys, clock, x, v);
+        let v = verdict::judge(nums, numbers, dates, used, names, keys, *x, heads, next);
+        let due = applying::apply(nums, numbers, dates, used, names, keys, clock, *x, v);
         lookup::follow(nums, used, due.used, heads, next);
         gate.used = due.used;
-        i += 1;
-        let account = due.account;
-        let Some(at) = account else {
+        let Some(at) = due.account else {
             continue;
         };
-        let mut a = gate.accounts[at];
-        let b = a.balance;
-        a.balance = accounts::plus(b, x.amount);
-        gate.accounts[at] = a;
+        let a = &mut gate.accounts[at];
+        a.balance = accounts::plus(a.balance, x.amount);
     }
     gate
 }

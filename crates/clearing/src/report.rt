@@ -6,9 +6,7 @@ ghost use Rattle.table.specs.Table.{records_of};
 ghost use Rattle.table.specs.Lent.{lent};
 ghost use Rattle.posting.specs.Lookup.{receipt_at};
 ghost use Rattle.clearing.specs.Clearing.{any_done, report_of};
-ghost use Rattle.line_rows.specs.Lines.{lines_of, Read, lines_lent};
 
-use line_rows::reading;
 use lines::line::Line;
 use posting::lookup;
 use posting::lookup::Sought;
@@ -27,8 +25,8 @@ fn any_done(
     requires chained { Chained (receipt_at nums.now) 0 used heads.now next.now }
     ensures { result ≡ any_done x (records_of (lent nums.now numbers.now dates.now) used) }
 {
-    let sought = Sought::MatchedDone;
-    lists::is_found(lookup::find(nums, numbers, dates, used, heads, next, sought, x))
+    let done = Sought::MatchedDone;
+    lookup::find(nums, numbers, dates, used, heads, next, done, x).is_some()
 }
 
 // The byte of a line.
@@ -46,20 +44,14 @@ pub fn write_report(
     used: usize,
     heads: &[u16],
     next: &[u16],
-    values: &[[u64; 4]],
-    holders: &[[u8; 30]],
-    days: &[[u8; 19]],
-    count: usize,
+    lines: &[Line],
     out: &mut [u8],
 )
-    requires used_in_bounds { (used ≤ length nums.now) × (used ≤ length numbers.now) × (used ≤ length dates.now) × (count ≤ length out.old) }
-    requires chained { Chained (receipt_at nums.now) 0 used heads.now next.now × Read (lines_lent values.now holders.now days.now) count }
-    ensures { out.new ≡ over out.old 0 (report_of (lines_of (lines_lent values.now holders.now days.now) count) (records_of (lent nums.now numbers.now dates.now) used)) }
+    requires used_in_bounds { (used ≤ length nums.now) × (used ≤ length numbers.now) × (used ≤ length dates.now) × (length lines.now ≤ length out.old) }
+    requires chained { Chained (receipt_at nums.now) 0 used heads.now next.now }
+    ensures { out.new ≡ over out.old 0 (report_of lines.now (records_of (lent nums.now numbers.now dates.now) used)) }
 {
-    let mut i: usize = 0;
-    while i < count {
-        let x = reading::line_at(values, holders, days, i);
-        out[i] = mark(any_done(nums, numbers, dates, used, heads, next, x));
-        i += 1;
+    for (i, x) in lines.iter().enumerate() {
+        out[i] = mark(any_done(nums, numbers, dates, used, heads, next, *x));
     }
 }

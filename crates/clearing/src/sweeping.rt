@@ -10,46 +10,34 @@ ghost use Rattle.posting.specs.Posting.{Ledger, ledger_of};
 ghost use Rattle.clearing.specs.Clearing.{any_matches, is_stray, swept};
 ghost use Rattle.posting.specs.Steps.{Held, Left};
 ghost use Rattle.clearing.specs.Steps.{receipt_in};
-ghost use Rattle.line_rows.specs.Lines.{lines_of, Read, lines_lent};
+ghost use Rattle.line_rows.specs.Lines.{Read};
 
 use days::calendar::Day;
 use ledger::change;
-use line_rows::reading;
+use lines::line::Line;
 use posting::matching;
 use table::{Gate, Record, accounts, daily, rows};
 
 // Chains the lines by their receipts, from the last.
-pub fn link_lines(values: &[[u64; 4]], count: usize, heads: &mut [u16], next: &mut [u16])
-    requires count_in_bounds { (count ≤ length values.now) × (count ≤ 4096) × (count ≤ length next.old) }
+pub fn link_lines(lines: &[Line], heads: &mut [u16], next: &mut [u16])
+    requires lines_in_bounds { (length lines.now ≤ 4096) × (length lines.now ≤ length next.old) }
     requires heads_len { (length heads.old ≡ 8192) × ((s : ℕ) → get_or heads.old s 0 ≡ 0) }
-    ensures { Chained (receipt_in values.now) 0 count heads.new next.new }
+    ensures { Chained (receipt_in lines.now) 0 (length lines.now) heads.new next.new }
 {
-    let mut i = count;
-    while 0 < i {
-        let j = i - 1;
-        index::push(heads, next, j, values[j][2]);
-        i = j;
+    for i in (0..lines.len()).rev() {
+        index::push(heads, next, i, lines[i].receipt);
     }
 }
 
 // Whether any line matches the record: only those of its receipt's slot are looked at.
-fn any_matches(
-    values: &[[u64; 4]],
-    holders: &[[u8; 30]],
-    days: &[[u8; 19]],
-    count: usize,
-    heads: &[u16],
-    next: &[u16],
-    r: Record,
-) -> bool
-    requires { Read (lines_lent values.now holders.now days.now) count × Chained (receipt_in values.now) 0 count heads.now next.now }
-    ensures { result ≡ any_matches (lines_of (lines_lent values.now holders.now days.now) count) r }
+fn any_matches(lines: &[Line], heads: &[u16], next: &[u16], r: Record) -> bool
+    requires { Chained (receipt_in lines.now) 0 (length lines.now) heads.now next.now }
+    ensures { result ≡ any_matches lines.now r }
 {
     let mut at = index::first(heads, r.receipt);
     while 0 < at {
         let j = at - 1;
-        let x = reading::line_at(values, holders, days, j);
-        if matching::matches_record(x, r) {
+        if matching::matches_record(lines[j], r) {
             return true;
         }
         at = index::after(next, j);
@@ -58,23 +46,12 @@ fn any_matches(
 }
 
 // Whether a record is done, of the day, and matched by no line.
-fn is_stray(
-    r: Record,
-    day: Day,
-    values: &[[u64; 4]],
-    holders: &[[u8; 30]],
-    days: &[[u8; 19]],
-    count: usize,
-    heads: &[u16],
-    next: &[u16],
-) -> bool
-    requires { Read (lines_lent values.now holders.now days.now) count × Chained (receipt_in values.now) 0 count heads.now next.now }
-    ensures { result ≡ is_stray day (lines_of (lines_lent values.now holders.now days.now) count) r }
+#[tactic(auto, unfolding(crate::specs::Clearing::is_stray))]
+fn is_stray(r: Record, day: Day, lines: &[Line], heads: &[u16], next: &[u16]) -> bool
+    requires { Chained (receipt_in lines.now) 0 (length lines.now) heads.now next.now }
+    ensures { result ≡ is_stray day lines.now r }
 {
-    if !daily::stands_on(r, day, table::DONE) {
-        return false;
-    }
-    !any_matches(values, holders, days, count, heads, next, r)
+    daily::stands_on(r, day, table::DONE) && !any_matches(lines, heads, next, r)
 }
 
 // Cancels the record r at i; its account, where it is known.
@@ -93,8 +70,7 @@ fn revoke_at(
     ensures value { result ≡ find_account r.number r.kind (holders_of names.now keys.now) }
 {
     rows::store(nums, numbers, dates, i, change::revoke_record(clock, r));
-    let n = r.number;
-    directory::find(names, keys, n, r.kind)
+    directory::find(names, keys, r.number, r.kind)
 }
 
 // Sweeps every used record; what is cancelled is debited on the gate's own copy.
@@ -107,43 +83,33 @@ pub fn sweep(
     g: Gate,
     clock: [u8; 19],
     day: Day,
-    values: &[[u64; 4]],
-    holders: &[[u8; 30]],
-    days: &[[u8; 19]],
-    count: usize,
+    lines: &[Line],
     names: &[[u8; 30]],
     keys: &[[u64; 3]],
     heads: &[u16],
     next: &[u16],
 ) -> Gate
-    requires held { Held g (lent nums.old numbers.old dates.old) 11000000000000 × Read (lines_lent values.now holders.now days.now) count }
+    requires held { Held g (lent nums.old numbers.old dates.old) 11000000000000 × Read lines.now }
     requires listed { Listed names.now keys.now g }
-    requires chained { Chained (receipt_in values.now) 0 count heads.now next.now }
+    requires chained { Chained (receipt_in lines.now) 0 (length lines.now) heads.now next.now }
     ensures left { Left (lent nums.old numbers.old dates.old)
-        (swept clock day (lines_of (lines_lent values.now holders.now days.now) count) (ledger_of g (lent nums.old numbers.old dates.old)))
+        (swept clock day lines.now (ledger_of g (lent nums.old numbers.old dates.old)))
         result (lent nums.new numbers.new dates.new) }
     ensures held_2 { Held result (lent nums.new numbers.new dates.new) 16000000000000 }
-    ensures fact { ◌≡◌ {A = Ledger} (swept clock day (lines_of (lines_lent values.now holders.now days.now) count) (ledger_of g (lent nums.old numbers.old dates.old)))
+    ensures fact { ◌≡◌ {A = Ledger} (swept clock day lines.now (ledger_of g (lent nums.old numbers.old dates.old)))
         (ledger_of result (lent nums.new numbers.new dates.new)) }
 {
-    let used = g.used;
     let mut gate = g;
-    let mut i: usize = 0;
-    while i < used {
+    for i in 0..g.used {
         let r = rows::load(nums, numbers, dates, i);
-        if !is_stray(r, day, values, holders, days, count, heads, next) {
-            i += 1;
+        if !is_stray(r, day, lines, heads, next) {
             continue;
         }
-        let account = revoke_at(nums, numbers, dates, clock, r, i, names, keys);
-        i += 1;
-        let Some(at) = account else {
+        let Some(at) = revoke_at(nums, numbers, dates, clock, r, i, names, keys) else {
             continue;
         };
-        let mut a = gate.accounts[at];
-        let b = a.balance;
-        a.balance = accounts::minus(b, r.amount);
-        gate.accounts[at] = a;
+        let a = &mut gate.accounts[at];
+        a.balance = accounts::minus(a.balance, r.amount);
     }
     gate
 }

@@ -17,9 +17,8 @@ use Rattle.clearing.specs.Clearing.{settle_lines, swept_record, swept, report_of
 use Rattle.closing.specs.Closing.{settle_day, reported}
 use Rattle.admission.specs.Delivery.{Delivery}
 use Rattle.posting.specs.Steps.{Left}
-use Rattle.line_rows.specs.Lines.{LineRows, lines_of, Read}
+use Rattle.line_rows.specs.Lines.{Read}
 use Rattle.clearing.proofs.LinesLaws.{from-from}
-use Rattle.line_rows.proofs.ReadLaws.{length-lines}
 
 -- one byte a line
 pub report-length : (xs : List Line) (rs : List Record) → length (report_of xs rs) ≡ length xs
@@ -47,24 +46,20 @@ module _ (g : Gate) (t : Rows) (clock : List ℕ) (day : Day) (xs : List Line)
       ∙ from-from t (records_of t₁ a.used) (records_of t₂ b.used) (omega (arith, as_many))
 
 -- ---- and then closed
-module _ (g : Gate) (t : Rows) (clock : List ℕ) (day : Day) (u : LineRows) (n : ℕ) (out : List ℕ) (read : Read u n) (room : 512 ≤ length out)
-    (b : Gate) (t₂ : Rows) (is : swept clock day (lines_of u n) (settle_lines clock (length t.nums) (lines_of u n) (ledger_of g t)) ≡ ledger_of b t₂)
+module _ (g : Gate) (t : Rows) (clock : List ℕ) (day : Day) (xs : List Line) (out : List ℕ) (read : Read xs) (room : 512 ≤ length out)
+    (b : Gate) (t₂ : Rows) (is : swept clock day xs (settle_lines clock (length t.nums) xs (ledger_of g t)) ≡ ledger_of b t₂)
     (rows : t₂ ≡ rows_from t (records_of t₂ b.used)) where
-  pub day-settled : (out' : List ℕ) → out' ≡ over out 0 (report_of (lines_of u n) (records_of t₂ b.used))
-      → ◌≡◌ {A = Delivery} (record { code = 0; gate = with_closed b day; rows = t₂; out = out'; size = n }) (settle_day g t clock day (lines_of u n) out)
+  pub day-settled : (out' : List ℕ) → out' ≡ over out 0 (report_of xs (records_of t₂ b.used))
+      → ◌≡◌ {A = Delivery} (record { code = 0; gate = with_closed b day; rows = t₂; out = out'; size = length xs }) (settle_day g t clock day xs out)
   unfolding settle_day
   day-settled out' e =
-      let few : length (lines_of u n) ≤ 512 = omega (arith, read.few, length-lines u n) in
       rw is
-      (ap (λ (y : Rows). record { code = 0; gate = with_closed b day; rows = y; out = out'; size = n }) rows
-      ∙ ap (λ (k : ℕ). record { code = 0; gate = with_closed b day; rows = rows_from t (records_of t₂ b.used); out = out'; size = k }) (sym (length-lines u n))
-      ∙ ap (λ (y : List ℕ). record { code = 0; gate = with_closed b day; rows = rows_from t (records_of t₂ b.used); out = y; size = length (lines_of u n) })
-      (e ∙ report-written (lines_of u n) (records_of t₂ b.used) out few room))
+      (ap (λ (y : Rows). record { code = 0; gate = with_closed b day; rows = y; out = out'; size = length xs }) rows
+      ∙ ap (λ (y : List ℕ). record { code = 0; gate = with_closed b day; rows = rows_from t (records_of t₂ b.used); out = y; size = length xs })
+      (e ∙ report-written xs (records_of t₂ b.used) out read.few room))
 
 -- ---- a day that is only reported
-module _ (g : Gate) (t : Rows) (u : LineRows) (n : ℕ) (out : List ℕ) (read : Read u n) (room : 512 ≤ length out) where
-  pub day-reported : (out' : List ℕ) → out' ≡ over out 0 (report_of (lines_of u n) (records_of t g.used))
-      → ◌≡◌ {A = Delivery} (record { code = 0; gate = g; rows = t; out = out'; size = n }) (reported g t (lines_of u n) out)
-  day-reported out' e =
-      let few : length (lines_of u n) ≤ 512 = omega (arith, read.few, length-lines u n) in
-      rw (length-lines u n, e ∙ report-written (lines_of u n) (records_of t g.used) out few room)
+module _ (g : Gate) (t : Rows) (xs : List Line) (out : List ℕ) (read : Read xs) (room : 512 ≤ length out) where
+  pub day-reported : (out' : List ℕ) → out' ≡ over out 0 (report_of xs (records_of t g.used))
+      → ◌≡◌ {A = Delivery} (record { code = 0; gate = g; rows = t; out = out'; size = length xs }) (reported g t xs out)
+  day-reported out' e = rw (e ∙ report-written xs (records_of t g.used) out read.few room)

@@ -71,6 +71,9 @@ none_left s at h = rw (drop_of_length-le s h)
 pub next-line : (xs : List Line) (i : ℕ) (x : Line) → x ≡ get_or xs i no_line → i < length xs → drop i xs ≡ x ∷ drop (i + 1) xs
 next-line xs i x ex h = drop-cons xs i no_line h ∙ rw (← ex, add-one i)
 
+pub read_small : (xs : List Line) → Read xs → (i : ℕ) → i < length xs → (x : Line) → x ≡ get_or xs i no_line → x.amount < 1000000000
+read_small xs read i h x e = let a : x.amount ≡ (get_or xs i no_line).amount = ap (λ (y : Line). y.amount) e in omega (arith, read.small i h)
+
 -- ---- a line that was found
 module _ (s : List ℕ) (f : Found) (stands : Stands s f) where
   pub name-short : length (take f.len s) ≤ 30

@@ -6,24 +6,23 @@ ghost use Rattle.settlement.specs.Settle.{settle_read, settle};
 ghost use Rattle.settlement.specs.SettleText.{settle_text};
 ghost use Rattle.admission.specs.Delivery.{delivery_of};
 ghost use Rattle.posting.specs.Steps.{Held};
-ghost use Rattle.line_rows.specs.Lines.{lines_of, Read, lines_lent};
+ghost use Rattle.line_rows.specs.Lines.{Read};
 
 use days::calendar::Day;
 use ledger::Reply;
 use line_rows::reading;
+use lines::line::Line;
 use table::Gate;
 
 // Whether the day is a date up to the closed one.
 fn is_past(closed: Day, day: Day) -> bool
     ensures { result ≡ is_day day && not (day_before closed day) }
 {
-    if !day.is_valid() {
-        return false;
-    }
-    !closed.before(day)
+    day.is_valid() && !closed.before(day)
 }
 
 // The lines of a registry without a fault: the day after the closed one is settled, one up to it only reported.
+#[tactic(auto, unfolding(crate::specs::Settle::settle_read))]
 pub(crate) fn settle_read(
     nums: &mut [[u64; 6]],
     numbers: &mut [[u8; 30]],
@@ -31,25 +30,20 @@ pub(crate) fn settle_read(
     g: Gate,
     clock: [u8; 19],
     day: Day,
-    values: &[[u64; 4]],
-    holders: &[[u8; 30]],
-    days: &[[u8; 19]],
-    count: usize,
+    lines: &[Line],
     out: &mut [u8],
 ) -> Reply
     requires held { Held g (lent nums.old numbers.old dates.old) 10000000000000 }
-    requires read { Read (lines_lent values.now holders.now days.now) count × (512 ≤ length out.old) }
+    requires read { Read lines.now × (512 ≤ length out.old) }
     ensures { delivery_of result (lent nums.new numbers.new dates.new) out.new
-        ≡ settle_read g (lent nums.old numbers.old dates.old) clock day (lines_of (lines_lent values.now holders.now days.now) count) out.old }
+        ≡ settle_read g (lent nums.old numbers.old dates.old) clock day lines.now out.old }
 {
     let closed = g.closed;
     if day.follows(closed) {
-        return closing::settle_day(
-            nums, numbers, dates, g, clock, day, values, holders, days, count, out,
-        );
+        return closing::settle_day(nums, numbers, dates, g, clock, day, lines, out);
     }
     if is_past(closed, day) {
-        return closing::report_day(nums, numbers, dates, g, values, holders, days, count, out);
+        return closing::report_day(nums, numbers, dates, g, lines, out);
     }
     Reply {
         code: 55,
@@ -73,20 +67,15 @@ pub(crate) fn settle_text(
     ensures { delivery_of result (lent nums.new numbers.new dates.new) out.new
         ≡ settle_text g (lent nums.old numbers.old dates.old) clock day s.now out.old }
 {
-    let mut values = reading::empty_nums();
-    let mut holders = reading::empty_numbers();
-    let mut days = reading::empty_dates();
-    let read = reading::read_registry(day, s, &mut values, &mut holders, &mut days);
-    if read.fault != 0 {
-        return Reply {
-            code: read.fault,
+    let mut lines = reading::no_lines();
+    match reading::read_registry(day, s, &mut lines) {
+        Ok(n) => settle_read(nums, numbers, dates, g, clock, day, &lines[..n], out),
+        Err(fault) => Reply {
+            code: u64::from(fault),
             gate: g,
             size: 0,
-        };
+        },
     }
-    settle_read(
-        nums, numbers, dates, g, clock, day, &values, &holders, &days, read.count, out,
-    )
 }
 
 // Settles a day by its registry, or only reports it; a fault keeps all.

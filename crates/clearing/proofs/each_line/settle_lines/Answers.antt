@@ -3,8 +3,8 @@ use Rattle.posting.proofs.PostLaws.{verdict-placed}
 use Rattle.clearing.proofs.LinesLaws.{turn-of, going_start, going_end, ledger-end, turn-chained, turn-room, turn-none, turn-credited-back}
 use Rattle.clearing.proofs.each_line.settle_lines.Goals as goal
 
-pub loop-i-init : goal.loop-i-init
-loop-i-init c =
+pub loop-x-init : goal.loop-x-init
+loop-x-init c =
     record {
       most = omega arith;
       numbers-kept = refl;
@@ -18,33 +18,33 @@ loop-i-init c =
 
 pub apply-due-requires-clause-keyed : goal.apply-due-requires-clause-keyed
 apply-due-requires-clause-keyed c =
-    let v = c.loop-i.invariant in
+    let v = c.loop-x.invariant in
     (v.listed.keyed, verdict-placed _ _ _ _ (c.judge-v.ensures _ v.listed refl) _ _ v.listed)
 
 pub follow-requires-clause-chained : goal.follow-requires-clause-chained
 follow-requires-clause-chained c =
-    turn-chained (turn-of c.requires.held.1 c.requires.chained.1 c.loop-i.invariant c.loop-i-test.true c.line_at-x.ensures
-    (c.judge-v.ensures _ c.loop-i.invariant.listed refl) c.apply-due.ensures.applied c.apply-due.ensures.within c.apply-due.auto.numbers c.apply-due.auto.dates)
+    turn-chained (turn-of c.requires.held.1 c.requires.chained.1 c.loop-x.invariant c.loop-x-test.true refl
+    (c.judge-v.ensures _ c.loop-x.invariant.listed refl) c.apply-due.ensures.applied c.apply-due.ensures.within c.apply-due.auto.numbers c.apply-due.auto.dates)
 
 pub follow-requires-clause-used_in_bounds : goal.follow-requires-clause-used_in_bounds
 follow-requires-clause-used_in_bounds c =
-    turn-room (turn-of c.requires.held.1 c.requires.chained.1 c.loop-i.invariant c.loop-i-test.true c.line_at-x.ensures
-    (c.judge-v.ensures _ c.loop-i.invariant.listed refl) c.apply-due.ensures.applied c.apply-due.ensures.within c.apply-due.auto.numbers c.apply-due.auto.dates)
+    turn-room (turn-of c.requires.held.1 c.requires.chained.1 c.loop-x.invariant c.loop-x-test.true refl
+    (c.judge-v.ensures _ c.loop-x.invariant.listed refl) c.apply-due.ensures.applied c.apply-due.ensures.within c.apply-due.auto.numbers c.apply-due.auto.dates)
 
-pub loop-i-preserved-in_default : goal.loop-i-preserved-in_default
-loop-i-preserved-in_default c =
-    turn-none (turn-of c.requires.held.1 c.requires.chained.1 c.loop-i.invariant c.loop-i-test.true c.line_at-x.ensures
-    (c.judge-v.ensures _ c.loop-i.invariant.listed refl) c.apply-due.ensures.applied c.apply-due.ensures.within c.apply-due.auto.numbers c.apply-due.auto.dates)
+pub loop-x-preserved-in_default : goal.loop-x-preserved-in_default
+loop-x-preserved-in_default c =
+    turn-none (turn-of c.requires.held.1 c.requires.chained.1 c.loop-x.invariant c.loop-x-test.true refl
+    (c.judge-v.ensures _ c.loop-x.invariant.listed refl) c.apply-due.ensures.applied c.apply-due.ensures.within c.apply-due.auto.numbers c.apply-due.auto.dates)
     _ _ c.follow.auto.heads c.follow.auto.next c.follow.ensures c.in_default.is
 
-pub loop-i-preserved : goal.loop-i-preserved
-loop-i-preserved c =
-    turn-credited-back (turn-of c.requires.held.1 c.requires.chained.1 c.loop-i.invariant c.loop-i-test.true c.line_at-x.ensures
-    (c.judge-v.ensures _ c.loop-i.invariant.listed refl) c.apply-due.ensures.applied c.apply-due.ensures.within c.apply-due.auto.numbers c.apply-due.auto.dates)
-    _ _ c.follow.auto.heads c.follow.auto.next c.follow.ensures _ c.in-Some.is _ c.plus.ensures.0 c.plus.ensures.1
+pub loop-x-preserved : goal.loop-x-preserved
+loop-x-preserved c =
+    turn-credited-back (turn-of c.requires.held.1 c.requires.chained.1 c.loop-x.invariant c.loop-x-test.true refl
+    (c.judge-v.ensures _ c.loop-x.invariant.listed refl) c.apply-due.ensures.applied c.apply-due.ensures.within c.apply-due.auto.numbers c.apply-due.auto.dates)
+    _ _ c.follow.auto.heads c.follow.auto.next c.follow.ensures _ c.in-Some.is _ c.plus-a.ensures.0 c.plus-a.ensures.1
 
 pub returns-clause-left : goal.returns-clause-left
-returns-clause-left c = going_end _ _ _ c.requires.held.1 _ _ _ _ _ c.loop-i.invariant.going c.loop-i-test.false
+returns-clause-left c = going_end _ _ c.requires.held.1 _ _ _ _ _ c.loop-x.invariant.going c.loop-x-test.false
 
 pub returns-clause-fact : goal.returns-clause-fact
-returns-clause-fact c = ledger-end _ _ _ c.requires.held.1 _ _ _ _ _ c.loop-i.invariant.going c.loop-i-test.false
+returns-clause-fact c = ledger-end _ _ c.requires.held.1 _ _ _ _ _ c.loop-x.invariant.going c.loop-x-test.false

@@ -18,26 +18,26 @@ loop-i-preserved-then-not-is_stray c = turn-skip (turn-of c.loop-i.invariant c.l
 
 pub loop-i-preserved-in_default : goal.loop-i-preserved-in_default
 loop-i-preserved-in_default c =
-    turn-none (turn-of c.loop-i.invariant c.loop-i-test.true c.load-r.ensures.value c.is_stray.ensures) _ c.revoke_at-account.ensures.value (ap not c.if-not-is_stray.false)
-    _ c.revoke_at-account.ensures.dates_value c.in_default.is
+    turn-none (turn-of c.loop-i.invariant c.loop-i-test.true c.load-r.ensures.value c.is_stray.ensures) _ c.revoke_at.ensures.value (ap not c.if-not-is_stray.false)
+    _ c.revoke_at.ensures.dates_value c.in_default.is
 
 pub offset_bounds-gate-at : goal.offset_bounds-gate-at
 offset_bounds-gate-at c =
-    let h = turn-account (turn-of c.loop-i.invariant c.loop-i-test.true c.load-r.ensures.value c.is_stray.ensures) _ c.revoke_at-account.ensures.value _ c.in-Some.is in
+    let h = turn-account (turn-of c.loop-i.invariant c.loop-i-test.true c.load-r.ensures.value c.is_stray.ensures) _ c.revoke_at.ensures.value _ c.in-Some.is in
     record { fits = omega arith }
 
 pub bounds-gate-at : goal.bounds-gate-at
-bounds-gate-at c = turn-account (turn-of c.loop-i.invariant c.loop-i-test.true c.load-r.ensures.value c.is_stray.ensures) _ c.revoke_at-account.ensures.value _ c.in-Some.is
+bounds-gate-at c = turn-account (turn-of c.loop-i.invariant c.loop-i-test.true c.load-r.ensures.value c.is_stray.ensures) _ c.revoke_at.ensures.value _ c.in-Some.is
 
-pub minus-requires : goal.minus-requires
-minus-requires c =
+pub minus-a-requires : goal.minus-a-requires
+minus-a-requires c =
     let k = turn-of c.loop-i.invariant c.loop-i-test.true c.load-r.ensures.value c.is_stray.ensures in
-    (turn_near k _ c.revoke_at-account.ensures.value _ c.in-Some.is, turn_small k)
+    (turn_near k _ c.revoke_at.ensures.value _ c.in-Some.is, turn_small k)
 
 pub loop-i-preserved : goal.loop-i-preserved
 loop-i-preserved c =
-    turn-debited-back (turn-of c.loop-i.invariant c.loop-i-test.true c.load-r.ensures.value c.is_stray.ensures) _ c.revoke_at-account.ensures.value (ap not c.if-not-is_stray.false)
-    _ c.revoke_at-account.ensures.dates_value _ c.in-Some.is _ c.minus.ensures.0 c.minus.ensures.1
+    turn-debited-back (turn-of c.loop-i.invariant c.loop-i-test.true c.load-r.ensures.value c.is_stray.ensures) _ c.revoke_at.ensures.value (ap not c.if-not-is_stray.false)
+    _ c.revoke_at.ensures.dates_value _ c.in-Some.is _ c.minus-a.ensures.0 c.minus-a.ensures.1
 
 pub returns-clause-left : goal.returns-clause-left
 returns-clause-left c = sweeping-end c.loop-i.invariant.sweeping c.loop-i-test.false
