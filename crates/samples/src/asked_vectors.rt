@@ -2,37 +2,36 @@
 use crate::print;
 use message::request::Asked;
 use parameters::action;
-use payments::Action;
 use request_writer::write;
 use texts::{digits, scan};
 use vectors::given;
 
-// The fields of a request, split by spaces: number, type, kopecks, receipt, date and reason.
-fn fields_of(action: Action, s: &[u8]) -> Asked {
-    let s1 = scan::after_byte(s, b' ');
-    let s2 = scan::after_byte(s1, b' ');
-    let s3 = scan::after_byte(s2, b' ');
-    let s4 = scan::after_byte(s3, b' ');
-    let number = given::number(s);
-    let date = given::date(s4);
-    Asked {
+// A request from its action's word and its fields, split by spaces: number, type, kopecks, receipt, date and reason.
+fn asked_of(s: &[u8]) -> Option<Asked> {
+    let action = action::read_action(scan::before_byte(s, b' '))?;
+    let number = scan::after_byte(s, b' ');
+    let kind = scan::after_byte(number, b' ');
+    let amount = scan::after_byte(kind, b' ');
+    let receipt = scan::after_byte(amount, b' ');
+    let rest = scan::after_byte(receipt, b' ');
+    let date = given::date(rest);
+    Some(Asked {
         action,
-        number,
-        kind: given::value(s1),
-        amount: given::value(s2),
-        receipt: given::value(s3),
+        number: given::number(number),
+        kind: given::value(kind),
+        amount: given::value(amount),
+        receipt: given::value(receipt),
         date,
-        reason: given::value(scan::after_byte(s4, b' ')),
-    }
+        reason: given::value(scan::after_byte(rest, b' ')),
+    })
 }
 
 // The text of a request.
 pub fn write_request(s: &[u8]) {
-    let Some(a) = action::read_action(scan::before_byte(s, b' ')) else {
-        io::write_all(1, b"unknown action");
+    let Some(q) = asked_of(s) else {
+        print::unknown_action();
         return;
     };
-    let q = fields_of(a, scan::after_byte(s, b' '));
     let mut space = [0u8; 512];
     let n = write::write_request(q, &mut space, 0);
     if n == 0 {
@@ -45,28 +44,18 @@ pub fn write_request(s: &[u8]) {
 // The cursor that is handed back, from a cursor, a buffer's size and a request.
 pub fn write_request_at(s: &[u8]) {
     let rest = scan::after_byte(s, b' ');
-    let Some(size) = digits::read_digits(scan::before_byte(rest, b' '), 3) else {
+    let Some(size @ 0..=512) = digits::read_digits(scan::before_byte(rest, b' '), 3) else {
         print::malformed();
         return;
     };
-    if 512 < size {
-        print::malformed();
+    let Some(q) = asked_of(scan::after_byte(rest, b' ')) else {
+        print::unknown_action();
         return;
-    }
+    };
     let mut space = [0u8; 512];
-    let n = size as usize;
-    show_cursor(
-        scan::after_byte(rest, b' '),
-        &mut space[..n],
-        given::value(s) as usize,
+    let dst = &mut space[..size as usize];
+    io::print_decimal(
+        1,
+        write::write_request(q, dst, given::value(s) as usize) as u64,
     );
-}
-
-fn show_cursor(s: &[u8], dst: &mut [u8], at: usize) {
-    let Some(a) = action::read_action(scan::before_byte(s, b' ')) else {
-        io::write_all(1, b"unknown action");
-        return;
-    };
-    let q = fields_of(a, scan::after_byte(s, b' '));
-    io::print_decimal(1, write::write_request(q, dst, at) as u64);
 }

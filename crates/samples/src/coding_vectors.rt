@@ -8,15 +8,11 @@ use vectors::show;
 // The parameters of `GET` and a target, or of `POST` and a body, in brackets.
 pub fn parameters(s: &[u8]) {
     let rest = scan::after_byte(s, b' ');
-    if scan::same_bytes(scan::before_byte(s, b' '), b"GET") {
-        bracketed(params::parameters(Method::Get, rest, b""));
-        return;
+    match scan::before_byte(s, b' ') {
+        b"GET" => bracketed(params::parameters(Method::Get, rest, b"")),
+        b"POST" => bracketed(params::parameters(Method::Post, b"/x?y", rest)),
+        _ => print::malformed(),
     }
-    if scan::same_bytes(scan::before_byte(s, b' '), b"POST") {
-        bracketed(params::parameters(Method::Post, b"/x?y", rest));
-        return;
-    }
-    print::malformed();
 }
 
 fn bracketed(s: &[u8]) {

@@ -17,17 +17,15 @@ fn show_day(r: Option<Day>, none: &[u8]) {
 
 // A written date, written back, and its day.
 pub fn written_date(s: &[u8]) {
-    let r = date::read_date(s);
-    if r.ok {
-        let d = r.date;
-        let mut space = [0u8; 19];
-        let n = date::write_date(d, &mut space, 0);
-        io::write_all(1, scan::first_bytes(&space, n));
-        io::write_all(1, b" ");
-        show_day(date::day_of_date(d), b"no date");
-    } else {
+    let Some(d) = date::read_date(s) else {
         print::fault(5);
-    }
+        return;
+    };
+    let mut space = [0u8; 19];
+    let n = date::write_date(d, &mut space, 0);
+    io::write_all(1, scan::first_bytes(&space, n));
+    io::write_all(1, b" ");
+    show_day(date::day_of_date(d), b"no date");
 }
 
 // The day that a text is.
@@ -46,11 +44,9 @@ pub fn next(s: &[u8]) {
 
 // Whether the first of two days, split by a space, comes before the second.
 pub fn before(s: &[u8]) {
-    let Some(a) = calendar::read_day(scan::before_byte(s, b' ')) else {
-        io::write_all(1, b"no date");
-        return;
-    };
-    let Some(b) = calendar::read_day(scan::after_byte(s, b' ')) else {
+    let first = calendar::read_day(scan::before_byte(s, b' '));
+    let second = calendar::read_day(scan::after_byte(s, b' '));
+    let (Some(a), Some(b)) = (first, second) else {
         io::write_all(1, b"no date");
         return;
     };

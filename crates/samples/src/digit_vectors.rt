@@ -4,8 +4,7 @@ use texts::digits;
 
 // The value of up to twenty digits.
 pub fn digits20(s: &[u8]) {
-    let d = digits::read_digits(s, 20);
-    match d {
+    match digits::read_digits(s, 20) {
         Some(v) => {
             io::print_decimal(1, v);
         }

@@ -25,6 +25,11 @@ pub fn value_or_fault(d: Option<u64>, code: u64) {
     }
 }
 
+// What a vector gives that names no action.
+pub fn unknown_action() {
+    io::write_all(1, b"unknown action");
+}
+
 // What a vector itself gives in another form than its word asks.
 pub fn malformed() {
     io::write_all(1, b"malformed");
@@ -39,7 +44,5 @@ pub fn day(d: Day) {
 
 // The bytes of an account's number.
 pub fn account(x: Number) {
-    let n = x.len;
-    let held = x.bytes;
-    show::bytes(scan::first_bytes(&held, n));
+    show::bytes(scan::first_bytes(&x.bytes, x.len));
 }
