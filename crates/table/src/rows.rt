@@ -1,10 +1,17 @@
 // The payment table: three lent rows, read and written a record at a time.
 ghost use Rattle.std.specs.Prelude.{◌≡◌, ◌==◌, slice_index, position, [], ◌<◌, ◌≤◌, length, get_or};
 ghost use Rattle.table.specs.Table.{record_from, record_at, rows_with, records_of, find_record};
-ghost use Rattle.table.specs.Lent.{lent};
+ghost use Rattle.lists.specs.Rows.{SameLoan};
+ghost use Rattle.table.specs.Lent.{rows_in, rows_seen};
 
 use crate::Record;
 use fields::number::Number;
+use lists::rows::{Rows, RowsView};
+
+// The table as it is lent, to be written or to be read alone.
+pub type Table<'a> = Rows<'a, [u64; 6], [[u8; 19]; 3]>;
+
+pub type TableView<'a> = RowsView<'a, [u64; 6], [[u8; 19]; 3]>;
 
 // The record of these numbers, account number and dates.
 fn record_of(w: [u64; 6], bytes: [u8; 30], d: [[u8; 19]; 3]) -> Record
@@ -30,25 +37,20 @@ fn record_of(w: [u64; 6], bytes: [u8; 30], d: [[u8; 19]; 3]) -> Record
 }
 
 // The record at i.
-pub fn load(nums: &[[u64; 6]], numbers: &[[u8; 30]], dates: &[[[u8; 19]; 3]], i: usize) -> Record
-    requires { (i < length nums.now) × (i < length numbers.now) × (i < length dates.now) }
-    ensures value { result ≡ record_at (lent nums.now numbers.now dates.now) i }
-    ensures i_len { (length (get_or nums.now i []) ≡ 6) × (length (get_or dates.now i []) ≡ 3) }
+pub fn load(t: TableView<'_>, i: usize) -> Record
+    requires { (i < length t.nums.now) × (i < length t.numbers.now) × (i < length t.dates.now) }
+    ensures value { result ≡ record_at (rows_seen t.entry) i }
+    ensures i_len { (length (get_or t.entry.nums.now i []) ≡ 6) × (length (get_or t.entry.dates.now i []) ≡ 3) }
     ensures bytes_len { (length result.number.bytes ≡ 30) × (length result.date ≡ 19) × (length result.credit ≡ 19) × (length result.cancel ≡ 19) }
 {
-    record_of(nums[i], numbers[i], dates[i])
+    record_of(t.nums[i], t.numbers[i], t.dates[i])
 }
 
 // Puts r at i.
-pub fn store(
-    nums: &mut [[u64; 6]],
-    numbers: &mut [[u8; 30]],
-    dates: &mut [[[u8; 19]; 3]],
-    i: usize,
-    r: Record,
-)
-    requires { (i < length nums.old) × (i < length numbers.old) × (i < length dates.old) }
-    ensures { lent nums.new numbers.new dates.new ≡ rows_with (lent nums.old numbers.old dates.old) i r }
+pub fn store(t: &mut Table<'_>, i: usize, r: Record)
+    requires { (i < length t.old.nums.now) × (i < length t.old.numbers.now) × (i < length t.old.dates.now) }
+    ensures rows { rows_in t.new ≡ rows_with (rows_in t.old) i r }
+    ensures same_loan { SameLoan t.old t.new }
 {
     let Record {
         number: Number { bytes, len },
@@ -57,9 +59,9 @@ pub fn store(
         cancel,
         ..
     } = r;
-    nums[i] = [r.receipt, len as u64, r.kind, r.amount, r.state, r.authcode];
-    numbers[i] = bytes;
-    dates[i] = [date, credit, cancel];
+    t.nums[i] = [r.receipt, len as u64, r.kind, r.amount, r.state, r.authcode];
+    t.numbers[i] = bytes;
+    t.dates[i] = [date, credit, cancel];
 }
 
 // The first row that begins with this receipt.
@@ -70,15 +72,9 @@ fn place_of(nums: &[[u64; 6]], receipt: u64) -> Option<usize>
 }
 
 // The first of the first `used` records that has this receipt.
-pub fn find_record(
-    nums: &[[u64; 6]],
-    numbers: &[[u8; 30]],
-    dates: &[[[u8; 19]; 3]],
-    used: usize,
-    receipt: u64,
-) -> Option<usize>
-    requires { used ≤ length nums.now }
-    ensures { result ≡ find_record receipt (records_of (lent nums.now numbers.now dates.now) used) }
+pub fn find_record(t: TableView<'_>, used: usize, receipt: u64) -> Option<usize>
+    requires { used ≤ length t.nums.now }
+    ensures { result ≡ find_record receipt (records_of (rows_seen t.entry) used) }
 {
-    place_of(&nums[..used], receipt)
+    place_of(&t.nums[..used], receipt)
 }
