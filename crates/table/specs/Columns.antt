@@ -1,9 +1,11 @@
 -- Document 01, "Gate": the gate's accounts lent in three columns of 256 places: the bytes of the numbers, the lengths of these with the types, the balances. A gate is a head and these.
-use Rattle.std.specs.Prelude.{ℕ, List, [], ℤ, pos, get_or}
+use Rattle.std.specs.Prelude.{◌≡◌, ℕ, List, [], ℤ, pos, get_or}
 use Rattle.lists.specs.Lists.{tab}
 use Rattle.table.specs.declared.Account.{Account}
 use Rattle.table.specs.declared.Gate.{Gate}
 use Rattle.table.specs.declared.Head.{Head}
+use Rattle.table.specs.declared.columns.Accounts.{Accounts}
+use Rattle.table.specs.declared.columns.AccountsView.{AccountsView}
 
 -- the lists that the columns hold
 pub record Columns : Type 0 where
@@ -38,3 +40,15 @@ used_head h n = record { count = h.count; closed = h.closed; used = n }
 -- how contracts name the three columns as one value: what they hold at a call, before it (`old`) and after it (`new`)
 abbrev pub columns_of : List (List ℕ) → List (List ℕ) → List ℤ → Columns
 columns_of names keys balances = record { names = names; keys = keys; balances = balances }
+
+abbrev pub columns_in : Accounts → Columns
+columns_in a = columns_of a.names.now a.keys.now a.balances.now
+
+abbrev pub columns_seen : AccountsView → Columns
+columns_seen a = columns_of a.names.now a.keys.now a.balances.now
+
+-- accounts that are handed on are the same columns afterwards, whatever the balances are: their owner has them back
+pub record SameAccounts (before after : Accounts) : Type 0 where
+  pub names : after.names.now ≡ before.names.now
+  pub keys : after.keys.now ≡ before.keys.now
+  pub balances : after.balances.ghost_name ≡ before.balances.ghost_name

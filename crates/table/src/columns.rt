@@ -1,47 +1,63 @@
 // The accounts in three lent columns: the bytes of their numbers, the lengths of these with the types, the balances. No account is copied to be looked up.
 ghost use Rattle.std.specs.Prelude.{◌≡◌, List, ℕ, ◌+◌, ◌<◌, ◌≤◌, pos, length, get_or, replicate};
 ghost use Rattle.table.specs.Accounts.{no_account, accounts_of, find_account, holding_of, gate_balance, opened};
-ghost use Rattle.table.specs.Columns.{accounts_in, gate_of, head_of, counted_head, columns_of};
+ghost use Rattle.table.specs.Columns.{accounts_in, gate_of, head_of, counted_head, columns_of, columns_in, columns_seen};
 
 use crate::accounts::Holding;
 use crate::{ACCOUNTS_MOST, Account, Gate, Head, accounts};
 use fields::number::Number;
 
+// The columns as they are lent where balances are moved.
+#[derive(Drop)]
+pub struct Accounts<'a> {
+    pub names: &'a [[u8; 30]; 256],
+    pub keys: &'a [[u64; 2]; 256],
+    pub balances: &'a mut [i64; 256],
+}
+
+// The columns lent to be read.
+#[derive(Clone, Copy)]
+pub struct AccountsView<'a> {
+    pub names: &'a [[u8; 30]; 256],
+    pub keys: &'a [[u64; 2]; 256],
+    pub balances: &'a [i64; 256],
+}
+
+impl Accounts<'_> {
+    pub fn view(&self) -> AccountsView<'_>
+        ensures { columns_seen result ≡ columns_in self.now }
+    {
+        AccountsView {
+            names: self.names,
+            keys: self.keys,
+            balances: self.balances,
+        }
+    }
+}
+
 // The account at i.
-pub fn account_at(
-    names: &[[u8; 30]; 256],
-    keys: &[[u64; 2]; 256],
-    balances: &[i64; 256],
-    i: usize,
-) -> Account
+pub fn account_at(a: AccountsView<'_>, i: usize) -> Account
     requires { i < 256 }
-    ensures { result ≡ get_or (accounts_in (columns_of names.now keys.now balances.now)) i no_account }
+    ensures { result ≡ get_or (accounts_in (columns_seen a.entry)) i no_account }
 {
-    let [len, kind] = keys[i];
+    let [len, kind] = a.keys[i];
     Account {
         number: Number {
-            bytes: names[i],
+            bytes: a.names[i],
             len: len as usize,
         },
         kind,
-        balance: balances[i],
+        balance: a.balances[i],
     }
 }
 
 // The first account of this number and type, with its balance.
-pub fn look_up(
-    names: &[[u8; 30]; 256],
-    keys: &[[u64; 2]; 256],
-    balances: &[i64; 256],
-    h: Head,
-    n: Number,
-    kind: u64,
-) -> Holding
+pub fn look_up(all: AccountsView<'_>, h: Head, n: Number, kind: u64) -> Holding
     requires { h.count ≤ 256 }
-    ensures { result ≡ holding_of (gate_of h (columns_of names.now keys.now balances.now)) (find_account n kind (accounts_of (gate_of h (columns_of names.now keys.now balances.now)))) }
+    ensures { result ≡ holding_of (gate_of h (columns_seen all.entry)) (find_account n kind (accounts_of (gate_of h (columns_seen all.entry)))) }
 {
     for i in 0..h.count {
-        let a = account_at(names, keys, balances, i);
+        let a = account_at(all, i);
         if accounts::is_account(n, kind, a) {
             return Holding {
                 at: Some(i),
@@ -56,18 +72,11 @@ pub fn look_up(
 }
 
 // The first account of this number and type.
-pub fn find_account(
-    names: &[[u8; 30]; 256],
-    keys: &[[u64; 2]; 256],
-    balances: &[i64; 256],
-    h: Head,
-    n: Number,
-    kind: u64,
-) -> Option<usize>
+pub fn find_account(all: AccountsView<'_>, h: Head, n: Number, kind: u64) -> Option<usize>
     requires { h.count ≤ 256 }
-    ensures { result ≡ find_account n kind (accounts_of (gate_of h (columns_of names.now keys.now balances.now))) }
+    ensures { result ≡ find_account n kind (accounts_of (gate_of h (columns_seen all.entry))) }
 {
-    look_up(names, keys, balances, h, n, kind).at
+    look_up(all, h, n, kind).at
 }
 
 // Columns in which nothing stands yet.
@@ -113,13 +122,13 @@ pub fn unpack(g: Gate, names: &mut [[u8; 30]], keys: &mut [[u64; 2]], balances: 
 }
 
 // The gate of a head and columns.
-pub fn pack(h: Head, names: &[[u8; 30]; 256], keys: &[[u64; 2]; 256], balances: &[i64; 256]) -> Gate
-    ensures { result ≡ gate_of h (columns_of names.now keys.now balances.now) }
+pub fn pack(h: Head, all: AccountsView<'_>) -> Gate
+    ensures { result ≡ gate_of h (columns_seen all.entry) }
 {
-    let first = account_at(names, keys, balances, 0);
+    let first = account_at(all, 0);
     let mut accounts = [first; 256];
     for i in 1..ACCOUNTS_MOST {
-        accounts[i] = account_at(names, keys, balances, i);
+        accounts[i] = account_at(all, i);
     }
     Gate {
         accounts,
