@@ -2,13 +2,14 @@
 ghost use Rattle.std.specs.Prelude.{true, ◌&&◌, ◌≡◌, [], ◌<◌, ◌≤◌, length};
 ghost use Rattle.lists.specs.Lists.{all_from};
 ghost use Rattle.table.specs.Accounts.{accounts_of};
-ghost use Rattle.table.specs.Columns.{gate_of, columns_of};
+ghost use Rattle.table.specs.Columns.{gate_of, columns_seen};
 ghost use Rattle.table.specs.Table.{record_from};
 ghost use Rattle.validity.specs.Valid.{near, account_good, gate_good, state_good, ranges_good, authcode_good, Sound};
 
 use crate::slots;
 use dates::date;
 use fields::{amount, codes};
+use table::columns::AccountsView;
 use table::{ACCOUNTS_MOST, Account, Head, columns};
 
 // The bounds of a balance: 10^13 either side.
@@ -33,17 +34,15 @@ fn account_good(a: Account) -> bool
 
 // Whether each account in use is in its ranges; its place is the hint of its slot.
 fn accounts_good(
-    names: &[[u8; 30]; 256],
-    keys: &[[u64; 2]; 256],
-    balances: &[i64; 256],
+    accounts: AccountsView<'_>,
     h: Head,
     hints: &mut [u8; 4096],
 ) -> bool
     requires { h.count ≤ 256 }
-    ensures { result ≡ all_from (λ i a. account_good a) 0 (accounts_of (gate_of h (columns_of names.now keys.now balances.now))) }
+    ensures { result ≡ all_from (λ i a. account_good a) 0 (accounts_of (gate_of h (columns_seen accounts.entry))) }
 {
     for i in 0..h.count {
-        let a = columns::account_at(names, keys, balances, i);
+        let a = columns::account_at(accounts, i);
         if !account_good(a) {
             return false;
         }
@@ -55,18 +54,16 @@ fn accounts_good(
 // Whether the gate is in its ranges; the hints of its accounts are written.
 #[tactic(auto, unfolding(crate::specs::Valid::gate_good))]
 pub(crate) fn gate_good(
-    names: &[[u8; 30]; 256],
-    keys: &[[u64; 2]; 256],
-    balances: &[i64; 256],
+    accounts: AccountsView<'_>,
     h: Head,
     hints: &mut [u8; 4096],
 ) -> bool
-    ensures value { result ≡ gate_good (gate_of h (columns_of names.now keys.now balances.now)) }
-    ensures sound { result ≡ true → Sound (gate_of h (columns_of names.now keys.now balances.now)) }
+    ensures value { result ≡ gate_good (gate_of h (columns_seen accounts.entry)) }
+    ensures sound { result ≡ true → Sound (gate_of h (columns_seen accounts.entry)) }
 {
     h.count <= ACCOUNTS_MOST
         && h.closed.is_valid()
-        && accounts_good(names, keys, balances, h, hints)
+        && accounts_good(accounts, h, hints)
 }
 
 // Whether a record is done and has no cancel date, or cancelled and has one.
