@@ -1,11 +1,12 @@
 // What P prints of a day.
 ghost use Rattle.std.specs.Prelude.{[], ◌∷◌, ◌+◌, ◌*◌, ◌≤◌, length};
 ghost use Rattle.table.specs.Table.{records_of, done};
-ghost use Rattle.table.specs.Lent.{lent};
+ghost use Rattle.table.specs.Lent.{rows_seen};
 ghost use Rattle.table.specs.Daily.{records_on};
 ghost use Rattle.figures.specs.Daily.{record_text, records_text, sum_text, day_text};
 ghost use Rattle.figures.specs.Listing.{Payable, Put, Summed};
 
+use table::rows::TableView;
 use crate::print;
 use days::calendar::Day;
 use table::{Record, daily, rows};
@@ -43,20 +44,18 @@ fn write_done(r: Record, day: Day, dst: &mut [u8], at: usize) -> usize
 
 // Writes the lines of all that are done on the day, in table order.
 fn write_records(
-    nums: &[[u64; 6]],
-    numbers: &[[u8; 30]],
-    dates: &[[[u8; 19]; 3]],
+    table: TableView<'_>,
     used: usize,
     day: Day,
     dst: &mut [u8],
     at: usize,
 ) -> usize
-    requires { Payable (lent nums.now numbers.now dates.now) used × (at + 64 * used ≤ length dst.old) }
-    ensures { Put dst.old at (records_text (records_on day done (records_of (lent nums.now numbers.now dates.now) used))) result dst.new }
+    requires { Payable (rows_seen table) used × (at + 64 * used ≤ length dst.old) }
+    ensures { Put dst.old at (records_text (records_on day done (records_of (rows_seen table.entry) used))) result dst.new }
 {
     let mut cursor = at;
     for i in 0..used {
-        let r = rows::load(nums, numbers, dates, i);
+        let r = rows::load(table, i);
         cursor = write_done(r, day, dst, cursor);
     }
     cursor
@@ -64,19 +63,17 @@ fn write_records(
 
 // Counts and sums the records that stand in a state on the day.
 fn sum_on(
-    nums: &[[u64; 6]],
-    numbers: &[[u8; 30]],
-    dates: &[[[u8; 19]; 3]],
+    table: TableView<'_>,
     used: usize,
     day: Day,
     state: u64,
 ) -> Sum
-    requires { Payable (lent nums.now numbers.now dates.now) used }
-    ensures { Summed day state (records_of (lent nums.now numbers.now dates.now) used) result.count result.total }
+    requires { Payable (rows_seen table) used }
+    ensures { Summed day state (records_of (rows_seen table.entry) used) result.count result.total }
 {
     let mut sum = Sum { count: 0, total: 0 };
     for place in 0..used {
-        let r = rows::load(nums, numbers, dates, place);
+        let r = rows::load(table, place);
         if daily::stands_on(r, day, state) {
             sum.count += 1;
             sum.total += r.amount;
@@ -97,20 +94,18 @@ fn write_sum(s: Sum, dst: &mut [u8], at: usize) -> usize
 
 // Writes what P prints of a day at the cursor.
 pub fn write_day(
-    nums: &[[u64; 6]],
-    numbers: &[[u8; 30]],
-    dates: &[[[u8; 19]; 3]],
+    table: TableView<'_>,
     used: usize,
     day: Day,
     dst: &mut [u8],
     at: usize,
 ) -> usize
-    requires { Payable (lent nums.now numbers.now dates.now) used × (at + 64 * (used + 2) ≤ length dst.old) }
-    ensures { Put dst.old at (day_text day (records_of (lent nums.now numbers.now dates.now) used)) result dst.new }
+    requires { Payable (rows_seen table) used × (at + 64 * (used + 2) ≤ length dst.old) }
+    ensures { Put dst.old at (day_text day (records_of (rows_seen table.entry) used)) result dst.new }
 {
-    let a = write_records(nums, numbers, dates, used, day, dst, at);
-    let paid = sum_on(nums, numbers, dates, used, day, table::DONE);
+    let a = write_records(table, used, day, dst, at);
+    let paid = sum_on(table, used, day, table::DONE);
     let b = write_sum(paid, dst, a);
-    let revoked = sum_on(nums, numbers, dates, used, day, table::CANCELLED);
+    let revoked = sum_on(table, used, day, table::CANCELLED);
     write_sum(revoked, dst, b)
 }
