@@ -44,11 +44,7 @@ pub fn load_entry(entries: EntriesView<'_>, i: usize) -> Entry
 }
 
 // Puts e at i.
-pub fn store_entry(
-    entries: &mut Entries<'_>,
-    i: usize,
-    e: Entry,
-)
+pub fn store_entry(entries: &mut Entries<'_>, i: usize, e: Entry)
     requires { (i < length entries.old.nums.now) × (i < length entries.old.numbers.now) × (i < length entries.old.dates.now) }
     ensures value { entries_in entries.new ≡ book_with (entries_in entries.old) i e }
     ensures same_loan { SameLoan entries.old entries.new }

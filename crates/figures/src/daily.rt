@@ -6,9 +6,9 @@ ghost use Rattle.table.specs.Daily.{records_on};
 ghost use Rattle.figures.specs.Daily.{record_text, records_text, sum_text, day_text};
 ghost use Rattle.figures.specs.Listing.{Payable, Put, Summed};
 
-use table::rows::TableView;
 use crate::print;
 use days::calendar::Day;
+use table::rows::TableView;
 use table::{Record, daily, rows};
 use texts::{digits, out};
 
@@ -43,13 +43,7 @@ fn write_done(r: Record, day: Day, dst: &mut [u8], at: usize) -> usize
 }
 
 // Writes the lines of all that are done on the day, in table order.
-fn write_records(
-    table: TableView<'_>,
-    used: usize,
-    day: Day,
-    dst: &mut [u8],
-    at: usize,
-) -> usize
+fn write_records(table: TableView<'_>, used: usize, day: Day, dst: &mut [u8], at: usize) -> usize
     requires { Payable (rows_seen table) used × (at + 64 * used ≤ length dst.old) }
     ensures { Put dst.old at (records_text (records_on day done (records_of (rows_seen table.entry) used))) result dst.new }
 {
@@ -62,12 +56,7 @@ fn write_records(
 }
 
 // Counts and sums the records that stand in a state on the day.
-fn sum_on(
-    table: TableView<'_>,
-    used: usize,
-    day: Day,
-    state: u64,
-) -> Sum
+fn sum_on(table: TableView<'_>, used: usize, day: Day, state: u64) -> Sum
     requires { Payable (rows_seen table) used }
     ensures { Summed day state (records_of (rows_seen table.entry) used) result.count result.total }
 {
@@ -93,13 +82,7 @@ fn write_sum(s: Sum, dst: &mut [u8], at: usize) -> usize
 }
 
 // Writes what P prints of a day at the cursor.
-pub fn write_day(
-    table: TableView<'_>,
-    used: usize,
-    day: Day,
-    dst: &mut [u8],
-    at: usize,
-) -> usize
+pub fn write_day(table: TableView<'_>, used: usize, day: Day, dst: &mut [u8], at: usize) -> usize
     requires { Payable (rows_seen table) used × (at + 64 * (used + 2) ≤ length dst.old) }
     ensures { Put dst.old at (day_text day (records_of (rows_seen table.entry) used)) result dst.new }
 {

@@ -33,11 +33,7 @@ fn account_good(a: Account) -> bool
 }
 
 // Whether each account in use is in its ranges; its place is the hint of its slot.
-fn accounts_good(
-    accounts: AccountsView<'_>,
-    h: Head,
-    hints: &mut [u8; 4096],
-) -> bool
+fn accounts_good(accounts: AccountsView<'_>, h: Head, hints: &mut [u8; 4096]) -> bool
     requires { h.count ≤ 256 }
     ensures { result ≡ all_from (λ i a. account_good a) 0 (accounts_of (gate_of h (columns_seen accounts.entry))) }
 {
@@ -53,17 +49,11 @@ fn accounts_good(
 
 // Whether the gate is in its ranges; the hints of its accounts are written.
 #[tactic(auto, unfolding(crate::specs::Valid::gate_good))]
-pub(crate) fn gate_good(
-    accounts: AccountsView<'_>,
-    h: Head,
-    hints: &mut [u8; 4096],
-) -> bool
+pub(crate) fn gate_good(accounts: AccountsView<'_>, h: Head, hints: &mut [u8; 4096]) -> bool
     ensures value { result ≡ gate_good (gate_of h (columns_seen accounts.entry)) }
     ensures sound { result ≡ true → Sound (gate_of h (columns_seen accounts.entry)) }
 {
-    h.count <= ACCOUNTS_MOST
-        && h.closed.is_valid()
-        && accounts_good(accounts, h, hints)
+    h.count <= ACCOUNTS_MOST && h.closed.is_valid() && accounts_good(accounts, h, hints)
 }
 
 // Whether a record is done and has no cancel date, or cancelled and has one.

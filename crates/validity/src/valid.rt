@@ -21,12 +21,7 @@ fn guess_fits(at: usize, count: usize, n: Number, kind: u64, a: Account) -> bool
 }
 
 // Whether the account of a number and a type is known.
-fn is_known(
-    accounts: AccountsView<'_>,
-    h: Head,
-    n: Number,
-    kind: u64,
-) -> bool
+fn is_known(accounts: AccountsView<'_>, h: Head, n: Number, kind: u64) -> bool
     requires { h.count ≤ 256 }
     ensures { result ≡ is_found (find_account n kind (accounts_of (gate_of h (columns_seen accounts.entry)))) }
 {
@@ -65,18 +60,18 @@ fn records_good(
 }
 
 // Whether a gate, its accounts lent in columns, and its table are in their ranges.
-pub fn table_good(
-    table: TableView<'_>,
-    accounts: AccountsView<'_>,
-    h: Head,
-) -> bool
+pub fn table_good(table: TableView<'_>, accounts: AccountsView<'_>, h: Head) -> bool
     ensures value { result ≡ table_good (gate_of h (columns_seen accounts.entry)) (rows_seen table.entry) }
     ensures ready { result ≡ true → Ready (gate_of h (columns_seen accounts.entry)) (rows_seen table.entry) }
 {
-    if !lists::is_lent(h.used, table.nums.len(), table.numbers.len(), table.dates.len()) {
+    if !lists::is_lent(
+        h.used,
+        table.nums.len(),
+        table.numbers.len(),
+        table.dates.len(),
+    ) {
         return false;
     }
     let mut hints = [0u8; 4096];
-    ranges::gate_good(accounts, h, &mut hints)
-        && records_good(table, accounts, h, &hints)
+    ranges::gate_good(accounts, h, &mut hints) && records_good(table, accounts, h, &hints)
 }
