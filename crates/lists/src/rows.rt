@@ -1,5 +1,9 @@
 // The three rows in which a table, a book or the lines of a registry are lent: N holds the numbers of a place, D its dates.
+ghost use Rattle.std.specs.Prelude.{◌≡◌, true, length};
+ghost use Rattle.lists.specs.Lent.{lent_well, Lent};
 ghost use Rattle.lists.specs.Rows.{IsView};
+
+use crate::PLACES_MOST;
 
 #[derive(Drop)]
 pub struct Rows<'a, N, D> {
@@ -25,5 +29,18 @@ impl<N, D> Rows<'_, N, D> {
             numbers: self.numbers,
             dates: self.dates,
         }
+    }
+}
+
+impl<N, D> RowsView<'_, N, D> {
+    // Whether these rows are lent as a table or a book is, and no more of them is used.
+    #[tactic(auto, unfolding(crate::specs::Lent::lent_well))]
+    pub fn is_lent(self, used: usize) -> bool
+        ensures value { result ≡ lent_well used (length self.entry.nums.now) (length self.entry.numbers.now) (length self.entry.dates.now) }
+        ensures lent { result ≡ true → Lent used (length self.entry.nums.now) (length self.entry.numbers.now) (length self.entry.dates.now) }
+    {
+        let nums = self.nums.len();
+        let (numbers, dates) = (self.numbers.len(), self.dates.len());
+        1 <= nums && nums <= PLACES_MOST && numbers == nums && dates == nums && used <= nums
     }
 }

@@ -64,12 +64,7 @@ pub fn table_good(table: TableView<'_>, accounts: AccountsView<'_>, h: Head) -> 
     ensures value { result ≡ table_good (gate_of h (columns_seen accounts.entry)) (rows_seen table.entry) }
     ensures ready { result ≡ true → Ready (gate_of h (columns_seen accounts.entry)) (rows_seen table.entry) }
 {
-    if !lists::is_lent(
-        h.used,
-        table.nums.len(),
-        table.numbers.len(),
-        table.dates.len(),
-    ) {
+    if !table.is_lent(h.used) {
         return false;
     }
     let mut hints = [0u8; 4096];
