@@ -1,12 +1,14 @@
 // What the gate looks up for a request, and its decision.
 ghost use Rattle.std.specs.Prelude.{◌≡◌, ◌≤◌, ◌<◌, length};
 ghost use Rattle.table.specs.Table.{records_of};
-ghost use Rattle.table.specs.Lent.{lent};
+ghost use Rattle.table.specs.Lent.{lent, rows_seen};
 ghost use Rattle.planning.specs.Plan.{Within, record_found, agrees, standing_of, account_of, date_of, is_short, view_of, plan_with};
 ghost use Rattle.table.specs.Table.{no_record};
 ghost use Rattle.table.specs.Accounts.{balance_of, holding_of};
-ghost use Rattle.table.specs.Columns.{gate_of, columns_of};
+ghost use Rattle.table.specs.Columns.{gate_of, columns_seen};
 
+use table::columns::AccountsView;
+use table::rows::TableView;
 use dates::date;
 use days::calendar::Day;
 use fields::number::Number;
@@ -82,24 +84,22 @@ pub fn standing(q: Instruction, found: Option<usize>, r: Record) -> Standing
 
 // The account that a request concerns, with its balance: a cancel's is its record's.
 pub fn holding_of(
-    names: &[[u8; 30]; 256],
-    keys: &[[u64; 2]; 256],
-    balances: &[i64; 256],
+    accounts: AccountsView<'_>,
     head: Head,
     q: Instruction,
     r: Record,
 ) -> Holding
     requires { head.count ≤ 256 }
-    ensures { result ≡ holding_of (gate_of head (columns_of names.now keys.now balances.now)) (account_of (gate_of head (columns_of names.now keys.now balances.now)) q r) }
+    ensures { result ≡ holding_of (gate_of head (columns_seen accounts.entry)) (account_of (gate_of head (columns_seen accounts.entry)) q r) }
 {
     let a = q.action;
     if answer::is_cancel(a) {
         let n = r.number;
-        return columns::look_up(names, keys, balances, head, n, r.kind);
+        return columns::look_up(accounts, head, n, r.kind);
     }
     let d = q.details;
     let n = d.number;
-    columns::look_up(names, keys, balances, head, n, d.kind)
+    columns::look_up(accounts, head, n, d.kind)
 }
 
 // The date that a request concerns: a cancel's is its record's.
@@ -142,17 +142,15 @@ pub fn view_of(closed: Day, used: usize, lent: usize, q: Instruction, r: Record,
 
 // The record that a lookup found.
 pub fn found_record(
-    nums: &[[u64; 6]],
-    numbers: &[[u8; 30]],
-    dates: &[[[u8; 19]; 3]],
+    table: TableView<'_>,
     used: usize,
     f: Option<usize>,
 ) -> Record
-    requires { (used ≤ length nums.now) × (used ≤ length numbers.now) × (used ≤ length dates.now) × Within f used }
-    ensures { result ≡ record_found (records_of (lent nums.now numbers.now dates.now) used) f }
+    requires { (used ≤ length table.nums.now) × (used ≤ length table.numbers.now) × (used ≤ length table.dates.now) × Within f used }
+    ensures { result ≡ record_found (records_of (rows_seen table.entry) used) f }
 {
     match f {
-        Some(i) => rows::load(nums, numbers, dates, i),
+        Some(i) => rows::load(table, i),
         None => no_record(),
     }
 }
