@@ -17,7 +17,7 @@ use Rattle.payments.specs.declared.Instruction.{Instruction}
 use Rattle.table.specs.declared.Record.{Record}
 use Rattle.table.specs.declared.Gate.{Gate}
 use Rattle.table.specs.declared.Head.{Head}
-use Rattle.table.specs.Columns.{gate_of, used_head, columns_of}
+use Rattle.table.specs.Columns.{Columns, gate_of, used_head, columns_of}
 use Rattle.table.specs.Table.{Rows, records_of, find_record, rows_from, rows_with, Whole, SameLengths}
 use Rattle.table.specs.declared.accounts.Holding.{Holding}
 use Rattle.table.specs.Accounts.{no_account, balance_at, balance_of, holding_of, credited, debited, with_accounts, with_used, gate_balance}
@@ -28,7 +28,7 @@ use Rattle.rules.specs.declared.decision.Change.{Change}
 use Rattle.rules.specs.declared.decision.Change.TheVariants.{Keep, Append, Revoke}
 use Rattle.planning.specs.declared.plan.Plan.{Plan}
 use Rattle.planning.specs.Plan.{Within, record_found, standing_of, account_of, is_full, view_of, plan_with, plan_of, Planned}
-use Rattle.ledger.specs.Change.{make_record, revoked, credited_at, debited_at, replaced_at, Changed, changed, executed, moved_at, Made}
+use Rattle.ledger.specs.Change.{make_record, revoked, credited_at, debited_at, replaced_at, Changed, changed, executed, moved_at, Made, Decides}
 use Rattle.planning.proofs.PlanLaws.{found_within, found-amount, account-within}
 use Rattle.rules.proofs.DecisionLaws.{append-of}
 
@@ -205,3 +205,8 @@ module _ (t : Rows) (used : ℕ) (clock : List ℕ) (q : Instruction) (p : Plan)
       rw e (record { gates = moved-debit g p.account b z p.payment.amount n (eu ∙ sym en) eb ez; subjects = es; left = er })
 
 pub ruleset revoke_laws = (rest_back, revoked-rows)
+
+-- what was decided by views of a gate and a table is decided of these
+pub decided-viewed : (h : Head) (a' a : Columns) (t' t : Rows) (fault : ℕ) (q : Instruction) (p : Plan) (b : ℤ) → a' ≡ a → t' ≡ t
+    → Decides (gate_of h a') t' fault q p b → Decides (gate_of h a) t fault q p b
+decided-viewed h a' a t' t fault q p b ea et d = rw (← ea, ← et) d

@@ -1,16 +1,17 @@
 -- Document 01, "Gate": the three changes that a decision may make.
-use Rattle.std.specs.Prelude.{ℕ, ◌+◌, ◌≡◌, List, [], ◌∷◌, ◌++◌, ℤ, length, set, Option, Some, None}
+use Rattle.std.specs.Prelude.{ℕ, ◌+◌, ◌≤◌, ◌≡◌, List, [], ◌∷◌, ◌++◌, ℤ, length, set, Option, Some, None}
 use Rattle.dates.specs.Date.{empty_date}
 use Rattle.payments.specs.declared.Details.{Details}
 use Rattle.payments.specs.declared.Instruction.{Instruction}
 use Rattle.table.specs.declared.Record.{Record}
 use Rattle.table.specs.declared.Gate.{Gate}
 use Rattle.table.specs.Table.{done, cancelled, Rows, records_of, rows_from}
-use Rattle.table.specs.Accounts.{credited, debited, with_used, gate_balance}
+use Rattle.std.specs.Int.Signed.{mag}
+use Rattle.table.specs.Accounts.{balance_of, credited, debited, with_used, gate_balance}
 use Rattle.rules.specs.declared.decision.Change.{Change}
 use Rattle.rules.specs.declared.decision.Change.TheVariants.{Keep, Append, Revoke}
 use Rattle.planning.specs.declared.plan.Plan.{Plan}
-use Rattle.planning.specs.Plan.{plan_of}
+use Rattle.planning.specs.Plan.{plan_of, Planned, Within}
 
 -- the nth record has authcode n
 unfoldable pub next_authcode : Gate → ℕ
@@ -95,3 +96,11 @@ pub record Made (t : Rows) (c : Changed) (gate : Gate) (subject : Record) (rows 
 pub record Executes (g : Gate) (t : Rows) (clock : List ℕ) (fault : ℕ) (q : Instruction) (code : ℕ) (gate : Gate) (subject : Record) (rows : Rows) : Type 0 where
   pub codes : code ≡ (plan_of g (records_of t g.used) (length t.nums) fault q).decided.code
   pub made : Made t (executed g (records_of t g.used) clock q (plan_of g (records_of t g.used) (length t.nums) fault q)) gate subject rows
+
+-- a plan as its definition has it, with what a change may lean on, and the balance of its account
+pub record Decides (g : Gate) (t : Rows) (fault : ℕ) (q : Instruction) (p : Plan) (balance : ℤ) : Type 0 where
+  pub plan : p ≡ plan_of g (records_of t g.used) (length t.nums) fault q
+  pub planned : Planned g.used t p
+  pub balances : balance_of g p.account ≡ balance
+  pub near : mag balance ≤ 10000000000000000
+  pub within : Within p.account g.count

@@ -1,18 +1,21 @@
 // The three changes that a decision may make: none, a record more, its record cancelled.
+ghost use Rattle.lists.specs.Rows.{SameLoan};
 ghost use Rattle.std.specs.Prelude.{◌≡◌, List, [], ◌∷◌, ◌++◌, true, ℕ, ◌+◌, ◌<◌, ◌≤◌, length, ℤ, pos, ◌+ℤ◌, ◌-ℤ◌};
 ghost use Rattle.std.specs.Int.Signed.{mag};
 ghost use Rattle.table.specs.Table.{records_of, rows_from, Whole, SameLengths};
-ghost use Rattle.table.specs.Lent.{lent};
+ghost use Rattle.table.specs.Lent.{rows_in, rows_seen};
 ghost use Rattle.table.specs.Accounts.{balance_of};
-ghost use Rattle.table.specs.Columns.{gate_of, used_head, columns_of};
+ghost use Rattle.table.specs.Columns.{gate_of, used_head, columns_of, columns_in, columns_seen, SameAccounts};
 ghost use Rattle.validity.specs.Valid.{Ready, table_good};
 ghost use Rattle.planning.specs.Plan.{Within, Planned};
-ghost use Rattle.ledger.specs.Change.{make_record, revoked, replaced_at, executed, moved_at, Made, Executes};
+ghost use Rattle.ledger.specs.Change.{make_record, revoked, replaced_at, executed, moved_at, Made, Executes, Decides};
 
 use payments::{Details, Instruction};
 use planning::plan;
 use planning::plan::Plan;
 use rules::decision::Change;
+use table::columns::{Accounts, AccountsView};
+use table::rows::{Table, TableView};
 use table::{Gate, Head, Record, accounts, columns, rows};
 
 // What an instruction comes to: the code, how many records there are then, and the record that the answer speaks of.
@@ -73,40 +76,27 @@ fn move_balance(balances: &mut [i64], f: Option<usize>, z: i64)
 }
 
 // Puts a record in the place that was found.
-fn replace_at(
-    nums: &mut [[u64; 6]],
-    numbers: &mut [[u8; 30]],
-    dates: &mut [[[u8; 19]; 3]],
-    used: usize,
-    f: Option<usize>,
-    r: Record,
-)
-    requires { Whole (lent nums.old numbers.old dates.old) used × Within f used }
-    ensures { lent nums.new numbers.new dates.new ≡ rows_from (lent nums.old numbers.old dates.old) (replaced_at (records_of (lent nums.old numbers.old dates.old) used) f r) }
+fn replace_at(table: &mut Table<'_>, used: usize, f: Option<usize>, r: Record)
+    requires { Whole (rows_in table.old) used × Within f used }
+    ensures value { rows_in table.new ≡ rows_from (rows_in table.old) (replaced_at (records_of (rows_in table.old) used) f r) }
+    ensures same_loan { SameLoan table.old table.new }
 {
     if let Some(i) = f {
-        rows::store(nums, numbers, dates, i, r);
+        rows::store(table, i, r);
     }
 }
 
 // A record more, and its amount on the balance of its account.
-fn append(
-    nums: &mut [[u64; 6]],
-    numbers: &mut [[u8; 30]],
-    dates: &mut [[[u8; 19]; 3]],
-    used: usize,
-    clock: [u8; 19],
-    q: Details,
-    b: i64,
-) -> Outcome
-    requires whole { Whole (lent nums.old numbers.old dates.old) used × SameLengths (lent nums.old numbers.old dates.old) × (length nums.old ≤ 4096) }
-    requires used_in_bounds { (used < length nums.old) × (mag b ≤ 10000000000000000) × (q.amount < 1000000000) }
+fn append(table: &mut Table<'_>, used: usize, clock: [u8; 19], q: Details, b: i64) -> Outcome
+    requires whole { Whole (rows_in table.old) used × SameLengths (rows_in table.old) × (length table.old.nums.now ≤ 4096) }
+    requires used_in_bounds { (used < length table.old.nums.now) × (mag b ≤ 10000000000000000) × (q.amount < 1000000000) }
     ensures used_value { (result.used ≡ used + 1) × (result.balance ≡ b +ℤ pos q.amount) }
     ensures subject_value { (g : Gate) → g.used ≡ used → result.subject ≡ make_record g clock q }
-    ensures dates_value { lent nums.new numbers.new dates.new ≡ rows_from (lent nums.old numbers.old dates.old) (records_of (lent nums.old numbers.old dates.old) used ++ (result.subject ∷ [])) }
+    ensures dates_value { rows_in table.new ≡ rows_from (rows_in table.old) (records_of (rows_in table.old) used ++ (result.subject ∷ [])) }
+    ensures same_loan { SameLoan table.old table.new }
 {
     let r = make_record(used, clock, q);
-    rows::store(nums, numbers, dates, used, r);
+    rows::store(table, used, r);
     Outcome {
         used: used + 1,
         balance: accounts::plus(b, q.amount),
@@ -117,22 +107,21 @@ fn append(
 // The record that was found cancelled, and its amount off the balance of its account.
 #[tactic(auto, using(crate::proofs::ChangeLaws::revoke_laws))]
 fn revoke(
-    nums: &mut [[u64; 6]],
-    numbers: &mut [[u8; 30]],
-    dates: &mut [[[u8; 19]; 3]],
+    table: &mut Table<'_>,
     used: usize,
     clock: [u8; 19],
     f: Option<usize>,
     r: Record,
     b: i64,
 ) -> Outcome
-    requires whole { Whole (lent nums.old numbers.old dates.old) used × SameLengths (lent nums.old numbers.old dates.old) × (length nums.old ≤ 4096) }
+    requires whole { Whole (rows_in table.old) used × SameLengths (rows_in table.old) × (length table.old.nums.now ≤ 4096) }
     requires within { Within f used × (mag b ≤ 10000000000000000) × (r.amount < 1000000000) }
     ensures used_value { (result.used ≡ used) × (result.balance ≡ b -ℤ pos r.amount) × (result.subject ≡ revoked clock r) }
-    ensures dates_value { lent nums.new numbers.new dates.new ≡ rows_from (lent nums.old numbers.old dates.old) (replaced_at (records_of (lent nums.old numbers.old dates.old) used) f (revoked clock r)) }
+    ensures dates_value { rows_in table.new ≡ rows_from (rows_in table.old) (replaced_at (records_of (rows_in table.old) used) f (revoked clock r)) }
+    ensures same_loan { SameLoan table.old table.new }
 {
     let next = revoke_record(clock, r);
-    replace_at(nums, numbers, dates, used, f, next);
+    replace_at(table, used, f, next);
     Outcome {
         used,
         balance: accounts::minus(b, r.amount),
@@ -142,21 +131,20 @@ fn revoke(
 
 // Makes the change that was decided, at a gate with so many records and b on the account that it concerns.
 fn make_change(
-    nums: &mut [[u64; 6]],
-    numbers: &mut [[u8; 30]],
-    dates: &mut [[[u8; 19]; 3]],
+    table: &mut Table<'_>,
     used: usize,
     clock: [u8; 19],
     q: Instruction,
     p: Plan,
     b: i64,
 ) -> Outcome
-    requires whole { Whole (lent nums.old numbers.old dates.old) used × SameLengths (lent nums.old numbers.old dates.old) × (length nums.old ≤ 4096) }
-    requires planned { Planned used (lent nums.old numbers.old dates.old) p × (q.details.amount < 1000000000) × (mag b ≤ 10000000000000000) }
-    ensures { (g : Gate) → g.used ≡ used → balance_of g p.account ≡ b → Made (lent nums.old numbers.old dates.old)
-        (executed g (records_of (lent nums.old numbers.old dates.old) used) clock q p)
+    requires whole { Whole (rows_in table.old) used × SameLengths (rows_in table.old) × (length table.old.nums.now ≤ 4096) }
+    requires planned { Planned used (rows_in table.old) p × (q.details.amount < 1000000000) × (mag b ≤ 10000000000000000) }
+    ensures value { (g : Gate) → g.used ≡ used → balance_of g p.account ≡ b → Made (rows_in table.old)
+        (executed g (records_of (rows_in table.old) used) clock q p)
         (moved_at g p.account result.balance result.used) result.subject
-        (lent nums.new numbers.new dates.new) }
+        (rows_in table.new) }
+    ensures same_loan { SameLoan table.old table.new }
 {
     let details = q.details;
     let d = p.decided;
@@ -169,45 +157,56 @@ fn make_change(
             balance: b,
             subject: payment,
         },
-        Change::Append => append(nums, numbers, dates, used, clock, details, b),
-        Change::Revoke => revoke(nums, numbers, dates, used, clock, found, payment, b),
+        Change::Append => append(table, used, clock, details, b),
+        Change::Revoke => revoke(table, used, clock, found, payment, b),
     }
 }
 
-// Decides on an instruction and makes the change; a fault of its request decides first.
+// The decision on an instruction, and the balance of the account that it concerns; a fault of its request decides first.
+fn plan_for(
+    table: TableView<'_>,
+    accounts: AccountsView<'_>,
+    head: Head,
+    fault: u64,
+    q: Instruction,
+) -> (Plan, i64)
+    requires ready { Ready (gate_of head (columns_seen accounts)) (rows_seen table) }
+    requires good { table_good (gate_of head (columns_seen accounts)) (rows_seen table) ≡ true }
+    ensures { Decides (gate_of head (columns_seen accounts.entry)) (rows_seen table.entry) fault q result.0 result.1 }
+{
+    let used = head.used;
+    let closed = head.closed;
+    let details = q.details;
+    let found = rows::find_record(table, used, details.receipt);
+    let payment = plan::found_record(table, used, found);
+    let h = plan::holding_of(accounts, head, q, payment);
+    let p = plan::make_plan(closed, used, table.nums.len(), fault, q, found, payment, h);
+    (p, h.balance)
+}
+
+// Decides on an instruction and makes the change.
 pub fn execute(
-    nums: &mut [[u64; 6]],
-    numbers: &mut [[u8; 30]],
-    dates: &mut [[[u8; 19]; 3]],
-    names: &[[u8; 30]; 256],
-    keys: &[[u64; 2]; 256],
-    balances: &mut [i64; 256],
+    table: &mut Table<'_>,
+    accounts: &mut Accounts<'_>,
     head: Head,
     clock: [u8; 19],
     fault: u64,
     q: Instruction,
 ) -> Execution
-    requires ready { Ready (gate_of head (columns_of names.now keys.now balances.old)) (lent nums.old numbers.old dates.old) }
-    requires dates_value { (table_good (gate_of head (columns_of names.now keys.now balances.old)) (lent nums.old numbers.old dates.old) ≡ true) × (q.details.amount < 1000000000) }
-    ensures { Executes (gate_of head (columns_of names.now keys.now balances.old)) (lent nums.old numbers.old dates.old) clock fault q
-        result.code (gate_of (used_head head result.used) (columns_of names.now keys.now balances.new)) result.subject
-        (lent nums.new numbers.new dates.new) }
+    requires ready { Ready (gate_of head (columns_in accounts.old)) (rows_in table.old) }
+    requires dates_value { (table_good (gate_of head (columns_in accounts.old)) (rows_in table.old) ≡ true) × (q.details.amount < 1000000000) }
+    ensures value { Executes (gate_of head (columns_in accounts.old)) (rows_in table.old) clock fault q
+        result.code (gate_of (used_head head result.used) (columns_in accounts.new)) result.subject
+        (rows_in table.new) }
+    ensures same_loan { SameLoan table.old table.new }
+    ensures same_accounts { SameAccounts accounts.old accounts.new }
 {
-    let used = head.used;
-    let closed = head.closed;
-    let details = q.details;
-    let found = rows::find_record(nums, numbers, dates, used, details.receipt);
-    let payment = plan::found_record(nums, numbers, dates, used, found);
-    let h = plan::holding_of(names, keys, balances, head, q, payment);
-    let p = plan::make_plan(closed, used, nums.len(), fault, q, found, payment, h);
-    let o = make_change(nums, numbers, dates, used, clock, q, p, h.balance);
-    let d = p.decided;
-    let account = p.account;
-    move_balance(balances, account, o.balance);
-    let subject = o.subject;
+    let (p, balance) = plan_for(table.view(), accounts.view(), head, fault, q);
+    let o = make_change(table, head.used, clock, q, p, balance);
+    move_balance(accounts.balances, p.account, o.balance);
     Execution {
-        code: d.code,
+        code: p.decided.code,
         used: o.used,
-        subject,
+        subject: o.subject,
     }
 }

@@ -4,3 +4,4 @@ pub mod AccountLaws
 pub mod ColumnLaws
 pub mod DailyLaws
 pub mod PaymentLaws
+pub mod RowsLaws
