@@ -4,9 +4,9 @@ ghost use Rattle.std.specs.Prelude.{◌≡◌, ◌&&◌, List, ℕ, ◌≤◌};
 ghost use Rattle.std.specs.Int.Signed.{mag};
 ghost use Rattle.fields.specs.Codes.{is_kind};
 ghost use Rattle.fields.specs.Number.{is_number};
-ghost use Rattle.table.specs.Lent.{lent};
+ghost use Rattle.table.specs.Lent.{rows_seen};
 ghost use Rattle.table.specs.Accounts.{balance_of};
-ghost use Rattle.table.specs.Columns.{Columns, gate_of, columns_of};
+ghost use Rattle.table.specs.Columns.{Columns, gate_of, columns_of, columns_in, SameAccounts};
 ghost use Rattle.planning.specs.Plan.{Within};
 ghost use Rattle.opening.specs.Opening.{lent_reply, replies, open_to, open_account, draw_on, draw_funds};
 
@@ -14,6 +14,8 @@ use fields::number::Number;
 use fields::{amount, codes};
 use ledger::{HeadReply, Reply};
 use table::accounts::Holding;
+use table::columns::{Accounts, AccountsView};
+use table::rows::TableView;
 use table::{Gate, Head, accounts, columns};
 use validity::valid;
 
@@ -21,10 +23,7 @@ use validity::valid;
 fn is_named(n: Number, kind: u64) -> bool
     ensures { result ≡ is_number n && is_kind kind }
 {
-    if !n.is_valid() {
-        return false;
-    }
-    codes::is_kind(kind)
+    n.is_valid() && codes::is_kind(kind)
 }
 
 // A reply that leaves the head as it is.
@@ -53,7 +52,16 @@ fn open_to(
     if !is_named(n, kind) {
         return keep(59, head);
     }
-    if let Some(_) = columns::find_account(names, keys, balances, head, n, kind) {
+    if let Some(_) = columns::find_account(
+        AccountsView {
+            names,
+            keys,
+            balances,
+        },
+        head,
+        n,
+        kind,
+    ) {
         return keep(56, head);
     }
     let at = head.count;
@@ -68,9 +76,7 @@ fn open_to(
 
 // Opens an account with a balance of 0, among accounts that are lent in columns.
 pub fn open_lent(
-    nums: &[[u64; 6]],
-    numbers: &[[u8; 30]],
-    dates: &[[[u8; 19]; 3]],
+    table: TableView<'_>,
     names: &mut [[u8; 30]; 256],
     keys: &mut [[u64; 2]; 256],
     balances: &mut [i64; 256],
@@ -78,44 +84,42 @@ pub fn open_lent(
     number: Number,
     kind: u64,
 ) -> HeadReply
-    ensures { lent_reply result (columns_of names.new keys.new balances.new) ≡ open_account (gate_of head (columns_of names.old keys.old balances.old)) (lent nums.now numbers.now dates.now) number kind }
+    ensures { lent_reply result (columns_of names.new keys.new balances.new) ≡ open_account (gate_of head (columns_of names.old keys.old balances.old)) (rows_seen table.entry) number kind }
 {
-    if !valid::table_good(nums, numbers, dates, names, keys, balances, head) {
+    if !valid::table_good(
+        table,
+        AccountsView {
+            names,
+            keys,
+            balances,
+        },
+        head,
+    ) {
         return keep(68, head);
     }
     open_to(names, keys, balances, head, number, kind)
 }
 
 // The same with the gate by value.
-pub fn open_account(
-    nums: &[[u64; 6]],
-    numbers: &[[u8; 30]],
-    dates: &[[[u8; 19]; 3]],
-    gate: Gate,
-    number: Number,
-    kind: u64,
-) -> Reply
-    ensures { result ≡ open_account gate (lent nums.now numbers.now dates.now) number kind }
+pub fn open_account(table: TableView<'_>, gate: Gate, number: Number, kind: u64) -> Reply
+    ensures { result ≡ open_account gate (rows_seen table.entry) number kind }
 {
     let mut names = columns::empty_names();
     let mut keys = columns::empty_keys();
     let mut balances = columns::empty_balances();
     columns::unpack(gate, &mut names, &mut keys, &mut balances);
     let h = columns::head_of(gate);
-    let r = open_lent(
-        nums,
-        numbers,
-        dates,
-        &mut names,
-        &mut keys,
-        &mut balances,
-        h,
-        number,
-        kind,
-    );
+    let r = open_lent(table, &mut names, &mut keys, &mut balances, h, number, kind);
     Reply {
         code: r.code,
-        gate: columns::pack(r.head, &names, &keys, &balances),
+        gate: columns::pack(
+            r.head,
+            AccountsView {
+                names: &names,
+                keys: &keys,
+                balances: &balances,
+            },
+        ),
         size: r.size,
     }
 }
@@ -142,61 +146,51 @@ fn draw_on(balances: &mut [i64; 256], head: Head, h: Holding, kopecks: u64) -> H
 
 // Draws kopecks from an account, as a print job does; the accounts are lent in columns.
 pub fn draw_lent(
-    nums: &[[u64; 6]],
-    numbers: &[[u8; 30]],
-    dates: &[[[u8; 19]; 3]],
-    names: &[[u8; 30]; 256],
-    keys: &[[u64; 2]; 256],
-    balances: &mut [i64; 256],
+    table: TableView<'_>,
+    accounts: &mut Accounts<'_>,
     head: Head,
     number: Number,
     kind: u64,
     kopecks: u64,
 ) -> HeadReply
-    ensures { lent_reply result (columns_of names.now keys.now balances.new) ≡ draw_funds (gate_of head (columns_of names.now keys.now balances.old)) (lent nums.now numbers.now dates.now) number kind kopecks }
+    ensures value { lent_reply result (columns_in accounts.new) ≡ draw_funds (gate_of head (columns_in accounts.old)) (rows_seen table.entry) number kind kopecks }
+    ensures same_accounts { SameAccounts accounts.old accounts.new }
 {
-    if !valid::table_good(nums, numbers, dates, names, keys, balances, head) {
+    let seen = accounts.view();
+    if !valid::table_good(table, seen, head) {
         return keep(68, head);
     }
     if !is_named(number, kind) {
         return keep(59, head);
     }
-    let h = columns::look_up(names, keys, balances, head, number, kind);
-    draw_on(balances, head, h, kopecks)
+    let h = columns::look_up(seen, head, number, kind);
+    draw_on(accounts.balances, head, h, kopecks)
 }
 
 // The same with the gate by value.
 pub fn draw_funds(
-    nums: &[[u64; 6]],
-    numbers: &[[u8; 30]],
-    dates: &[[[u8; 19]; 3]],
+    table: TableView<'_>,
     gate: Gate,
     number: Number,
     kind: u64,
     kopecks: u64,
 ) -> Reply
-    ensures { result ≡ draw_funds gate (lent nums.now numbers.now dates.now) number kind kopecks }
+    ensures { result ≡ draw_funds gate (rows_seen table.entry) number kind kopecks }
 {
     let mut names = columns::empty_names();
     let mut keys = columns::empty_keys();
     let mut balances = columns::empty_balances();
     columns::unpack(gate, &mut names, &mut keys, &mut balances);
     let h = columns::head_of(gate);
-    let r = draw_lent(
-        nums,
-        numbers,
-        dates,
-        &names,
-        &keys,
-        &mut balances,
-        h,
-        number,
-        kind,
-        kopecks,
-    );
+    let mut accounts = Accounts {
+        names: &names,
+        keys: &keys,
+        balances: &mut balances,
+    };
+    let r = draw_lent(table, &mut accounts, h, number, kind, kopecks);
     Reply {
         code: r.code,
-        gate: columns::pack(r.head, &names, &keys, &balances),
+        gate: columns::pack(r.head, accounts.view()),
         size: r.size,
     }
 }
