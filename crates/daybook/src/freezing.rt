@@ -19,15 +19,11 @@ pub struct Freezing {
 pub(crate) fn may_freeze(b: Book, day: Day) -> bool
     ensures { result ≡ on_day day (next_day b.frozen) && b.settled }
 {
-    let frozen = b.frozen;
-    if day.follows(frozen) {
-        b.settled
-    } else {
-        false
-    }
+    day.follows(b.frozen) && b.settled
 }
 
 // Freezes the day after the last frozen one; a fault keeps all.
+#[tactic(auto, unfolding(crate::specs::Freezing::freeze, crate::specs::Freezing::freeze_on))]
 pub fn freeze(
     nums: &[[u64; 6]],
     numbers: &[[u8; 30]],
@@ -46,11 +42,12 @@ pub fn freeze(
     if !may_freeze(book, day) {
         return Freezing { code: 66, book };
     }
-    let mut next = book;
-    next.frozen = day;
-    next.settled = false;
     Freezing {
         code: 0,
-        book: next,
+        book: Book {
+            frozen: day,
+            settled: false,
+            ..book
+        },
     }
 }

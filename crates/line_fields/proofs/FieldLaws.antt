@@ -1,24 +1,21 @@
 -- Laws of the fields of a line.
-use Prim.Native.Nat.{ℕ, zero, suc, ◌+◌, ◌-◌, ◌*◌, ◌^◌, ◌≤◌, ◌<◌}
-use native.Mathlib.Numerals.{add-one}
+use Prim.Native.Nat.{ℕ, zero, suc, ◌+◌, ◌-◌, ◌≤◌, ◌<◌}
 use native.Mathlib.Nat.{zero-add}
 use native.Mathlib.Decide.{ℕ_discrete}
 use native.Mathlib.Omega.{arith}
 use mathlib.Core.Path.{◌≡◌, refl, sym, ap, ◌∙◌}
 use mathlib.Core.List.{List, [], ◌∷◌}
-use mathlib.Core.Bool.{Bool, true, false, cond, not, ◌&&◌}
-use mir.Syntax.{w64}
-use mir.Val.{Fits}
-use lib.Dec.{eqb, leb}
-use lib.ListN.{length, take, drop, get_or, length-drop, drop_of_length-le}
-use lib.Seq.{take_all, drop-drop}
-use borrow.Author.Tests.{eq-eqb, ne_eqb, not-true, not-false}
-use Rattle.texts.specs.Lists.{find, eq_list}
+use mathlib.Core.Bool.{Bool, true, false, cond}
+use mir.Val.{bool_byte}
+use lib.Dec.{eqb}
+use lib.ListN.{length, take, drop, get_or, drop_of_length-le}
+use lib.Seq.{take_all}
+use Rattle.texts.specs.Lists.{find}
 use Rattle.texts.proofs.ListLaws.{drop-next}
-use Rattle.texts.proofs.ScanLaws.{find-le, from_some}
+use Rattle.texts.proofs.ScanLaws.{find-le}
 use Rattle.coding.specs.Params.{split_at, longer}
 use Rattle.coding.proofs.ParamLaws.{split-first, split-last}
-use Rattle.line_fields.specs.LineFields.{spaced, field_at, field_count, has_letter, after_space, params_in}
+use Rattle.line_fields.specs.LineFields.{spaced, field_at, field_count, after_space}
 
 -- ---- the first field, and the fields behind it
 -- no field of nothing holds a byte
@@ -46,37 +43,20 @@ module _ (s : List ℕ) where
       by-space (field_at (suc i) s ≡ field_at i (after_space s)) (λ h. rw (split-first 32 s h))
       (λ h. let k : length s ≤ suc (find 32 s) = omega arith in rw (split-last 32 s h, drop_of_length-le s k) (sym (field-none i)))
 
-  pub first-is : (f : List ℕ) → f ≡ take (find 32 s) s → f ≡ field_at 0 s
-  first-is f e = e ∙ first_part
+-- ---- the loop to field i: `left` fields are to be passed in the rest
+pub field_past : (i left : ℕ) (s r : List ℕ) → field_at i s ≡ field_at left r → length r ≡ 0 → r ≡ field_at i s
+field_past i left s [] passed h = sym (passed ∙ field-none left)
+field_past i left s (b ∷ r) passed h = absurd (omega arith)
 
--- ---- the loop to field i: `left` fields are to be passed from `at` on
-module _ (s : List ℕ) (i at left : ℕ) (passed : field_at i s ≡ field_at left (drop at s)) where
-  pub field_past : length s ≤ at → [] ≡ field_at i s
-  field_past h = sym (passed ∙ rw (drop_of_length-le s h) (field-none left))
+pub field_step : (i k : ℕ) (s r g : List ℕ) → field_at i s ≡ field_at (i - k) r → k < i → g ≡ after_space r → field_at i s ≡ field_at (i - (k + 1)) g
+field_step i k s r g passed h e =
+    let n : i - k ≡ suc (i - (k + 1)) = omega arith in
+    passed ∙ ap (λ (n : ℕ). field_at n r) n ∙ field-after r (i - (k + 1)) ∙ rw e
 
-  pub field_step : (p : ℕ) → p ≡ find 32 (take (length s - at) (drop at s)) → 0 < left → field_at i s ≡ field_at (left - 1) (drop (at + (p + 1)) s)
-  field_step p e h =
-      let k : left ≡ suc (left - 1) = omega arith in
-      let q : p ≡ find 32 (drop at s) = e ∙ rw (from_some s at) in
-      passed ∙ ap (λ (n : ℕ). field_at n (drop at s)) k ∙ field-after (drop at s) (left - 1) ∙ rw (← q, drop-drop, add-one)
-
-  pub field-done : left ≤ 0 → (g f : List ℕ) → g ≡ drop at s → f ≡ field_at 0 g → f ≡ field_at i s
-  field-done h g f eg ef =
-      let k : left ≡ 0 = omega arith in
-      ef ∙ rw eg (sym (passed ∙ rw k))
-
-pub step-size : (s : List ℕ) (at p : ℕ) → p ≡ find 32 (take (length s - at) (drop at s)) → at < length s → at + (p + 1) ≤ length s + 1
-step-size s at p e h =
-    let q : p ≡ find 32 (drop at s) = e ∙ rw (from_some s at) in
-    let l : find 32 (drop at s) ≤ length (drop at s) = find-le 32 (drop at s) in
-    let n : length (drop at s) ≡ length s - at = length-drop at s in
-    omega arith
-
-pub step_fits : (s : List ℕ) (at p : ℕ) → p ≡ find 32 (take (length s - at) (drop at s)) → at < length s → length s * 1 < 2 ^ 63 → Fits w64 (p + 1)
-step_fits s at p e h f = omega (arith, step-size s at p e h)
-
-pub step-fits-at : (s : List ℕ) (at p : ℕ) → p ≡ find 32 (take (length s - at) (drop at s)) → at < length s → length s * 1 < 2 ^ 63 → Fits w64 (at + (p + 1))
-step-fits-at s at p e h f = omega (arith, step-size s at p e h)
+pub field-done : (i k : ℕ) (s r f : List ℕ) → field_at i s ≡ field_at (i - k) r → i ≤ k → f ≡ take (find 32 r) r → f ≡ field_at i s
+field-done i k s r f passed h e =
+    let n : i - k ≡ 0 = omega arith in
+    e ∙ first_part r ∙ sym (passed ∙ rw n)
 
 -- ---- how many fields
 longer-length : (b : ℕ) (l : List (List ℕ)) → 0 < length l → length (longer b l) ≡ length l
@@ -100,47 +80,23 @@ count_next b s = go (eqb b 32)
     go true = omega arith
     go false = rw (longer-length b (spaced s) (some-field s)) (sym (zero-add _))
 
-module _ (s : List ℕ) (i n : ℕ) (counted : field_count s ≡ n + field_count (drop i s)) where
-  pub count-step : i < length s → (k : ℕ) → k ≡ cond (eqb (get_or s i 0) 32) 1 0 → field_count s ≡ n + k + field_count (drop (i + 1) s)
-  count-step h k e =
-      let q : field_count (drop i s) ≡ k + field_count (drop (i + 1) s) = rw (drop-next s i h, e) (count_next (get_or s i 0) (drop (i + 1) s)) in
-      omega arith
-
-  pub count-done : length s ≤ i → n + 1 ≡ field_count s
-  count-done h = sym (counted ∙ rw (drop_of_length-le s h) (unfold split_at in refl))
-
-share-one : (b : Bool) → cond b 1 0 ≤ 1
+share-one : (b : Bool) → bool_byte b ≤ 1
 share-one true = omega arith
 share-one false = omega arith
 
-pub count_low : (n i k b : ℕ) → n ≤ i → k ≡ cond (eqb b 32) 1 0 → n + k ≤ i + 1
-count_low n i k b h e = omega (arith, e, share-one (eqb b 32))
+share-is : (b : Bool) → bool_byte b ≡ cond b 1 0
+share-is true = refl
+share-is false = refl
 
-pub count_fits : (n i k b : ℕ) (s : List ℕ) → k ≡ cond (eqb b 32) 1 0 → n ≤ i → i < length s → length s * 1 < 2 ^ 63 → Fits w64 (n + k)
-count_fits n i k b s e h l f = omega (arith, e, share-one (eqb b 32))
+module _ (s : List ℕ) (i n : ℕ) (k : ℕ) (e : k ≡ bool_byte (eqb (get_or s i 0) 32)) where
+  pub count-step : field_count s ≡ n + field_count (drop i s) → i < length s → field_count s ≡ n + k + field_count (drop (i + 1) s)
+  count-step counted h =
+      let q : field_count (drop i s) ≡ k + field_count (drop (i + 1) s) = rw (drop-next s i h, e, share-is) (count_next (get_or s i 0) (drop (i + 1) s)) in
+      omega arith
 
-pub share-is : (b : ℕ) → b ≡ 32 → ◌≡◌ {A = ℕ} 1 (cond (eqb b 32) 1 0)
-share-is b e = rw (eq-eqb _ _ e)
+  pub count_low : n ≤ i → n + k ≤ i + 1
+  count_low h = omega (arith, e, share-one (eqb (get_or s i 0) 32))
 
-pub share-not : (b : ℕ) → (b ≡ 32 → ⊥) → ◌≡◌ {A = ℕ} 0 (cond (eqb b 32) 1 0)
-share-not b e = rw (ne_eqb _ _ e)
-
--- ---- the letter and the count
-pub letter-is : (s f : List ℕ) (letter : ℕ) (r : Bool) → f ≡ field_at 0 s → r ≡ eq_list f (letter ∷ []) → r ≡ has_letter letter s
-letter-is s f letter r ef er = er ∙ rw ef
-
-pub params_are : (s a p : List ℕ) → a ≡ after_space s → p ≡ after_space a → p ≡ params_in s
-params_are s a p ea ep = ep ∙ rw ea
-
-module _ (a t : Bool) (is : t ≡ a) where
-  pub form-other : (b : Bool) → not t ≡ true → false ≡ a && b
-  form-other b h = rw (← is, not-true t h)
-
-  form-by : (p : ℕ → Bool) → not t ≡ false → (n m : ℕ) → n ≡ m → p n ≡ a && p m
-  form-by p h n m e = rw (← is, not-false t h, e)
-
-  pub form-exact : (k n m : ℕ) → not t ≡ false → n ≡ m → eqb n k ≡ a && eqb m k
-  form-exact k n m h e = form-by (λ i. eqb i k) h n m e
-
-  pub form-least : (k n m : ℕ) → not t ≡ false → n ≡ m → leb k n ≡ a && leb k m
-  form-least k n m h e = form-by (leb k) h n m e
+module _ (s : List ℕ) (i n : ℕ) (counted : field_count s ≡ n + field_count (drop i s)) where
+  pub count-done : length s ≤ i → n + 1 ≡ field_count s
+  count-done h = sym (counted ∙ rw (drop_of_length-le s h) (unfold split_at in refl))

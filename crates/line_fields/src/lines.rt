@@ -8,7 +8,7 @@ use texts::scan;
 pub fn line_at(s: &[u8], at: usize) -> &[u8]
     ensures { result.now ≡ line_at at s.now }
 {
-    scan::before_byte(scan::bytes_from(s, at), 10)
+    scan::before_byte(scan::bytes_from(s, at), b'\n')
 }
 
 // Where the next line begins.
@@ -16,5 +16,5 @@ pub fn next_line(s: &[u8], at: usize) -> usize
     requires { at < length s.now }
     ensures { (result ≡ at + (length (line_at at s.now) + 1)) × (at < result) × (result ≤ length s.now + 1) }
 {
-    at + (line_at(s, at).len() + 1)
+    at + line_at(s, at).len() + 1
 }

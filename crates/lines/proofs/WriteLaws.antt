@@ -168,9 +168,6 @@ module _ (d : List ℕ) (at : ℕ) where
 
 -- ---- a line that is one, and one that is none
 module _ (x : Line) (t : Bool) (test : t ≡ is_line x) where
-  pub valid : t ≡ true → is_line x ≡ true
-  valid h = sym test ∙ h
-
   text-none : t ≡ false → line_text x ≡ []
   unfolding line_text
   text-none h = rw (← test, h)

@@ -102,11 +102,9 @@ impl Line {
         requires { (is_line self ≡ true) × (row.old ≡ row_of9) }
         ensures { (result ≡ cursor_after row_of9 0 (account_part self)) × (row.new ≡ written row_of9 0 (account_part self)) }
     {
-        let number = self.number;
-        let date = self.date;
-        let a = number.write(row, 0);
+        let a = self.number.write(row, 0);
         let b = digits::write_digits(self.kind, row, a + 1);
-        date::write_date(date, row, b + 1)
+        date::write_date(self.date, row, b + 1)
     }
 
     // Writes amount, receipt and the line's end behind them.
@@ -114,10 +112,9 @@ impl Line {
         requires { (is_line self ≡ true) × (at ≡ cursor_after row_of9 0 (account_part self)) × (row.old ≡ written row_of9 0 (account_part self)) }
         ensures { (result ≡ cursor_after row_of9 0 (line_bytes self)) × (row.new ≡ written row_of9 0 (line_bytes self)) }
     {
-        let end = [13u8, 10u8];
         let a = amount::write_amount(self.amount, row, at + 1);
         let b = digits::write_digits(self.receipt, row, a + 1);
-        out::put_bytes(&end, row, b)
+        out::put_bytes(b"\r\n", row, b)
     }
 
     // Writes a line that is known to be well formed, and its end, at the cursor, where it has room.

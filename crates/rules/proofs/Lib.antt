@@ -1,3 +1,1 @@
-pub mod CaseLaws
 pub mod DecisionLaws
-pub mod AnsweringLaws

@@ -5,7 +5,7 @@ ghost use Rattle.rules.specs.Decision.{keeps, check_code, payment_new, cancel_do
 use payments::Action;
 
 // How a receipt stands in the table. Other: its record is of another number, type, amount or date than the payment tells.
-#[derive(Clone, Copy)]
+#[derive(Clone, Copy, Debug, PartialEq, Eq)]
 pub enum Standing {
     Unrecorded,
     Done,
@@ -23,13 +23,14 @@ pub struct View {
 }
 
 // What a decision changes: nothing, a record more, or its record cancelled.
-#[derive(Clone, Copy)]
+#[derive(Clone, Copy, Debug, PartialEq, Eq)]
 pub enum Change {
     Keep,
     Append,
     Revoke,
 }
 
+// The code is a number, as it goes over the wire and to C.
 #[derive(Clone, Copy)]
 pub struct Decided {
     pub code: u64,
@@ -45,55 +46,48 @@ fn keep(code: u64) -> Decided
     }
 }
 
+#[tactic(auto, unfolding(crate::specs::Decision::check_code))]
 fn check_code(v: View) -> u64
     ensures { result ≡ check_code v }
 {
-    let known = v.known;
-    let full = v.full;
-    match known {
-        true => match full {
-            true => 30,
-            false => 0,
-        },
-        false => 2,
+    if !v.known {
+        2
+    } else if v.full {
+        30
+    } else {
+        0
     }
 }
 
+#[tactic(auto, unfolding(crate::specs::Decision::payment_new))]
 fn payment_new(v: View) -> Decided
     ensures { result ≡ payment_new v }
 {
-    let closed = v.closed;
-    let known = v.known;
-    let full = v.full;
-    match closed {
-        true => keep(5),
-        false => match known {
-            true => match full {
-                true => keep(30),
-                false => Decided {
-                    code: 0,
-                    change: Change::Append,
-                },
-            },
-            false => keep(2),
-        },
+    if v.closed {
+        keep(5)
+    } else if !v.known {
+        keep(2)
+    } else if v.full {
+        keep(30)
+    } else {
+        Decided {
+            code: 0,
+            change: Change::Append,
+        }
     }
 }
 
+#[tactic(auto, unfolding(crate::specs::Decision::cancel_done))]
 fn cancel_done(v: View) -> Decided
     ensures { result ≡ cancel_done v }
 {
-    let day_closed = v.closed;
-    let short = v.short;
-    match day_closed {
-        true => keep(9),
-        false => match short {
-            true => keep(9),
-            false => Decided {
-                code: 0,
-                change: Change::Revoke,
-            },
-        },
+    if v.closed || v.short {
+        keep(9)
+    } else {
+        Decided {
+            code: 0,
+            change: Change::Revoke,
+        }
     }
 }
 
@@ -112,16 +106,14 @@ pub fn decide(fault: u64, a: Action, s: Standing, v: View) -> Decided
                 Standing::Other => keep(4),
             },
             Action::Status => match s {
-                Standing::Unrecorded => keep(6),
+                Standing::Unrecorded | Standing::Other => keep(6),
                 Standing::Done => keep(0),
                 Standing::Cancelled => keep(7),
-                Standing::Other => keep(6),
             },
             Action::Cancel => match s {
-                Standing::Unrecorded => keep(9),
+                Standing::Unrecorded | Standing::Other => keep(9),
                 Standing::Done => cancel_done(v),
                 Standing::Cancelled => keep(0),
-                Standing::Other => keep(9),
             },
         },
         1..=5 | 31..=32 => keep(fault),

@@ -1,2 +1,0 @@
-pub mod FrozenLaws
-pub mod FreezeLaws
