@@ -1,7 +1,8 @@
 // A request delivered to the gate.
+ghost use Rattle.lists.specs.Rows.{SameLoan};
 ghost use Rattle.std.specs.Prelude.{◌≡◌, true, ◌<◌};
-ghost use Rattle.table.specs.Lent.{lent};
-ghost use Rattle.table.specs.Columns.{gate_of, columns_of};
+ghost use Rattle.table.specs.Lent.{rows_in};
+ghost use Rattle.table.specs.Columns.{gate_of, columns_in, SameAccounts};
 ghost use Rattle.validity.specs.Valid.{Ready, table_good};
 ghost use Rattle.message.specs.Request.{fault_number, asked_of};
 ghost use Rattle.gate.specs.Deliver.{instruction_of, respond, deliver};
@@ -13,6 +14,8 @@ use message::request;
 use message::request::{Asked, Refusal};
 use payments::{Details, Instruction};
 use rules::answer;
+use table::columns::Accounts;
+use table::rows::Table;
 use table::{Gate, Head, columns};
 
 // What a request of this wire asks, whatever the wire.
@@ -44,36 +47,23 @@ fn asked_in(q: Result<Asked, Refusal>) -> (u64, Asked)
 
 // Executes what a request asks, and writes the answer.
 fn answer_read(
-    nums: &mut [[u64; 6]],
-    numbers: &mut [[u8; 30]],
-    dates: &mut [[[u8; 19]; 3]],
-    names: &[[u8; 30]; 256],
-    keys: &[[u64; 2]; 256],
-    balances: &mut [i64; 256],
+    table: &mut Table<'_>,
+    accounts: &mut Accounts<'_>,
     head: Head,
     clock: [u8; 19],
     fault: u64,
     asked: Asked,
     out: &mut [u8],
 ) -> HeadReply
-    requires ready { Ready (gate_of head (columns_of names.now keys.now balances.old)) (lent nums.old numbers.old dates.old) }
-    requires good { table_good (gate_of head (columns_of names.now keys.now balances.old)) (lent nums.old numbers.old dates.old) ≡ true }
+    requires ready { Ready (gate_of head (columns_in accounts.old)) (rows_in table.old) }
+    requires good { table_good (gate_of head (columns_in accounts.old)) (rows_in table.old) ≡ true }
     requires small { asked.amount < 1000000000 }
-    ensures { lent_delivery result (columns_of names.now keys.now balances.new) (lent nums.new numbers.new dates.new) out.new
-        ≡ respond (gate_of head (columns_of names.now keys.now balances.old)) (lent nums.old numbers.old dates.old) clock fault (instruction_of asked) out.old }
+    ensures value { lent_delivery result (columns_in accounts.new) (rows_in table.new) out.new
+        ≡ respond (gate_of head (columns_in accounts.old)) (rows_in table.old) clock fault (instruction_of asked) out.old }
+    ensures same_loan { SameLoan table.old table.new }
+    ensures same_accounts { SameAccounts accounts.old accounts.new }
 {
-    let x = change::execute(
-        nums,
-        numbers,
-        dates,
-        names,
-        keys,
-        balances,
-        head,
-        clock,
-        fault,
-        instruction_of(asked),
-    );
+    let x = change::execute(table, accounts, head, clock, fault, instruction_of(asked));
     let answer = answer::answer_of(asked.action, x.code, x.subject, clock);
     let size = write::write_answer(answer, out, 0);
     HeadReply {
@@ -88,31 +78,19 @@ fn answer_read(
 
 // A request delivered to the gate, its accounts lent in columns: 68, 50 and 51 keep all; any other code is answered in the buffer.
 pub fn deliver_lent(
-    nums: &mut [[u64; 6]],
-    numbers: &mut [[u8; 30]],
-    dates: &mut [[[u8; 19]; 3]],
-    names: &[[u8; 30]; 256],
-    keys: &[[u64; 2]; 256],
-    balances: &mut [i64; 256],
+    table: &mut Table<'_>,
+    accounts: &mut Accounts<'_>,
     head: Head,
     clock: [u8; 19],
     params: &[u8],
     out: &mut [u8],
 ) -> HeadReply
-    ensures { lent_delivery result (columns_of names.now keys.now balances.new) (lent nums.new numbers.new dates.new) out.new
-        ≡ deliver (gate_of head (columns_of names.now keys.now balances.old)) (lent nums.old numbers.old dates.old) clock params.now out.old }
+    ensures value { lent_delivery result (columns_in accounts.new) (rows_in table.new) out.new
+        ≡ deliver (gate_of head (columns_in accounts.old)) (rows_in table.old) clock params.now out.old }
+    ensures same_loan { SameLoan table.old table.new }
+    ensures same_accounts { SameAccounts accounts.old accounts.new }
 {
-    let fault = admission::admit(
-        nums,
-        numbers,
-        dates,
-        names,
-        keys,
-        balances,
-        head,
-        clock,
-        out.len(),
-    );
+    let fault = admission::admit(table.view(), accounts.view(), head, clock, out.len());
     if fault != 0 {
         return HeadReply {
             code: fault,
@@ -121,34 +99,32 @@ pub fn deliver_lent(
         };
     }
     let (fault, asked) = asked_in(request::read_request(params));
-    answer_read(
-        nums, numbers, dates, names, keys, balances, head, clock, fault, asked, out,
-    )
+    answer_read(table, accounts, head, clock, fault, asked, out)
 }
 
 // The same with the gate by value.
 pub fn deliver(
-    nums: &mut [[u64; 6]],
-    numbers: &mut [[u8; 30]],
-    dates: &mut [[[u8; 19]; 3]],
+    table: &mut Table<'_>,
     gate: Gate,
     clock: [u8; 19],
     params: &[u8],
     out: &mut [u8],
 ) -> Reply
-    ensures { delivery_of result (lent nums.new numbers.new dates.new) out.new ≡ deliver gate (lent nums.old numbers.old dates.old) clock params.now out.old }
+    ensures value { delivery_of result (rows_in table.new) out.new ≡ deliver gate (rows_in table.old) clock params.now out.old }
+    ensures same_loan { SameLoan table.old table.new }
 {
     let mut names = columns::empty_names();
     let mut keys = columns::empty_keys();
     let mut balances = columns::empty_balances();
     columns::unpack(gate, &mut names, &mut keys, &mut balances);
+    let mut accounts = Accounts {
+        names: &names,
+        keys: &keys,
+        balances: &mut balances,
+    };
     let r = deliver_lent(
-        nums,
-        numbers,
-        dates,
-        &names,
-        &keys,
-        &mut balances,
+        table,
+        &mut accounts,
         columns::head_of(gate),
         clock,
         params,
@@ -156,7 +132,7 @@ pub fn deliver(
     );
     Reply {
         code: r.code,
-        gate: columns::pack(r.head, &names, &keys, &balances),
+        gate: columns::pack(r.head, accounts.view()),
         size: r.size,
     }
 }

@@ -8,6 +8,6 @@ execute-x-requires c =
       dates_value = (c.requires.good, instruction-amount c.args.asked c.instruction_of.result c.instruction_of.ensures c.requires.small);
     }
 
-pub returns : goal.returns
-returns c =
-    executed-answered _ _ _ _ c.args.asked _ _ _ _ _ _ _ _ _ c.instruction_of.ensures c.execute-x.ensures c.answer_of-answer.ensures c.write_answer-size.ensures.0 c.write_answer-size.ensures.1
+pub returns-clause-value : goal.returns-clause-value
+returns-clause-value c =
+    executed-answered _ _ _ _ c.args.asked _ _ _ _ _ _ _ _ _ c.instruction_of.ensures c.execute-x.ensures.value c.answer_of-answer.ensures c.write_answer-size.ensures.0 c.write_answer-size.ensures.1
