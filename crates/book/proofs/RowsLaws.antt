@@ -1,0 +1,11 @@
+-- A view shows what is lent.
+use mathlib.Core.Path.{◌≡◌}
+use Prim.Native.Nat.{ℕ}
+use mathlib.Core.List.{List}
+use Rattle.lists.specs.declared.rows.Rows.{Rows}
+use Rattle.lists.specs.declared.rows.RowsView.{RowsView}
+use Rattle.lists.specs.Rows.{IsView}
+use Rattle.book.specs.Lent.{entries_in, entries_seen}
+
+pub entries-viewed : (t : Rows (List ℕ) (List ℕ)) (v : RowsView (List ℕ) (List ℕ)) → IsView t v → entries_seen v ≡ entries_in t
+entries-viewed t v i = rw (i.nums, i.numbers, i.dates)
