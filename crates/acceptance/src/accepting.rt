@@ -1,11 +1,13 @@
 // A payment is accepted at the counter.
+ghost use Rattle.lists.specs.Rows.{SameLoan};
 ghost use Rattle.std.specs.Prelude.{◌≡◌, true, ◌<◌, ◌≤◌, length};
 ghost use Rattle.dates.specs.Date.{date_day};
 ghost use Rattle.book.specs.Entries.{entries_of};
-ghost use Rattle.book.specs.Lent.{lent_book};
+ghost use Rattle.book.specs.Lent.{entries_in, entries_seen};
 ghost use Rattle.book_validity.specs.BookValid.{book_good, ReadyBook, Dated};
 ghost use Rattle.acceptance.specs.Acceptance.{acceptance_of, made_entry, may_accept, day_open, has_place, accept_fault, accept};
 
+use book::rows::{Entries, EntriesView};
 use book::{Book, Entry, State, rows, states};
 use book_validity::{counts, valid};
 use dates::date;
@@ -36,37 +38,25 @@ pub fn may_accept(b: Book, n: Number, kind: u64, kopecks: u64, written: [u8; 19]
 
 // Whether the day has fewer than its 512 entries.
 #[tactic(auto, using(crate::proofs::AcceptLaws::day_open_laws))]
-pub fn day_open(
-    nums: &[[u64; 6]],
-    numbers: &[[u8; 30]],
-    dates: &[[u8; 19]],
-    used: usize,
-    written: [u8; 19],
-) -> bool
-    requires used_in_bounds { (used ≤ length nums.now) × (used ≤ length numbers.now) × (used ≤ length dates.now) }
-    requires dated { Dated (lent_book nums.now numbers.now dates.now) used }
-    ensures { result ≡ day_open (entries_of (lent_book nums.now numbers.now dates.now) used) (date_day written) }
+pub fn day_open(entries: EntriesView<'_>, used: usize, written: [u8; 19]) -> bool
+    requires used_in_bounds { (used ≤ length entries.nums.now) × (used ≤ length entries.numbers.now) × (used ≤ length entries.dates.now) }
+    requires dated { Dated (entries_seen entries) used }
+    ensures { result ≡ day_open (entries_of (entries_seen entries.entry) used) (date_day written) }
 {
     let Some(day) = date::day_of_date(written) else {
         return false;
     };
-    used < counts::DAY_MOST || counts::count_day(nums, numbers, dates, used, day) < counts::DAY_MOST
+    used < counts::DAY_MOST || counts::count_day(entries, used, day) < counts::DAY_MOST
 }
 
 // Whether the book, the day and the receipts have a place left.
 #[tactic(auto, using(crate::proofs::AcceptLaws::has_place_laws), unfolding(crate::specs::Acceptance::has_place, crate::specs::Acceptance::next_receipt))]
-pub fn has_place(
-    nums: &[[u64; 6]],
-    numbers: &[[u8; 30]],
-    dates: &[[u8; 19]],
-    b: Book,
-    written: [u8; 19],
-) -> bool
-    requires { (book_good b (lent_book nums.now numbers.now dates.now) ≡ true) × ReadyBook b (lent_book nums.now numbers.now dates.now) }
-    ensures { result ≡ has_place b (lent_book nums.now numbers.now dates.now) written }
+pub fn has_place(entries: EntriesView<'_>, b: Book, written: [u8; 19]) -> bool
+    requires { (book_good b (entries_seen entries) ≡ true) × ReadyBook b (entries_seen entries) }
+    ensures { result ≡ has_place b (entries_seen entries.entry) written }
 {
-    b.used < nums.len()
-        && day_open(nums, numbers, dates, b.used, written)
+    b.used < entries.nums.len()
+        && day_open(entries, b.used, written)
         && codes::is_receipt(b.first + b.used as u64)
 }
 
@@ -90,25 +80,23 @@ pub fn made_entry(b: Book, n: Number, kind: u64, kopecks: u64, written: [u8; 19]
 // The fault of an acceptance, or 0.
 #[tactic(auto, using(crate::proofs::AcceptLaws::accept_fault_laws), unfolding(crate::specs::Acceptance::accept_fault))]
 pub fn accept_fault(
-    nums: &[[u64; 6]],
-    numbers: &[[u8; 30]],
-    dates: &[[u8; 19]],
+    entries: EntriesView<'_>,
     b: Book,
     n: Number,
     kind: u64,
     kopecks: u64,
     written: [u8; 19],
 ) -> u64
-    ensures value { result ≡ accept_fault b (lent_book nums.now numbers.now dates.now) n kind kopecks written }
-    ensures ready_book { result ≡ 0 → ReadyBook b (lent_book nums.now numbers.now dates.now) }
+    ensures value { result ≡ accept_fault b (entries_seen entries.entry) n kind kopecks written }
+    ensures ready_book { result ≡ 0 → ReadyBook b (entries_seen entries.entry) }
 {
-    if !valid::book_good(nums, numbers, dates, b) {
+    if !valid::book_good(entries, b) {
         return 68;
     }
     if !may_accept(b, n, kind, kopecks, written) {
         return 60;
     }
-    if !has_place(nums, numbers, dates, b, written) {
+    if !has_place(entries, b, written) {
         return 61;
     }
     0
@@ -117,18 +105,17 @@ pub fn accept_fault(
 // Accepts a payment and gives its receipt; a fault keeps all.
 #[tactic(auto, using(crate::proofs::AcceptLaws::accept_laws))]
 pub fn accept(
-    nums: &mut [[u64; 6]],
-    numbers: &mut [[u8; 30]],
-    dates: &mut [[u8; 19]],
+    entries: &mut Entries<'_>,
     book: Book,
     number: Number,
     kind: u64,
     kopecks: u64,
     written: [u8; 19],
 ) -> Acceptance
-    ensures { acceptance_of result (lent_book nums.new numbers.new dates.new) ≡ accept book (lent_book nums.old numbers.old dates.old) number kind kopecks written }
+    ensures value { acceptance_of result (entries_in entries.new) ≡ accept book (entries_in entries.old) number kind kopecks written }
+    ensures same_loan { SameLoan entries.old entries.new }
 {
-    let code = accept_fault(nums, numbers, dates, book, number, kind, kopecks, written);
+    let code = accept_fault(entries.view(), book, number, kind, kopecks, written);
     if code != 0 {
         return Acceptance {
             code,
@@ -137,7 +124,7 @@ pub fn accept(
         };
     }
     let e = made_entry(book, number, kind, kopecks, written);
-    rows::store_entry(nums, numbers, dates, book.used, e);
+    rows::store_entry(entries, book.used, e);
     Acceptance {
         code: 0,
         book: Book {

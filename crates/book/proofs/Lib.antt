@@ -1,2 +1,3 @@
 pub mod EntryLaws
+pub mod RowsLaws
 pub mod StateLaws

@@ -2,11 +2,12 @@
 ghost use Rattle.std.specs.Prelude.{true, ◌≡◌, ◌<◌, ◌≤◌, length, replicate};
 ghost use Rattle.days.specs.Calendar.{is_day};
 ghost use Rattle.book.specs.Entries.{entries_of};
-ghost use Rattle.book.specs.Lent.{lent_book};
+ghost use Rattle.book.specs.Lent.{entries_seen};
 ghost use Rattle.book_validity.specs.BookValid.{day_count, days_good, Dated};
 ghost use Rattle.book_validity.specs.BookWalk.{day_slot};
 
 use book::rows;
+use book::rows::EntriesView;
 use dates::date;
 use days::calendar::Day;
 
@@ -18,20 +19,14 @@ const COUNT_MOST: u16 = 512;
 
 // How many of the first `used` entries are on the day.
 #[tactic(auto, using(crate::proofs::CountLaws::count_laws))]
-pub fn count_day(
-    nums: &[[u64; 6]],
-    numbers: &[[u8; 30]],
-    dates: &[[u8; 19]],
-    used: usize,
-    day: Day,
-) -> usize
-    requires used_in_bounds { (used ≤ length nums.now) × (used ≤ length numbers.now) × (used ≤ length dates.now) }
-    requires dated { Dated (lent_book nums.now numbers.now dates.now) used }
-    ensures { result ≡ day_count day (entries_of (lent_book nums.now numbers.now dates.now) used) }
+pub fn count_day(entries: EntriesView<'_>, used: usize, day: Day) -> usize
+    requires used_in_bounds { (used ≤ length entries.nums.now) × (used ≤ length entries.numbers.now) × (used ≤ length entries.dates.now) }
+    requires dated { Dated (entries_seen entries) used }
+    ensures { result ≡ day_count day (entries_of (entries_seen entries.entry) used) }
 {
     let mut n = 0;
     for i in 0..used {
-        let e = rows::load_entry(nums, numbers, dates, i);
+        let e = rows::load_entry(entries, i);
         if date::written_on(day, e.date) {
             n += 1;
         }
@@ -55,22 +50,17 @@ fn no_counts() -> [u16; 38432]
 }
 
 // Whether no day has more than 512 of the first `used` entries; a book of so few has none.
-pub(crate) fn days_good(
-    nums: &[[u64; 6]],
-    numbers: &[[u8; 30]],
-    dates: &[[u8; 19]],
-    used: usize,
-) -> bool
-    requires used_in_bounds { (used ≤ length nums.now) × (used ≤ length numbers.now) × (used ≤ length dates.now) }
-    requires dated { Dated (lent_book nums.now numbers.now dates.now) used }
-    ensures { result ≡ days_good (entries_of (lent_book nums.now numbers.now dates.now) used) }
+pub(crate) fn days_good(entries: EntriesView<'_>, used: usize) -> bool
+    requires used_in_bounds { (used ≤ length entries.nums.now) × (used ≤ length entries.numbers.now) × (used ≤ length entries.dates.now) }
+    requires dated { Dated (entries_seen entries) used }
+    ensures { result ≡ days_good (entries_of (entries_seen entries.entry) used) }
 {
     if used <= DAY_MOST {
         return true;
     }
     let mut counts = no_counts();
     for i in 0..used {
-        let e = rows::load_entry(nums, numbers, dates, i);
+        let e = rows::load_entry(entries, i);
         let s = day_slot(date::written_day(e.date));
         if COUNT_MOST <= counts[s] {
             return false;

@@ -3,10 +3,11 @@ ghost use Rattle.std.specs.Prelude.{true, ◌≡◌, ◌<◌, ◌≤◌, length}
 ghost use Rattle.fields.specs.Codes.{is_receipt};
 ghost use Rattle.lists.specs.Lists.{all_from};
 ghost use Rattle.book.specs.Entries.{entries_of, WholeBook};
-ghost use Rattle.book.specs.Lent.{lent_book};
+ghost use Rattle.book.specs.Lent.{entries_seen};
 ghost use Rattle.book_validity.specs.BookValid.{entry_fields, entry_good, book_head, book_good, ReadyBook};
 
 use crate::counts;
+use book::rows::EntriesView;
 use book::{Book, Entry, rows};
 use dates::date;
 use fields::{amount, codes};
@@ -39,14 +40,14 @@ fn entry_good(b: Book, i: usize, e: Entry) -> bool
 }
 
 // Whether each entry in use is good.
-fn entries_good(nums: &[[u64; 6]], numbers: &[[u8; 30]], dates: &[[u8; 19]], b: Book) -> bool
-    requires used_in_bounds { (b.used ≤ length nums.now) × (b.used ≤ length numbers.now) × (b.used ≤ length dates.now) }
+fn entries_good(entries: EntriesView<'_>, b: Book) -> bool
+    requires used_in_bounds { (b.used ≤ length entries.nums.now) × (b.used ≤ length entries.numbers.now) × (b.used ≤ length entries.dates.now) }
     requires first_value { (is_receipt b.first ≡ true) × (b.used ≤ 4096) }
-    ensures value { result ≡ all_from (entry_good b) 0 (entries_of (lent_book nums.now numbers.now dates.now) b.used) }
-    ensures whole_book { result ≡ true → WholeBook (lent_book nums.now numbers.now dates.now) b.used }
+    ensures value { result ≡ all_from (entry_good b) 0 (entries_of (entries_seen entries.entry) b.used) }
+    ensures whole_book { result ≡ true → WholeBook (entries_seen entries.entry) b.used }
 {
     for i in 0..b.used {
-        if !entry_good(b, i, rows::load_entry(nums, numbers, dates, i)) {
+        if !entry_good(b, i, rows::load_entry(entries, i)) {
             return false;
         }
     }
@@ -63,12 +64,12 @@ fn head_good(b: Book) -> bool
 
 // Whether a lent book is in its ranges.
 #[tactic(auto, using(crate::proofs::ValidLaws::book_laws), unfolding(crate::specs::BookValid::book_good))]
-pub fn book_good(nums: &[[u64; 6]], numbers: &[[u8; 30]], dates: &[[u8; 19]], b: Book) -> bool
-    ensures value { result ≡ book_good b (lent_book nums.now numbers.now dates.now) }
-    ensures ready_book { result ≡ true → ReadyBook b (lent_book nums.now numbers.now dates.now) }
+pub fn book_good(entries: EntriesView<'_>, b: Book) -> bool
+    ensures value { result ≡ book_good b (entries_seen entries.entry) }
+    ensures ready_book { result ≡ true → ReadyBook b (entries_seen entries.entry) }
 {
-    lists::is_lent(b.used, nums.len(), numbers.len(), dates.len())
+    entries.is_lent(b.used)
         && head_good(b)
-        && entries_good(nums, numbers, dates, b)
-        && counts::days_good(nums, numbers, dates, b.used)
+        && entries_good(entries, b)
+        && counts::days_good(entries, b.used)
 }

@@ -2,9 +2,10 @@
 ghost use Rattle.std.specs.Prelude.{◌≡◌, ◌&&◌};
 ghost use Rattle.days.specs.Calendar.{next_day, on_day};
 ghost use Rattle.daybook.specs.Freezing.{freeze};
-ghost use Rattle.book.specs.Lent.{lent_book};
+ghost use Rattle.book.specs.Lent.{entries_seen};
 
 use book::Book;
+use book::rows::EntriesView;
 use book_validity::valid;
 use days::calendar::Day;
 
@@ -24,16 +25,10 @@ pub(crate) fn may_freeze(b: Book, day: Day) -> bool
 
 // Freezes the day after the last frozen one; a fault keeps all.
 #[tactic(auto, unfolding(crate::specs::Freezing::freeze, crate::specs::Freezing::freeze_on))]
-pub fn freeze(
-    nums: &[[u64; 6]],
-    numbers: &[[u8; 30]],
-    dates: &[[u8; 19]],
-    book: Book,
-    day: Day,
-) -> Freezing
-    ensures { result ≡ freeze book (lent_book nums.now numbers.now dates.now) day }
+pub fn freeze(entries: EntriesView<'_>, book: Book, day: Day) -> Freezing
+    ensures { result ≡ freeze book (entries_seen entries.entry) day }
 {
-    if !valid::book_good(nums, numbers, dates, book) {
+    if !valid::book_good(entries, book) {
         return Freezing { code: 68, book };
     }
     if !day.is_valid() {

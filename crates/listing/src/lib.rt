@@ -4,10 +4,11 @@ ghost use Rattle.std.specs.Prelude.{◌≡◌, true, ◌≤◌, length};
 ghost use Rattle.texts.specs.Lists.{written, cursor_after};
 ghost use Rattle.dates.specs.Date.{is_written};
 ghost use Rattle.book.specs.Entries.{entries_of};
-ghost use Rattle.book.specs.Lent.{lent_book};
+ghost use Rattle.book.specs.Lent.{entries_seen};
 ghost use Rattle.book_validity.specs.BookValid.{book_good, ReadyBook};
 ghost use Rattle.listing.specs.Listing.{is_listed, entry_line, registry_of, listing_of, write_registry};
 
+use book::rows::EntriesView;
 use book::{Book, Entry, State, rows, states};
 use book_validity::valid;
 use dates::date;
@@ -49,22 +50,15 @@ pub(crate) fn entry_line(e: Entry) -> Line
 }
 
 // Writes the lines of the day's entries from the start of the buffer on.
-pub(crate) fn write_lines(
-    nums: &[[u64; 6]],
-    numbers: &[[u8; 30]],
-    dates: &[[u8; 19]],
-    b: Book,
-    day: Day,
-    out: &mut [u8],
-) -> usize
-    requires dates_value { (book_good b (lent_book nums.now numbers.now dates.now) ≡ true) × ReadyBook b (lent_book nums.now numbers.now dates.now) }
+pub(crate) fn write_lines(entries: EntriesView<'_>, b: Book, day: Day, out: &mut [u8]) -> usize
+    requires dates_value { (book_good b (entries_seen entries) ≡ true) × ReadyBook b (entries_seen entries) }
     requires in_bounds { 65536 ≤ length out.old }
-    ensures { (result ≡ cursor_after out.old 0 (registry_of day (entries_of (lent_book nums.now numbers.now dates.now) b.used)))
-        × (out.new ≡ written out.old 0 (registry_of day (entries_of (lent_book nums.now numbers.now dates.now) b.used))) }
+    ensures { (result ≡ cursor_after out.old 0 (registry_of day (entries_of (entries_seen entries.entry) b.used)))
+        × (out.new ≡ written out.old 0 (registry_of day (entries_of (entries_seen entries.entry) b.used))) }
 {
     let mut at: usize = 0;
     for i in 0..b.used {
-        let e = rows::load_entry(nums, numbers, dates, i);
+        let e = rows::load_entry(entries, i);
         if is_listed(day, e) {
             at = entry_line(e).put(out, at);
         }
@@ -74,17 +68,10 @@ pub(crate) fn write_lines(
 
 // Writes the registry of a day up to the frozen one, alike each time; a fault keeps all.
 #[tactic(auto, unfolding(crate::specs::Listing::write_registry, crate::specs::Listing::list_on))]
-pub fn write_registry(
-    nums: &[[u64; 6]],
-    numbers: &[[u8; 30]],
-    dates: &[[u8; 19]],
-    book: Book,
-    day: Day,
-    out: &mut [u8],
-) -> Writing
-    ensures { listing_of result out.new ≡ write_registry book (lent_book nums.now numbers.now dates.now) day out.old }
+pub fn write_registry(entries: EntriesView<'_>, book: Book, day: Day, out: &mut [u8]) -> Writing
+    ensures { listing_of result out.new ≡ write_registry book (entries_seen entries.entry) day out.old }
 {
-    if !valid::book_good(nums, numbers, dates, book) {
+    if !valid::book_good(entries, book) {
         return Writing { code: 68, size: 0 };
     }
     if out.len() < REGISTRY_ROOM {
@@ -93,6 +80,6 @@ pub fn write_registry(
     if !day.is_valid() || book.frozen.before(day) {
         return Writing { code: 55, size: 0 };
     }
-    let size = write_lines(nums, numbers, dates, book, day, out);
+    let size = write_lines(entries, book, day, out);
     Writing { code: 0, size }
 }
