@@ -1,4 +1,4 @@
--- What `==` says of two dates, that their lists are equal; and no date: bytes whose sum is 0 are zeros.
+-- No date: bytes whose sum is 0 are zeros.
 use Prim.Native.Nat.{ℕ, zero, suc, ◌+◌, ◌<◌, ◌≤◌}
 use native.Mathlib.Omega.{arith}
 use native.Mathlib.Nat.{zero-add}
@@ -9,18 +9,9 @@ use lib.Dec.{eqb}
 use borrow.Author.Tests.{ne_eqb}
 use lib.ListN.{length, drop, get_or, replicate}
 use lib.ListN.{drop_of_length-le}
-use Rattle.std.specs.Prelude.{nat_eq}
-use Rattle.std.specs.Cmp.Lexicographic.{pointwise}
 use Rattle.texts.specs.Lists.{eq_list}
 use Rattle.texts.proofs.ListLaws.{drop-next}
 use Rattle.dates.specs.Date.{empty_date}
-
-pub equal-bytes : (a b : List ℕ) → pointwise nat_eq a b ≡ eq_list a b
-unfolding eq_list
-equal-bytes [] [] = refl
-equal-bytes [] (y ∷ b) = refl
-equal-bytes (x ∷ a) [] = refl
-equal-bytes (x ∷ a) (y ∷ b) = rw (equal-bytes a b)
 
 unfoldable pub total : List ℕ → ℕ
 total [] = 0

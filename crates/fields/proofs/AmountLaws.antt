@@ -189,3 +189,11 @@ unfolding amount_bytes every
 amount-bytes p k f m =
     rw every_append
     (simp (every-weaker is_digit p (decimal (k / 100)) f (decimal-digits (k / 100)), m, every-weaker is_digit p (fixed 2 (k % 100)) f (fixed-digits 2 (k % 100))))
+
+pub ruleset kopecks_laws = (ten-fits, one-digit, two-digits, no-digits)
+
+pub ruleset point_laws = (from-point, from_end)
+
+pub ruleset read_laws = (before-size, amount-none, amount-part, whole-fits, sum_fits, amount-zero, amount-good)
+
+pub ruleset write_laws = (whole-size, skip-low, skip_all, amount-past, amount-past-kept, amount-no-room, amount-none-kept, amount-to, amount-kept)

@@ -1,33 +1,27 @@
 -- Laws of numbers of accounts.
-use Rattle.std.specs.Prelude.{Some, None}
-use Prim.Native.Nat.{ℕ, ◌+◌, ◌≤◌, ◌<◌}
+use Rattle.std.specs.Prelude.{Some, None, position}
+use Rattle.std.specs.List.{position_or_len, list_all}
+use Rattle.std.specs.Option.{unwrap_or}
+use Rattle.std.specs.Char.{is_ascii_graphic}
+use Prim.Native.Nat.{ℕ, suc, ◌+◌, ◌-◌, ◌≤◌, ◌<◌}
 use native.Mathlib.Omega.{arith}
-use native.Mathlib.Nat.{zero-add}
-use mathlib.Core.Path.{◌≡◌, refl, sym, ◌∙◌}
+use mathlib.Core.Path.{◌≡◌, refl, sym, ap, ◌∙◌}
 use mathlib.Core.List.{List, [], ◌∷◌}
-use mathlib.Core.Bool.{Bool, true, false, not, ◌&&◌, and-false}
-use lib.Dec.{eqb, leb}
-use lib.ListN.{length, get_or, drop, replicate, length-append, length-drop, length-replicate}
-use lib.Seq.{take-append_seam, length-take-le}
-use borrow.Author.Tests.{le-leb, lt-leb, eq-eqb, ne_eqb, eqb-true, leb-true}
+use mathlib.Core.Bool.{Bool, true, false, cond, not, ◌&&◌, and-false}
+use lib.Dec.{eqb, leb, ltb}
+use lib.ListN.{length, take, drop, replicate, length-append, length-drop, length-replicate}
+use lib.Seq.{take_all, take-append_seam, length-take-le}
+use borrow.Author.Tests.{lt-leb, eq-eqb, eqb-true, leb-true, ltb-false}
 use Rattle.fields.specs.declared.number.Number.{Number}
-use Rattle.texts.specs.Lists.{every, eq_list, written, cursor_after}
+use Rattle.texts.specs.Lists.{every, eq_list}
 use Rattle.fields.specs.Number.{number_byte, number_text, is_number, is_number_text, padded, number_of, number_read, same_number}
 use Rattle.texts.specs.Digits.{within}
 use Rattle.texts.proofs.Tests.{and_left, and_right, or_elim}
 use Rattle.texts.proofs.DigitLaws.{within_low, within-high}
-use Rattle.texts.proofs.ListLaws.{every-step, every-fails, every-all}
-use Rattle.texts.proofs.OutLaws.{written_over}
 use Rattle.texts.proofs.ScanLaws.{eq_list-refl, eq_list-true}
 
 -- ---- the bytes of a number
 module _ (b : ℕ) where
-  pub one_byte : (n : ℕ) → b ≡ n → true ≡ eqb b n
-  one_byte n e = sym (eq-eqb b n e)
-
-  pub not_byte : (n : ℕ) → (b ≡ n → ⊥) → false ≡ eqb b n
-  not_byte n e = sym (ne_eqb b n e)
-
   byte-between : number_byte b ≡ true → (32 < b) × (b < 256)
   unfolding number_byte
   byte-between =
@@ -44,10 +38,6 @@ module _ (b : ℕ) where
   pub byte-below-256 : number_byte b ≡ true → b < 256
   byte-below-256 h = (byte-between h).1
 
-  pub byte-visible : 33 ≤ b → b ≤ 126 → true ≡ number_byte b
-  unfolding number_byte
-  byte-visible p q = simp (le-leb 33 b p, le-leb b 126 q)
-
 -- the ends of each range, and what stands beside them
 pub ends-in : every number_byte (33 ∷ 126 ∷ 168 ∷ 184 ∷ 192 ∷ 255 ∷ []) ≡ true
 unfolding every number_byte
@@ -57,18 +47,46 @@ pub ends-out : every (λ (b : ℕ). not (number_byte b)) (32 ∷ 127 ∷ 167 ∷
 unfolding every number_byte
 ends-out = refl
 
-module _ (s : List ℕ) (i : ℕ) (passed : every number_byte s ≡ every number_byte (drop i s)) where
-  pub bytes-step : (t : Bool) → t ≡ number_byte (get_or s i 0) → t ≡ true → i < length s → every number_byte s ≡ every number_byte (drop (i + 1) s)
-  bytes-step t e y h = every-step number_byte s i passed h (sym e ∙ y)
+-- ---- the first bytes that are 21 to 7E are passed, and then each of the rest is looked at
+abbrev pub unseen : ℕ → Bool
+unseen b = not (is_ascii_graphic b)
 
-  pub bytes-pass : 33 ≤ get_or s i 0 → get_or s i 0 ≤ 126 → i < length s → every number_byte s ≡ every number_byte (drop (i + 1) s)
-  bytes-pass p q h = bytes-step true (byte-visible (get_or s i 0) p q) refl h
+graphic : (b : ℕ) → is_ascii_graphic b ≡ true → number_byte b ≡ true
+unfolding number_byte
+graphic b e = rw e
 
-  pub bytes-fail : (t : Bool) → t ≡ number_byte (get_or s i 0) → t ≡ false → i < length s → false ≡ every number_byte s
-  bytes-fail t e n h = sym (every-fails number_byte s i passed h (sym e ∙ n))
+abbrev Seen : List ℕ → ℕ → Type 0
+Seen s n = (n ≤ length s) × (every number_byte s ≡ every number_byte (drop n s))
 
-  pub bytes-all : length s ≤ i → true ≡ every number_byte s
-  bytes-all h = sym (every-all number_byte s i passed h)
+seen-next : (b : ℕ) (s : List ℕ) (n : ℕ) → Seen s n → (t : Bool) → is_ascii_graphic b ≡ t → Seen (b ∷ s) (cond (not (not t)) (1 + n) 0)
+unfolding every
+seen-next b s n h true e = let z : 1 + n ≡ suc n = omega arith in rw z (omega arith, rw (graphic b e) h.1)
+seen-next b s n h false e = (omega arith, refl)
+
+seen : (s : List ℕ) → Seen s (position_or_len unseen s)
+seen [] = (omega arith, refl)
+seen (b ∷ s) = seen-next b s (position_or_len unseen s) (seen s) (is_ascii_graphic b) refl
+
+found_or_length : (t : Bool) (f n : ℕ) → ltb f n ≡ t → f ≤ n → unwrap_or (cond t (Some f) None) n ≡ f
+found_or_length true f n e l = refl
+found_or_length false f n e l = omega (arith, ltb-false f n e, l)
+
+pub first-unseen : (s : List ℕ) (r : ℕ) → r ≡ unwrap_or (position unseen s) (length s) → (r ≤ length s) × (every number_byte s ≡ every number_byte (drop r s))
+first-unseen s r e =
+    let n = position_or_len unseen s in
+    let z : r ≡ n = e ∙ found_or_length (ltb n (length s)) n (length s) refl (seen s).0 in
+    rw z (seen s)
+
+all-every : (p : ℕ → Bool) (s : List ℕ) → list_all p s ≡ every p s
+unfolding every
+all-every p [] = refl
+all-every p (b ∷ s) = ap (λ (t : Bool). p b && t) (all-every p s)
+
+-- the rest, from a place on
+pub rest-every : (p : ℕ → Bool) (s : List ℕ) (n : ℕ) → list_all p (take (length s - n) (drop n s)) ≡ every p (drop n s)
+rest-every p s n =
+    let l : length (drop n s) ≤ length s - n = simp length-drop (omega arith) in
+    rw (take_all (length s - n) (drop n s) l) (all-every p (drop n s))
 
 -- ---- reading one
 module _ (s : List ℕ) where
@@ -79,19 +97,6 @@ module _ (s : List ℕ) where
   pub text-long : 30 < length s → false ≡ is_number_text s
   unfolding is_number_text
   text-long h = simp (lt-leb _ _ h, and-false)
-
-  pub text-judged : (length s ≡ 0 → ⊥) → length s ≤ 30 → (t : Bool) → t ≡ every number_byte s → t ≡ is_number_text s
-  unfolding is_number_text
-  text-judged some most t e = let o : 1 ≤ length s = omega arith in e ∙ simp (le-leb _ _ o, le-leb _ _ most)
-
-  module _ (most : length s ≤ 30) (d : List ℕ) (e : d ≡ written (replicate 30 0) 0 s) where
-    pub padded-made : d ≡ padded s
-    padded-made =
-        let fit : 0 + length s ≤ 30 = omega arith in
-        e ∙ rw (← written_over (replicate 30 0) 0 s fit) (rw zero-add)
-
-    pub number-made : record { bytes = d; len = length s } ≡ number_of s
-    number-made = rw padded-made
 
   module _ (t : Bool) (judged : t ≡ is_number_text s) where
     pub number_short : t ≡ true → length s ≤ 30
@@ -109,36 +114,8 @@ module _ (s : List ℕ) where
 
 pub ruleset read_number_laws = (number_short, number-good, number-bad)
 
--- ---- a lent number
-module _ (x : Number) where
-  pub valid-none : x.len < 1 → false ≡ is_number x
-  unfolding is_number
-  valid-none h = simp (lt-leb _ _ h, and-false)
-
-  pub valid-long : 30 < x.len → false ≡ is_number x
-  unfolding is_number
-  valid-long h = simp (lt-leb _ _ h, and-false)
-
-  pub valid-bytes : length x.bytes ≡ 30 → 1 ≤ x.len → x.len ≤ 30 → (a : List ℕ) → a ≡ number_text x → (t : Bool) → t ≡ every number_byte a → t ≡ is_number x
-  unfolding is_number
-  valid-bytes k l m a ea t e = e ∙ rw ea (simp (eq-eqb _ _ k, le-leb _ _ l, le-leb _ _ m))
-
-  pub text-cursor : (d : List ℕ) (at r : ℕ) (a : List ℕ) → a ≡ number_text x → r ≡ cursor_after d at a → r ≡ cursor_after d at (number_text x)
-  text-cursor d at r a ea e = e ∙ rw ea
-
-  pub text-written : (d : List ℕ) (at : ℕ) (e a : List ℕ) → a ≡ number_text x → e ≡ written d at a → e ≡ written d at (number_text x)
-  text-written d at e a ea q = q ∙ rw ea
-
 -- ---- equality
 module _ (x y : Number) where
-  pub other_length : (x.len ≡ y.len → ⊥) → false ≡ same_number x y
-  unfolding same_number
-  other_length n = simp (ne_eqb _ _ n)
-
-  pub same-part : (r : Bool) → x.len ≡ y.len → (a b : List ℕ) → a ≡ number_text x → b ≡ number_text y → r ≡ eq_list a b → r ≡ same_number x y
-  unfolding same_number
-  same-part r l a b ea eb e = e ∙ rw (ea, eb) (simp (eq-eqb _ _ l))
-
   pub same_text : same_number x y ≡ true → number_text x ≡ number_text y
   unfolding same_number
   same_text h = eq_list-true (number_text x) (number_text y) (and_right (eqb x.len y.len) (eq_list (number_text x) (number_text y)) h)

@@ -14,62 +14,35 @@ pub struct Number {
 }
 
 // Whether a number may have this byte.
+#[tactic(auto, unfolding(crate::specs::Number::number_byte))]
 fn is_number_byte(b: u8) -> bool
     ensures { result ≡ number_byte b }
 {
-    match b {
-        b'!'..=b'~' => true,
-        0xA8 => true,
-        0xB8 => true,
-        0xC0..=0xFF => true,
-        _ => false,
-    }
+    b.is_ascii_graphic() || b == 0xA8 || b == 0xB8 || 0xC0 <= b
 }
 
 // Passes the first bytes that are 21 to 7E, as those of most names all are: one range is told quicker than four.
 fn pass_visible(s: &[u8]) -> usize
     ensures { (result ≤ length s.now) × (every number_byte s.now ≡ every number_byte (drop result s.now)) }
 {
-    let mut i: usize = 0;
-    while i < s.len() {
-        let b = s[i];
-        if b < 33 {
-            return i;
-        }
-        if b'~' < b {
-            return i;
-        }
-        i += 1;
-    }
-    i
+    s.iter()
+        .position(|b| !b.is_ascii_graphic())
+        .unwrap_or(s.len())
 }
 
 // Whether each of the bytes is one that a number may have.
 fn all_number_bytes(s: &[u8]) -> bool
     ensures { result ≡ every number_byte s.now }
 {
-    let mut i = pass_visible(s);
-    while i < s.len() {
-        if is_number_byte(s[i]) {
-            i += 1;
-        } else {
-            return false;
-        }
-    }
-    true
+    s[pass_visible(s)..].iter().all(|b| is_number_byte(*b))
 }
 
 // Whether a text is a number.
+#[tactic(auto, unfolding(crate::specs::Number::is_number_text))]
 pub fn is_text(s: &[u8]) -> bool
     ensures { result ≡ is_number_text s.now }
 {
-    if s.len() == 0 {
-        return false;
-    }
-    if 30 < s.len() {
-        return false;
-    }
-    all_number_bytes(s)
+    (1..=30).contains(&s.len()) && all_number_bytes(s)
 }
 
 // The number of a text that is one.
@@ -77,8 +50,8 @@ pub fn number_of(s: &[u8]) -> Number
     requires { length s.now ≤ 30 }
     ensures { result ≡ number_of s.now }
 {
-    let mut bytes = [0u8; 30];
-    out::put_bytes(s, &mut bytes, 0);
+    let mut bytes = [0; 30];
+    bytes[..s.len()].copy_from_slice(s);
     Number {
         bytes,
         len: s.len(),
@@ -95,40 +68,29 @@ pub fn read_number(s: &[u8]) -> Option<Number>
 
 impl Number {
     // Whether a lent number is one.
+    #[tactic(auto, unfolding(crate::specs::Number::is_number))]
     pub fn is_valid(self) -> bool
         ensures { result ≡ is_number self }
     {
-        let n = self.len;
-        if n < 1 {
-            return false;
-        }
-        if 30 < n {
-            return false;
-        }
-        let a = self.bytes;
-        all_number_bytes(scan::first_bytes(&a, n))
+        (1..=30).contains(&self.len) && all_number_bytes(scan::first_bytes(&self.bytes, self.len))
     }
 
-    // Whether two numbers are equal: their lengths, and their bytes over the length.
+    // Whether two numbers are equal: their lengths, and their bytes over the length. Those behind it count for nothing, so that it is not the derived equality.
+    #[tactic(auto, unfolding(crate::specs::Number::same_number))]
     pub fn same(self, other: Number) -> bool
         ensures { result ≡ same_number self other }
     {
-        let n = self.len;
-        let m = other.len;
-        if n != m {
-            return false;
-        }
-        let a = self.bytes;
-        let b = other.bytes;
-        scan::same_bytes(scan::first_bytes(&a, n), scan::first_bytes(&b, m))
+        self.len == other.len
+            && scan::same_bytes(
+                scan::first_bytes(&self.bytes, self.len),
+                scan::first_bytes(&other.bytes, other.len),
+            )
     }
 
     // Writes a number at the cursor, where it has room.
     pub fn write(self, dst: &mut [u8], at: usize) -> usize
         ensures { (result ≡ cursor_after dst.old at (number_text self)) × (dst.new ≡ written dst.old at (number_text self)) }
     {
-        let n = self.len;
-        let a = self.bytes;
-        out::put_bytes(scan::first_bytes(&a, n), dst, at)
+        out::put_bytes(scan::first_bytes(&self.bytes, self.len), dst, at)
     }
 }

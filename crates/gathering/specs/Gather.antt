@@ -1,30 +1,27 @@
 -- The bytes of a line gathered from a part of the input: what one byte does to the numbers of a held line, and all of them up to the line's end. Cited by inner contracts only: it needs no belief.
-use Rattle.std.specs.Prelude.{ℕ, ◌+◌, List, Bool, true, false, cond, ◌&&◌, eqb, leb, ltb, length, take}
+use Rattle.std.specs.Prelude.{ℕ, ◌+◌, List, Bool, cond, ◌&&◌, eqb, leb, ltb, length, take, Option, Some, None}
 use Rattle.texts.specs.Lists.{find}
-use Rattle.gathering.specs.declared.Step.{Step}
+use Rattle.gathering.specs.declared.Mark.{Mark}
 use Rattle.gathering.specs.declared.Gathered.{Gathered as Given}
 use Rattle.gathering.specs.Held.{Held, held_of, absorb_all}
 
--- a byte that is held, with the spaces and the run after it, and one that is not
-abbrev pub taken : ℕ → ℕ → Step
-taken k n = record { keep = true; spaces = k; run = n }
-
-abbrev pub passed : ℕ → ℕ → Step
-passed k n = record { keep = false; spaces = k; run = n }
+-- a mark with one byte more, which is held, and the spaces and the run after it
+abbrev pub taken : Mark → ℕ → ℕ → Option Mark
+taken m k n = Some (record { len = m.len + 1; spaces = k; run = n })
 
 unfoldable pub asks_at : ℕ → ℕ → Bool
 asks_at first k = eqb first 82 && leb 2 k
 
--- the byte b behind `len` bytes, of which the first is `first`
-unfoldable pub step_of : ℕ → ℕ → ℕ → ℕ → ℕ → Step
-step_of first len k n b =
-    cond (ltb len 2177)
-    (cond (asks_at first k)
-    (cond (ltb n 2049) (taken k (n + 1)) (passed k n))
+-- the byte b behind the line that stands at m and begins with `first`; none where it is not held
+unfoldable pub step_of : ℕ → Mark → ℕ → Option Mark
+step_of first m b =
+    cond (ltb m.len 2177)
+    (cond (asks_at first m.spaces)
+    (cond (ltb m.run 2049) (taken m m.spaces (m.run + 1)) None)
     (cond (eqb b 32)
-    (cond (ltb k 4) (taken (k + 1) 0) (passed k n))
-    (cond (ltb n 31) (taken k (n + 1)) (passed k n))))
-    (passed k n)
+    (cond (ltb m.spaces 4) (taken m (m.spaces + 1) 0) None)
+    (cond (ltb m.run 31) (taken m m.spaces (m.run + 1)) None)))
+    None
 
 -- a held line, where the input is read on, and whether the line has ended
 pub record Gathered : Type 0 where

@@ -2,7 +2,9 @@
 // What is held of a line of the session's input, gathered from parts of any size.
 ghost use Rattle.std.specs.Prelude.{◌≡◌, drop, replicate};
 ghost use Rattle.gathering.specs.Held.{new_mark, held_of};
-ghost use Rattle.gathering.specs.Gather.{taken, asks_at, step_of, gathered, gathered_of};
+ghost use Rattle.gathering.specs.Gather.{asks_at, step_of, gathered, gathered_of};
+
+use texts::scan;
 
 // How many bytes of a field are held: one more than the longest form of any has.
 const FIELD_HELD: usize = 31;
@@ -24,15 +26,7 @@ pub struct Mark {
     pub run: usize,
 }
 
-// What one byte more does: whether it is held, and the spaces and the run after it.
-#[derive(Clone, Copy)]
-pub struct Step {
-    pub keep: bool,
-    pub spaces: usize,
-    pub run: usize,
-}
-
-// Where a held line stands, where the input is read on, and whether the line has ended.
+// Where a held line stands, where the input is read on, and whether the line has ended. The first two count in either case, so an Option would not be plainer.
 #[derive(Clone, Copy)]
 pub struct Gathered {
     pub mark: Mark,
@@ -41,85 +35,70 @@ pub struct Gathered {
 }
 
 // Whether the parameters of an R have begun.
+#[tactic(auto, unfolding(crate::specs::Gather::asks_at))]
 fn asks(first: u8, spaces: usize) -> bool
     ensures { result ≡ asks_at first spaces }
 {
-    if first != b'R' {
-        return false;
-    }
-    2 <= spaces
+    first == b'R' && 2 <= spaces
 }
 
-// A byte that is held.
-fn held_byte(spaces: usize, run: usize) -> Step
-    ensures { result ≡ taken spaces run }
+// Where a line that begins with `first` stands with the byte b more, or None where the byte is not held.
+#[tactic(auto, unfolding(crate::specs::Gather::step_of))]
+fn step_of(first: u8, m: Mark, b: u8) -> Option<Mark>
+    ensures { result ≡ step_of first m b }
 {
-    Step {
-        keep: true,
-        spaces,
-        run,
+    if LINE_HELD <= m.len {
+        return None;
     }
-}
-
-// What the byte b does to a line of `len` bytes that begins with `first`.
-fn step_of(first: u8, len: usize, spaces: usize, run: usize, b: u8) -> Step
-    ensures { result ≡ step_of first len spaces run b }
-{
-    let passed = Step {
-        keep: false,
-        spaces,
-        run,
-    };
-    if LINE_HELD <= len {
-        return passed;
-    }
-    if asks(first, spaces) {
-        if run < PARAMS_HELD {
-            return held_byte(spaces, run + 1);
+    let len = m.len + 1;
+    if asks(first, m.spaces) {
+        if m.run < PARAMS_HELD {
+            return Some(Mark {
+                len,
+                run: m.run + 1,
+                ..m
+            });
         }
-        return passed;
-    }
-    if b == b' ' {
-        if spaces < SPACES_HELD {
-            return held_byte(spaces + 1, 0);
+    } else if b == b' ' {
+        if m.spaces < SPACES_HELD {
+            return Some(Mark {
+                len,
+                spaces: m.spaces + 1,
+                run: 0,
+            });
         }
-        return passed;
+    } else if m.run < FIELD_HELD {
+        return Some(Mark {
+            len,
+            run: m.run + 1,
+            ..m
+        });
     }
-    if run < FIELD_HELD {
-        return held_byte(spaces, run + 1);
-    }
-    passed
+    None
 }
 
 // Takes the bytes of the input from `at` on up to the first 0A, which is passed over, or to its end.
 pub fn gather(bytes: &mut [u8; 2177], m: Mark, input: &[u8], at: usize) -> Gathered
     ensures { gathered_of result bytes.new ≡ gathered (held_of bytes.old m) (drop at input.now) at }
 {
-    let mut len = m.len;
-    let mut spaces = m.spaces;
-    let mut run = m.run;
-    let mut i = at;
-    while i < input.len() {
-        let b = input[i];
-        if b == b'\n' {
+    let mut mark = m;
+    let rest = scan::bytes_from(input, at);
+    for (i, b) in rest.iter().enumerate() {
+        if *b == b'\n' {
             return Gathered {
-                mark: Mark { len, spaces, run },
-                at: i + 1,
+                mark,
+                at: at + i + 1,
                 ended: true,
             };
         }
-        let s = step_of(bytes[0], len, spaces, run, b);
-        spaces = s.spaces;
-        run = s.run;
-        i += 1;
-        if s.keep {
-            bytes[len] = b;
-            len += 1;
+        if let Some(longer) = step_of(bytes[0], mark, *b) {
+            bytes[mark.len] = *b;
+            mark = longer;
         }
     }
     Gathered {
-        mark: Mark { len, spaces, run },
-        at: i,
+        mark,
+        at: at + rest.len(),
         ended: false,
     }
 }

@@ -52,14 +52,8 @@ fn agrees(a: Action, d: Details, r: Record) -> bool
     ensures { result ≡ agrees a d r }
 {
     match a {
-        Action::Check => true,
-        Action::Payment => {
-            let n = d.number;
-            let date = d.date;
-            payment::same_payment(n, d.kind, d.amount, date, r)
-        }
-        Action::Status => true,
-        Action::Cancel => true,
+        Action::Payment => payment::same_payment(d.number, d.kind, d.amount, d.date, r),
+        Action::Check | Action::Status | Action::Cancel => true,
     }
 }
 
@@ -67,15 +61,11 @@ fn agrees(a: Action, d: Details, r: Record) -> bool
 pub fn standing(q: Instruction, found: Option<usize>, r: Record) -> Standing
     ensures { result ≡ standing_of q found r }
 {
-    let Some(_) = found else {
-        return Standing::Unrecorded;
-    };
-    let a = q.action;
-    let d = q.details;
-    if !agrees(a, d, r) {
-        return Standing::Other;
-    }
-    if r.state == table::DONE {
+    if found.is_none() {
+        Standing::Unrecorded
+    } else if !agrees(q.action, q.details, r) {
+        Standing::Other
+    } else if r.state == table::DONE {
         Standing::Done
     } else {
         Standing::Cancelled
@@ -83,6 +73,7 @@ pub fn standing(q: Instruction, found: Option<usize>, r: Record) -> Standing
 }
 
 // The account that a request concerns, with its balance: a cancel's is its record's.
+#[tactic(auto, unfolding(crate::specs::Plan::account_of))]
 pub fn holding_of(
     accounts: AccountsView<'_>,
     head: Head,
@@ -92,25 +83,24 @@ pub fn holding_of(
     requires { head.count ≤ 256 }
     ensures { result ≡ holding_of (gate_of head (columns_seen accounts.entry)) (account_of (gate_of head (columns_seen accounts.entry)) q r) }
 {
-    let a = q.action;
-    if answer::is_cancel(a) {
-        let n = r.number;
-        return columns::look_up(accounts, head, n, r.kind);
+    if answer::is_cancel(q.action) {
+        columns::look_up(accounts, head, r.number, r.kind)
+    } else {
+        let d = q.details;
+        columns::look_up(accounts, head, d.number, d.kind)
     }
-    let d = q.details;
-    let n = d.number;
-    columns::look_up(accounts, head, n, d.kind)
 }
 
 // The date that a request concerns: a cancel's is its record's.
+#[tactic(auto, unfolding(crate::specs::Plan::date_of))]
 pub fn date_of(q: Instruction, r: Record) -> [u8; 19]
     ensures { result ≡ date_of q r }
 {
-    let a = q.action;
-    let d = q.details;
-    let own = d.date;
-    let recorded = r.date;
-    if answer::is_cancel(a) { recorded } else { own }
+    if answer::is_cancel(q.action) {
+        r.date
+    } else {
+        q.details.date
+    }
 }
 
 // Whether the balance of the account that was found is below an amount.
@@ -118,22 +108,17 @@ pub fn is_short(h: Holding, n: u64) -> bool
     requires { n < 1000000000 }
     ensures { (g : Gate) → h.balance ≡ balance_of g h.at → result ≡ is_short g h.at n }
 {
-    let account = h.at;
-    if lists::is_found(account) {
-        accounts::is_less(h.balance, n)
-    } else {
-        false
-    }
+    h.at.is_some() && accounts::is_less(h.balance, n)
 }
 
 // What else the decision looks at, at a gate of this closed day and so many records.
+#[tactic(auto, unfolding(crate::specs::Plan::view_of, crate::specs::Plan::is_full, crate::specs::Plan::date_closed))]
 pub fn view_of(closed: Day, used: usize, lent: usize, q: Instruction, r: Record, h: Holding) -> View
     requires { r.amount < 1000000000 }
     ensures { (g : Gate) → g.closed ≡ closed → g.used ≡ used → h.balance ≡ balance_of g h.at → result ≡ view_of g lent q r h.at }
 {
-    let account = h.at;
     View {
-        known: lists::is_found(account),
+        known: h.at.is_some(),
         full: lent <= used,
         closed: date::is_up_to(closed, date_of(q, r)),
         short: is_short(h, r.amount),
@@ -156,6 +141,7 @@ pub fn found_record(
 }
 
 // The decision for an instruction, with what it concerns, at a gate of this closed day and so many records; a fault of its request decides first.
+#[tactic(auto, unfolding(crate::specs::Plan::plan_with))]
 pub fn make_plan(
     closed: Day,
     used: usize,
@@ -170,13 +156,11 @@ pub fn make_plan(
     ensures { (g : Gate) → g.closed ≡ closed → g.used ≡ used → h ≡ holding_of g (account_of g q payment) → result ≡ plan_with g lent fault q found payment }
 {
     let v = view_of(closed, used, lent, q, payment, h);
-    let a = q.action;
-    let account = h.at;
-    let decided = decision::decide(fault, a, standing(q, found, payment), v);
+    let s = standing(q, found, payment);
     Plan {
-        decided,
+        decided: decision::decide(fault, q.action, s, v),
         found,
         payment,
-        account,
+        account: h.at,
     }
 }

@@ -1,6 +1,6 @@
 use Rattle.std.proofs.Common.{◌∙◌}
-use Rattle.dates.proofs.EmptyLaws.{equal-bytes}
+use Rattle.texts.proofs.ScanLaws.{pointwise-list}
 use Rattle.dates.proofs.date.same_date.Goals as goal
 
 pub returns : goal.returns
-returns c = c.eq.ensures ∙ equal-bytes _ _
+returns c = c.eq.ensures ∙ pointwise-list _ _
