@@ -19,6 +19,7 @@ use Rattle.book.specs.declared.Entry.{Entry}
 use Rattle.book.specs.Entries.{BookRows, no_entry, entry_at, entries_of, book_with, find_entry}
 use Rattle.book_validity.specs.BookValid.{book_good, ReadyBook}
 use Rattle.book.proofs.EntryLaws.{get_d-entries, book-set}
+use Rattle.book_validity.proofs.PassedLaws.{ready-is, place-in-use}
 use Rattle.asking.specs.Asking.{written_entry, request_of, forms_good, is_open, check_of}
 use Rattle.writing.specs.Writing.{Writing, write_at, write_request, write_check}
 
@@ -92,6 +93,6 @@ module _ (b : Book) (t : BookRows) (n : Number) (k amount : ℕ) (out : List ℕ
 
 pub ruleset write_entry_laws = (at-closed)
 
-pub ruleset write_for_laws = (not-book, no_room, no-forms, no-entry, one-entry)
+pub ruleset write_for_laws = (not-book, no_room, no-forms, no-entry, one-entry, ready-is, place-in-use)
 
 pub ruleset write_check_laws = (check-not-book, check-no-room, check-malformed, check-written)

@@ -1,11 +1,13 @@
 #![tactic(auto)]
 // The agent writes a request.
+ghost use Rattle.lists.specs.Rows.{SameLoan};
 ghost use Rattle.std.specs.Prelude.{◌≡◌, ◌<◌};
 ghost use Rattle.payments.specs.declared.Action.TheVariants.{Payment, Status, Cancel};
 ghost use Rattle.book_validity.specs.BookValid.{ReadyBook};
 ghost use Rattle.writing.specs.Writing.{writing_of, write_at, write_request, write_check};
-ghost use Rattle.book.specs.Lent.{lent_book};
+ghost use Rattle.book.specs.Lent.{entries_in, entries_seen};
 
+use book::rows::{Entries, EntriesView};
 use book::{Book, rows};
 use book_validity::{find, valid};
 use daybook::Writing;
@@ -19,42 +21,40 @@ const REQUEST_ROOM: usize = 512;
 // Writes the request of the entry at i.
 #[tactic(auto, using(crate::proofs::WritingLaws::write_entry_laws))]
 pub(crate) fn write_entry(
-    nums: &mut [[u64; 6]],
-    numbers: &mut [[u8; 30]],
-    dates: &mut [[u8; 19]],
+    entries: &mut Entries<'_>,
     b: Book,
     i: usize,
     a: Action,
     reason: u64,
     out: &mut [u8],
 ) -> Writing
-    requires { ReadyBook b (lent_book nums.old numbers.old dates.old) × (i < b.used) }
-    ensures { writing_of result (lent_book nums.new numbers.new dates.new) out.new ≡ write_at b (lent_book nums.old numbers.old dates.old) a reason out.old (Some i) }
+    requires { ReadyBook b (entries_in entries.old) × (i < b.used) }
+    ensures value { writing_of result (entries_in entries.new) out.new ≡ write_at b (entries_in entries.old) a reason out.old (Some i) }
+    ensures same_loan { SameLoan entries.old entries.new }
 {
-    let e = rows::load_entry(nums, numbers, dates, i);
+    let e = rows::load_entry(entries.view(), i);
     if !asking::is_open(b, a, e) {
         return Writing { code: 63, size: 0 };
     }
     let size = write::write_request(asking::request_of(a, e, reason), out, 0);
-    rows::store_entry(nums, numbers, dates, i, asking::written_entry(a, e));
+    rows::store_entry(entries, i, asking::written_entry(a, e));
     Writing { code: 0, size }
 }
 
 // A request of an entry, by its receipt. A fault is a number and no bytes: `roosteryore_write_payment` and the like give both to C.
 #[tactic(auto, using(crate::proofs::WritingLaws::write_for_laws))]
 pub(crate) fn write_for(
-    nums: &mut [[u64; 6]],
-    numbers: &mut [[u8; 30]],
-    dates: &mut [[u8; 19]],
+    entries: &mut Entries<'_>,
     b: Book,
     a: Action,
     receipt: u64,
     reason: u64,
     out: &mut [u8],
 ) -> Writing
-    ensures { writing_of result (lent_book nums.new numbers.new dates.new) out.new ≡ write_request b (lent_book nums.old numbers.old dates.old) a receipt reason out.old }
+    ensures value { writing_of result (entries_in entries.new) out.new ≡ write_request b (entries_in entries.old) a receipt reason out.old }
+    ensures same_loan { SameLoan entries.old entries.new }
 {
-    if !valid::book_good(nums, numbers, dates, b) {
+    if !valid::book_good(entries.view(), b) {
         return Writing { code: 68, size: 0 };
     }
     if out.len() < REQUEST_ROOM {
@@ -63,79 +63,55 @@ pub(crate) fn write_for(
     if !asking::forms_good(a, receipt, reason) {
         return Writing { code: 60, size: 0 };
     }
-    let Some(i) = find::find_entry(nums, numbers, dates, b, receipt) else {
+    let Some(i) = find::find_entry(entries.view(), b, receipt) else {
         return Writing { code: 62, size: 0 };
     };
-    write_entry(nums, numbers, dates, b, i, a, reason, out)
+    write_entry(entries, b, i, a, reason, out)
 }
 
 // Writes the payment of a receipt.
-pub fn write_payment(
-    nums: &mut [[u64; 6]],
-    numbers: &mut [[u8; 30]],
-    dates: &mut [[u8; 19]],
-    book: Book,
-    receipt: u64,
-    out: &mut [u8],
-) -> Writing
-    ensures { writing_of result (lent_book nums.new numbers.new dates.new) out.new ≡ write_request book (lent_book nums.old numbers.old dates.old) Payment receipt 0 out.old }
+pub fn write_payment(entries: &mut Entries<'_>, book: Book, receipt: u64, out: &mut [u8]) -> Writing
+    ensures value { writing_of result (entries_in entries.new) out.new ≡ write_request book (entries_in entries.old) Payment receipt 0 out.old }
+    ensures same_loan { SameLoan entries.old entries.new }
 {
-    write_for(nums, numbers, dates, book, Action::Payment, receipt, 0, out)
+    write_for(entries, book, Action::Payment, receipt, 0, out)
 }
 
 // Writes the status of a receipt.
-pub fn write_status(
-    nums: &mut [[u64; 6]],
-    numbers: &mut [[u8; 30]],
-    dates: &mut [[u8; 19]],
-    book: Book,
-    receipt: u64,
-    out: &mut [u8],
-) -> Writing
-    ensures { writing_of result (lent_book nums.new numbers.new dates.new) out.new ≡ write_request book (lent_book nums.old numbers.old dates.old) Status receipt 0 out.old }
+pub fn write_status(entries: &mut Entries<'_>, book: Book, receipt: u64, out: &mut [u8]) -> Writing
+    ensures value { writing_of result (entries_in entries.new) out.new ≡ write_request book (entries_in entries.old) Status receipt 0 out.old }
+    ensures same_loan { SameLoan entries.old entries.new }
 {
-    write_for(nums, numbers, dates, book, Action::Status, receipt, 0, out)
+    write_for(entries, book, Action::Status, receipt, 0, out)
 }
 
 // Writes the cancel of a receipt, for a reason; its entry is cancel-asked from then on.
 pub fn write_cancel(
-    nums: &mut [[u64; 6]],
-    numbers: &mut [[u8; 30]],
-    dates: &mut [[u8; 19]],
+    entries: &mut Entries<'_>,
     book: Book,
     receipt: u64,
     reason: u64,
     out: &mut [u8],
 ) -> Writing
-    ensures { writing_of result (lent_book nums.new numbers.new dates.new) out.new ≡ write_request book (lent_book nums.old numbers.old dates.old) Cancel receipt reason out.old }
+    ensures value { writing_of result (entries_in entries.new) out.new ≡ write_request book (entries_in entries.old) Cancel receipt reason out.old }
+    ensures same_loan { SameLoan entries.old entries.new }
 {
-    write_for(
-        nums,
-        numbers,
-        dates,
-        book,
-        Action::Cancel,
-        receipt,
-        reason,
-        out,
-    )
+    write_for(entries, book, Action::Cancel, receipt, reason, out)
 }
 
 // Writes a check of an account and an amount.
 #[tactic(auto, using(crate::proofs::WritingLaws::write_check_laws))]
 pub fn write_check(
-    nums: &[[u64; 6]],
-    numbers: &[[u8; 30]],
-    dates: &[[u8; 19]],
+    entries: EntriesView<'_>,
     book: Book,
     number: Number,
     kind: u64,
     kopecks: u64,
     out: &mut [u8],
 ) -> Writing
-    ensures { writing_of result (lent_book nums.now numbers.now dates.now) out.new ≡ write_check book (lent_book nums.now numbers.now dates.now) number kind kopecks out.old }
+    ensures { writing_of result (entries_seen entries.entry) out.new ≡ write_check book (entries_seen entries.entry) number kind kopecks out.old }
 {
-    if !valid::book_good(nums, numbers, dates, book) {
+    if !valid::book_good(entries, book) {
         return Writing { code: 68, size: 0 };
     }
     if out.len() < REQUEST_ROOM {
