@@ -1,7 +1,8 @@
 // What one line of a registry does to the table, and what is due on its account.
+ghost use Rattle.lists.specs.Rows.{SameLoan};
 ghost use Rattle.std.specs.Prelude.{◌≡◌, ◌<◌, ◌≤◌, length};
 ghost use Rattle.table.specs.Table.{record_at, rows_with, Whole, SameLengths};
-ghost use Rattle.table.specs.Lent.{lent};
+ghost use Rattle.table.specs.Lent.{rows_in};
 ghost use Rattle.directory.specs.Directory.{Keyed};
 ghost use Rattle.planning.specs.Plan.{Within};
 ghost use Rattle.posting.specs.Posting.{restored, posted_record};
@@ -11,6 +12,7 @@ use crate::verdict::Verdict;
 use ledger::change;
 use lines::line::Line;
 use payments::Details;
+use table::rows::Table;
 use table::{Gate, Record, rows};
 
 // The account that a line's amount is due on, and how many records the table has then.
@@ -56,34 +58,27 @@ fn posted_record(used: usize, clock: [u8; 19], x: Line) -> Record
 }
 
 // The record at i done again.
-fn restore(nums: &mut [[u64; 6]], numbers: &mut [[u8; 30]], dates: &mut [[[u8; 19]; 3]], i: usize)
-    requires { (i < length nums.old) × (i < length numbers.old) × (i < length dates.old) }
-    ensures { lent nums.new numbers.new dates.new ≡ rows_with (lent nums.old numbers.old dates.old) i (restored (record_at (lent nums.old numbers.old dates.old) i)) }
+fn restore(table: &mut Table<'_>, i: usize)
+    requires { (i < length table.old.nums.now) × (i < length table.old.numbers.now) × (i < length table.old.dates.now) }
+    ensures value { rows_in table.new ≡ rows_with (rows_in table.old) i (restored (record_at (rows_in table.old) i)) }
+    ensures same_loan { SameLoan table.old table.new }
 {
-    let r = rows::load(nums, numbers, dates, i);
-    rows::store(nums, numbers, dates, i, restore_record(r));
+    let r = rows::load(table.view(), i);
+    rows::store(table, i, restore_record(r));
 }
 
 // A record more.
-fn post(
-    nums: &mut [[u64; 6]],
-    numbers: &mut [[u8; 30]],
-    dates: &mut [[[u8; 19]; 3]],
-    used: usize,
-    clock: [u8; 19],
-    x: Line,
-)
-    requires { (used < length nums.old) × (used < length numbers.old) × (used < length dates.old) × (used < 4096) }
-    ensures { (g : Gate) → g.used ≡ used → lent nums.new numbers.new dates.new ≡ rows_with (lent nums.old numbers.old dates.old) used (posted_record g clock x) }
+fn post(table: &mut Table<'_>, used: usize, clock: [u8; 19], x: Line)
+    requires { (used < length table.old.nums.now) × (used < length table.old.numbers.now) × (used < length table.old.dates.now) × (used < 4096) }
+    ensures value { (g : Gate) → g.used ≡ used → rows_in table.new ≡ rows_with (rows_in table.old) used (posted_record g clock x) }
+    ensures same_loan { SameLoan table.old table.new }
 {
-    rows::store(nums, numbers, dates, used, posted_record(used, clock, x));
+    rows::store(table, used, posted_record(used, clock, x));
 }
 
 // Makes the change that a verdict says, but for the balance.
 pub fn apply(
-    nums: &mut [[u64; 6]],
-    numbers: &mut [[u8; 30]],
-    dates: &mut [[[u8; 19]; 3]],
+    table: &mut Table<'_>,
     used: usize,
     names: &[[u8; 30]],
     keys: &[[u64; 3]],
@@ -91,10 +86,11 @@ pub fn apply(
     x: Line,
     v: Verdict,
 ) -> Due
-    requires whole { Whole (lent nums.old numbers.old dates.old) used × SameLengths (lent nums.old numbers.old dates.old) × (length nums.old ≤ 4096) }
-    requires keyed { Keyed names.now keys.now × Placed v used (length nums.old) (length names.now) }
-    ensures applied { Applied names.now keys.now used (lent nums.old numbers.old dates.old) clock x v result (lent nums.new numbers.new dates.new) }
+    requires whole { Whole (rows_in table.old) used × SameLengths (rows_in table.old) × (length table.old.nums.now ≤ 4096) }
+    requires keyed { Keyed names.now keys.now × Placed v used (length table.old.nums.now) (length names.now) }
+    ensures applied { Applied names.now keys.now used (rows_in table.old) clock x v result (rows_in table.new) }
     ensures within { Within result.account (length names.now) }
+    ensures same_loan { SameLoan table.old table.new }
 {
     match v {
         Verdict::Keeps | Verdict::Unposted => Due {
@@ -102,14 +98,14 @@ pub fn apply(
             used,
         },
         Verdict::Restores(i) => {
-            restore(nums, numbers, dates, i);
+            restore(table, i);
             Due {
                 account: directory::find(names, keys, x.number, x.kind),
                 used,
             }
         }
         Verdict::Posts(a) => {
-            post(nums, numbers, dates, used, clock, x);
+            post(table, used, clock, x);
             Due {
                 account: Some(a),
                 used: used + 1,

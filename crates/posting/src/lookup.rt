@@ -3,11 +3,12 @@ ghost use Rattle.std.specs.Prelude.{◌≡◌, ℕ, ◌+◌, ◌<◌, ◌≤◌,
 ghost use Rattle.lists.specs.Lists.{first_from};
 ghost use Rattle.index.specs.Index.{slot_of, Chained};
 ghost use Rattle.table.specs.Table.{records_of};
-ghost use Rattle.table.specs.Lent.{lent};
+ghost use Rattle.table.specs.Lent.{rows_seen};
 ghost use Rattle.posting.specs.Lookup.{receipt_at, fits};
 
 use crate::matching;
 use lines::line::Line;
+use table::rows::TableView;
 use table::{Record, rows};
 
 // A record of the line's receipt, one that the line matches, or such a one that is done.
@@ -42,23 +43,21 @@ fn is_sought(w: Sought, x: Line, r: Record) -> bool
 
 // The first of the first `used` records that is what is sought for the line.
 pub fn find(
-    nums: &[[u64; 6]],
-    numbers: &[[u8; 30]],
-    dates: &[[[u8; 19]; 3]],
+    table: TableView<'_>,
     used: usize,
     heads: &[u16],
     next: &[u16],
     w: Sought,
     x: Line,
 ) -> Option<usize>
-    requires used_in_bounds { (used ≤ length nums.now) × (used ≤ length numbers.now) × (used ≤ length dates.now) }
-    requires chained { Chained (receipt_at nums.now) 0 used heads.now next.now }
-    ensures { result ≡ first_from (fits w x) 0 (records_of (lent nums.now numbers.now dates.now) used) }
+    requires used_in_bounds { (used ≤ length table.nums.now) × (used ≤ length table.numbers.now) × (used ≤ length table.dates.now) }
+    requires chained { Chained (receipt_at table.nums.now) 0 used heads.now next.now }
+    ensures { result ≡ first_from (fits w x) 0 (records_of (rows_seen table.entry) used) }
 {
     let mut at = index::first(heads, x.receipt);
     while 0 < at {
         let j = at - 1;
-        let r = rows::load(nums, numbers, dates, j);
+        let r = rows::load(table, j);
         if is_sought(w, x, r) {
             return Some(j);
         }

@@ -2,7 +2,7 @@
 ghost use Rattle.std.specs.Prelude.{◌≡◌, cond, length};
 ghost use Rattle.index.specs.Index.{Chained};
 ghost use Rattle.table.specs.Table.{records_of, Whole};
-ghost use Rattle.table.specs.Lent.{lent};
+ghost use Rattle.table.specs.Lent.{rows_seen};
 ghost use Rattle.table.specs.Daily.{is_done};
 ghost use Rattle.posting.specs.Posting.{post_verdict, verdict_of, Keeps, Restores};
 ghost use Rattle.posting.specs.Lookup.{receipt_at};
@@ -11,6 +11,7 @@ ghost use Rattle.directory.specs.Directory.{Keyed, Listed};
 use crate::lookup;
 use crate::lookup::Sought;
 use lines::line::Line;
+use table::rows::TableView;
 use table::{Gate, Record, rows};
 
 // The record that it matches is done, or at a place to be done again; it is posted to an account; or none of these.
@@ -45,9 +46,7 @@ fn judge_new(recorded: Option<usize>, account: Option<usize>, full: bool) -> Ver
 
 // The verdict on a line, by the first `used` records and the accounts; nothing is changed yet.
 pub fn judge(
-    nums: &[[u64; 6]],
-    numbers: &[[u8; 30]],
-    dates: &[[[u8; 19]; 3]],
+    table: TableView<'_>,
     used: usize,
     names: &[[u8; 30]],
     keys: &[[u64; 3]],
@@ -55,19 +54,19 @@ pub fn judge(
     heads: &[u16],
     next: &[u16],
 ) -> Verdict
-    requires whole { Whole (lent nums.now numbers.now dates.now) used × Keyed names.now keys.now }
-    requires chained { Chained (receipt_at nums.now) 0 used heads.now next.now }
+    requires whole { Whole (rows_seen table) used × Keyed names.now keys.now }
+    requires chained { Chained (receipt_at table.nums.now) 0 used heads.now next.now }
     ensures { (g : Gate) → Listed names.now keys.now g → g.used ≡ used
-        → result ≡ verdict_of g (records_of (lent nums.now numbers.now dates.now) g.used) (length nums.now) x }
+        → result ≡ verdict_of g (records_of (rows_seen table.entry) g.used) (length table.entry.nums.now) x }
 {
     let matched = Sought::Matched;
-    match lookup::find(nums, numbers, dates, used, heads, next, matched, x) {
-        Some(i) => judge_match(rows::load(nums, numbers, dates, i), i),
+    match lookup::find(table, used, heads, next, matched, x) {
+        Some(i) => judge_match(rows::load(table, i), i),
         None => {
             let same = Sought::SameReceipt;
-            let recorded = lookup::find(nums, numbers, dates, used, heads, next, same, x);
+            let recorded = lookup::find(table, used, heads, next, same, x);
             let account = directory::find(names, keys, x.number, x.kind);
-            judge_new(recorded, account, nums.len() <= used)
+            judge_new(recorded, account, table.nums.len() <= used)
         }
     }
 }

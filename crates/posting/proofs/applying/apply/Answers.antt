@@ -12,7 +12,7 @@ returns-in-Keeps-clause-applied c =
 
 pub returns-in-Restores-clause-applied : goal.returns-in-Restores-clause-applied
 returns-in-Restores-clause-applied c =
-    applied-restores _ _ _ _ c.requires.whole.0 _ _ _ _ _ _ c.in-Restores.is (c.requires.keyed.1.restores _ c.in-Restores.is) c.restore.ensures _ c.find.ensures refl
+    applied-restores _ _ _ _ c.requires.whole.0 _ _ _ _ _ _ c.in-Restores.is (c.requires.keyed.1.restores _ c.in-Restores.is) c.restore.ensures.value _ c.find.ensures refl
     refl
 
 pub returns-in-Restores-clause-within : goal.returns-in-Restores-clause-within
@@ -20,4 +20,4 @@ returns-in-Restores-clause-within c = found_within _ _ _ _ _ c.find.ensures
 
 pub returns-in-Posts-clause-applied : goal.returns-in-Posts-clause-applied
 returns-in-Posts-clause-applied c =
-    applied-posts _ _ _ _ c.requires.whole.0 _ _ _ _ _ _ c.in-Posts.is (c.requires.keyed.1.room _ c.in-Posts.is) c.requires.whole.1 c.post.ensures refl refl
+    applied-posts _ _ _ _ c.requires.whole.0 _ _ _ _ _ _ c.in-Posts.is (c.requires.keyed.1.room _ c.in-Posts.is) c.requires.whole.1 c.post.ensures.value refl refl
