@@ -3,30 +3,23 @@ ghost use Rattle.std.specs.Prelude.{◌≡◌, cond, ◌≤◌, length};
 ghost use Rattle.texts.specs.Lists.{over};
 ghost use Rattle.index.specs.Index.{Chained};
 ghost use Rattle.table.specs.Table.{records_of};
-ghost use Rattle.table.specs.Lent.{lent};
+ghost use Rattle.table.specs.Lent.{rows_seen};
 ghost use Rattle.posting.specs.Lookup.{receipt_at};
 ghost use Rattle.clearing.specs.Clearing.{any_done, report_of};
 
 use lines::line::Line;
 use posting::lookup;
 use posting::lookup::Sought;
+use table::rows::TableView;
 
 // Whether the line matches a done record.
-fn any_done(
-    nums: &[[u64; 6]],
-    numbers: &[[u8; 30]],
-    dates: &[[[u8; 19]; 3]],
-    used: usize,
-    heads: &[u16],
-    next: &[u16],
-    x: Line,
-) -> bool
-    requires used_in_bounds { (used ≤ length nums.now) × (used ≤ length numbers.now) × (used ≤ length dates.now) }
-    requires chained { Chained (receipt_at nums.now) 0 used heads.now next.now }
-    ensures { result ≡ any_done x (records_of (lent nums.now numbers.now dates.now) used) }
+fn any_done(table: TableView<'_>, used: usize, heads: &[u16], next: &[u16], x: Line) -> bool
+    requires used_in_bounds { (used ≤ length table.nums.now) × (used ≤ length table.numbers.now) × (used ≤ length table.dates.now) }
+    requires chained { Chained (receipt_at table.nums.now) 0 used heads.now next.now }
+    ensures { result ≡ any_done x (records_of (rows_seen table.entry) used) }
 {
     let done = Sought::MatchedDone;
-    lookup::find(nums, numbers, dates, used, heads, next, done, x).is_some()
+    lookup::find(table, used, heads, next, done, x).is_some()
 }
 
 // The byte of a line.
@@ -38,20 +31,18 @@ fn mark(done: bool) -> u8
 
 // Writes the report of the lines.
 pub fn write_report(
-    nums: &[[u64; 6]],
-    numbers: &[[u8; 30]],
-    dates: &[[[u8; 19]; 3]],
+    table: TableView<'_>,
     used: usize,
     heads: &[u16],
     next: &[u16],
     lines: &[Line],
     out: &mut [u8],
 )
-    requires used_in_bounds { (used ≤ length nums.now) × (used ≤ length numbers.now) × (used ≤ length dates.now) × (length lines.now ≤ length out.old) }
-    requires chained { Chained (receipt_at nums.now) 0 used heads.now next.now }
-    ensures { out.new ≡ over out.old 0 (report_of lines.now (records_of (lent nums.now numbers.now dates.now) used)) }
+    requires used_in_bounds { (used ≤ length table.nums.now) × (used ≤ length table.numbers.now) × (used ≤ length table.dates.now) × (length lines.now ≤ length out.old) }
+    requires chained { Chained (receipt_at table.nums.now) 0 used heads.now next.now }
+    ensures { out.new ≡ over out.old 0 (report_of lines.now (records_of (rows_seen table.entry) used)) }
 {
     for (i, x) in lines.iter().enumerate() {
-        out[i] = mark(any_done(nums, numbers, dates, used, heads, next, *x));
+        out[i] = mark(any_done(table, used, heads, next, *x));
     }
 }

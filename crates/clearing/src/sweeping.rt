@@ -1,8 +1,9 @@
 // The sweep: what is done on the day and stands in no line is cancelled.
+ghost use Rattle.lists.specs.Rows.{SameLoan};
 ghost use Rattle.std.specs.Prelude.{◌≡◌, ℕ, ◌<◌, ◌≤◌, length, get_or};
 ghost use Rattle.index.specs.Index.{Chained};
 ghost use Rattle.table.specs.Table.{rows_with};
-ghost use Rattle.table.specs.Lent.{lent};
+ghost use Rattle.table.specs.Lent.{rows_in};
 ghost use Rattle.table.specs.Accounts.{find_account};
 ghost use Rattle.directory.specs.Directory.{holders_of, Keyed, Listed};
 ghost use Rattle.ledger.specs.Change.{revoked};
@@ -16,6 +17,7 @@ use days::calendar::Day;
 use ledger::change;
 use lines::line::Line;
 use posting::matching;
+use table::rows::Table;
 use table::{Gate, Record, accounts, daily, rows};
 
 // Chains the lines by their receipts, from the last.
@@ -56,20 +58,19 @@ fn is_stray(r: Record, day: Day, lines: &[Line], heads: &[u16], next: &[u16]) ->
 
 // Cancels the record r at i; its account, where it is known.
 fn revoke_at(
-    nums: &mut [[u64; 6]],
-    numbers: &mut [[u8; 30]],
-    dates: &mut [[[u8; 19]; 3]],
+    table: &mut Table<'_>,
     clock: [u8; 19],
     r: Record,
     i: usize,
     names: &[[u8; 30]],
     keys: &[[u64; 3]],
 ) -> Option<usize>
-    requires { (i < length nums.old) × (i < length numbers.old) × (i < length dates.old) × Keyed names.now keys.now }
-    ensures dates_value { lent nums.new numbers.new dates.new ≡ rows_with (lent nums.old numbers.old dates.old) i (revoked clock r) }
+    requires { (i < length table.old.nums.now) × (i < length table.old.numbers.now) × (i < length table.old.dates.now) × Keyed names.now keys.now }
+    ensures dates_value { rows_in table.new ≡ rows_with (rows_in table.old) i (revoked clock r) }
     ensures value { result ≡ find_account r.number r.kind (holders_of names.now keys.now) }
+    ensures same_loan { SameLoan table.old table.new }
 {
-    rows::store(nums, numbers, dates, i, change::revoke_record(clock, r));
+    rows::store(table, i, change::revoke_record(clock, r));
     directory::find(names, keys, r.number, r.kind)
 }
 
@@ -77,9 +78,7 @@ fn revoke_at(
 // Not put into its caller: its copies of the gate and those of the other walk over the day lie in the stack one or the other.
 #[inline(never)]
 pub fn sweep(
-    nums: &mut [[u64; 6]],
-    numbers: &mut [[u8; 30]],
-    dates: &mut [[[u8; 19]; 3]],
+    table: &mut Table<'_>,
     g: Gate,
     clock: [u8; 19],
     day: Day,
@@ -89,23 +88,24 @@ pub fn sweep(
     heads: &[u16],
     next: &[u16],
 ) -> Gate
-    requires held { Held g (lent nums.old numbers.old dates.old) 11000000000000 × Read lines.now }
+    requires held { Held g (rows_in table.old) 11000000000000 × Read lines.now }
     requires listed { Listed names.now keys.now g }
     requires chained { Chained (receipt_in lines.now) 0 (length lines.now) heads.now next.now }
-    ensures left { Left (lent nums.old numbers.old dates.old)
-        (swept clock day lines.now (ledger_of g (lent nums.old numbers.old dates.old)))
-        result (lent nums.new numbers.new dates.new) }
-    ensures held_2 { Held result (lent nums.new numbers.new dates.new) 16000000000000 }
-    ensures fact { ◌≡◌ {A = Ledger} (swept clock day lines.now (ledger_of g (lent nums.old numbers.old dates.old)))
-        (ledger_of result (lent nums.new numbers.new dates.new)) }
+    ensures left { Left (rows_in table.old)
+        (swept clock day lines.now (ledger_of g (rows_in table.old)))
+        result (rows_in table.new) }
+    ensures held_2 { Held result (rows_in table.new) 16000000000000 }
+    ensures fact { ◌≡◌ {A = Ledger} (swept clock day lines.now (ledger_of g (rows_in table.old)))
+        (ledger_of result (rows_in table.new)) }
+    ensures same_loan { SameLoan table.old table.new }
 {
     let mut gate = g;
     for i in 0..g.used {
-        let r = rows::load(nums, numbers, dates, i);
+        let r = rows::load(table.view(), i);
         if !is_stray(r, day, lines, heads, next) {
             continue;
         }
-        let Some(at) = revoke_at(nums, numbers, dates, clock, r, i, names, keys) else {
+        let Some(at) = revoke_at(table, clock, r, i, names, keys) else {
             continue;
         };
         let a = &mut gate.accounts[at];

@@ -1,7 +1,7 @@
 // What one line of a registry does to the table, and what is due on its account.
 ghost use Rattle.lists.specs.Rows.{SameLoan};
 ghost use Rattle.std.specs.Prelude.{◌≡◌, ◌<◌, ◌≤◌, length};
-ghost use Rattle.table.specs.Table.{record_at, rows_with, Whole, SameLengths};
+ghost use Rattle.table.specs.Table.{record_at, rows_with, Whole, SameLengths, SameSizes};
 ghost use Rattle.table.specs.Lent.{rows_in};
 ghost use Rattle.directory.specs.Directory.{Keyed};
 ghost use Rattle.planning.specs.Plan.{Within};
@@ -71,6 +71,7 @@ fn restore(table: &mut Table<'_>, i: usize)
 fn post(table: &mut Table<'_>, used: usize, clock: [u8; 19], x: Line)
     requires { (used < length table.old.nums.now) × (used < length table.old.numbers.now) × (used < length table.old.dates.now) × (used < 4096) }
     ensures value { (g : Gate) → g.used ≡ used → rows_in table.new ≡ rows_with (rows_in table.old) used (posted_record g clock x) }
+    ensures sizes { SameSizes (rows_in table.old) (rows_in table.new) }
     ensures same_loan { SameLoan table.old table.new }
 {
     rows::store(table, used, posted_record(used, clock, x));
@@ -90,6 +91,7 @@ pub fn apply(
     requires keyed { Keyed names.now keys.now × Placed v used (length table.old.nums.now) (length names.now) }
     ensures applied { Applied names.now keys.now used (rows_in table.old) clock x v result (rows_in table.new) }
     ensures within { Within result.account (length names.now) }
+    ensures sizes { SameSizes (rows_in table.old) (rows_in table.new) }
     ensures same_loan { SameLoan table.old table.new }
 {
     match v {

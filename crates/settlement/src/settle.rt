@@ -1,13 +1,15 @@
 // A registry delivered to the gate.
+ghost use Rattle.lists.specs.Rows.{SameLoan};
 ghost use Rattle.std.specs.Prelude.{not, ◌&&◌, ◌≡◌, ◌≤◌, length};
 ghost use Rattle.days.specs.Calendar.{is_day, day_before};
-ghost use Rattle.table.specs.Lent.{lent};
+ghost use Rattle.table.specs.Lent.{rows_in};
 ghost use Rattle.settlement.specs.Settle.{settle_read, settle};
 ghost use Rattle.settlement.specs.SettleText.{settle_text};
 ghost use Rattle.admission.specs.Delivery.{delivery_of};
 ghost use Rattle.posting.specs.Steps.{Held};
 ghost use Rattle.line_rows.specs.Lines.{Read};
 
+use table::rows::Table;
 use days::calendar::Day;
 use ledger::Reply;
 use line_rows::reading;
@@ -24,26 +26,25 @@ fn is_past(closed: Day, day: Day) -> bool
 // The lines of a registry without a fault: the day after the closed one is settled, one up to it only reported.
 #[tactic(auto, unfolding(crate::specs::Settle::settle_read))]
 pub(crate) fn settle_read(
-    nums: &mut [[u64; 6]],
-    numbers: &mut [[u8; 30]],
-    dates: &mut [[[u8; 19]; 3]],
+    table: &mut Table<'_>,
     g: Gate,
     clock: [u8; 19],
     day: Day,
     lines: &[Line],
     out: &mut [u8],
 ) -> Reply
-    requires held { Held g (lent nums.old numbers.old dates.old) 10000000000000 }
+    requires held { Held g (rows_in table.old) 10000000000000 }
     requires read { Read lines.now × (512 ≤ length out.old) }
-    ensures { delivery_of result (lent nums.new numbers.new dates.new) out.new
-        ≡ settle_read g (lent nums.old numbers.old dates.old) clock day lines.now out.old }
+    ensures value { delivery_of result (rows_in table.new) out.new
+        ≡ settle_read g (rows_in table.old) clock day lines.now out.old }
+    ensures same_loan { SameLoan table.old table.new }
 {
     let closed = g.closed;
     if day.follows(closed) {
-        return closing::settle_day(nums, numbers, dates, g, clock, day, lines, out);
+        return closing::settle_day(table, g, clock, day, lines, out);
     }
     if is_past(closed, day) {
-        return closing::report_day(nums, numbers, dates, g, lines, out);
+        return closing::report_day(table, g, lines, out);
     }
     Reply {
         code: 55,
@@ -54,22 +55,21 @@ pub(crate) fn settle_read(
 
 // Settles by the lines of a text, read once; a fault keeps all.
 pub(crate) fn settle_text(
-    nums: &mut [[u64; 6]],
-    numbers: &mut [[u8; 30]],
-    dates: &mut [[[u8; 19]; 3]],
+    table: &mut Table<'_>,
     g: Gate,
     clock: [u8; 19],
     day: Day,
     s: &[u8],
     out: &mut [u8],
 ) -> Reply
-    requires { Held g (lent nums.old numbers.old dates.old) 10000000000000 × (512 ≤ length out.old) }
-    ensures { delivery_of result (lent nums.new numbers.new dates.new) out.new
-        ≡ settle_text g (lent nums.old numbers.old dates.old) clock day s.now out.old }
+    requires { Held g (rows_in table.old) 10000000000000 × (512 ≤ length out.old) }
+    ensures value { delivery_of result (rows_in table.new) out.new
+        ≡ settle_text g (rows_in table.old) clock day s.now out.old }
+    ensures same_loan { SameLoan table.old table.new }
 {
     let mut lines = reading::no_lines();
     match reading::read_registry(day, s, &mut lines) {
-        Ok(n) => settle_read(nums, numbers, dates, g, clock, day, &lines[..n], out),
+        Ok(n) => settle_read(table, g, clock, day, &lines[..n], out),
         Err(fault) => Reply {
             code: u64::from(fault),
             gate: g,
@@ -80,18 +80,17 @@ pub(crate) fn settle_text(
 
 // Settles a day by its registry, or only reports it; a fault keeps all.
 pub fn settle(
-    nums: &mut [[u64; 6]],
-    numbers: &mut [[u8; 30]],
-    dates: &mut [[[u8; 19]; 3]],
+    table: &mut Table<'_>,
     gate: Gate,
     clock: [u8; 19],
     day: Day,
     bytes: &[u8],
     out: &mut [u8],
 ) -> Reply
-    ensures { delivery_of result (lent nums.new numbers.new dates.new) out.new ≡ settle gate (lent nums.old numbers.old dates.old) clock day bytes.now out.old }
+    ensures value { delivery_of result (rows_in table.new) out.new ≡ settle gate (rows_in table.old) clock day bytes.now out.old }
+    ensures same_loan { SameLoan table.old table.new }
 {
-    let refusal = admission::admit_gate(nums, numbers, dates, gate, clock, out.len());
+    let refusal = admission::admit_gate(table.view(), gate, clock, out.len());
     if refusal != 0 {
         return Reply {
             code: refusal,
@@ -99,5 +98,5 @@ pub fn settle(
             size: 0,
         };
     }
-    settle_text(nums, numbers, dates, gate, clock, day, bytes, out)
+    settle_text(table, gate, clock, day, bytes, out)
 }

@@ -69,6 +69,12 @@ rows_with t i r =
       dates = set t.dates i (dates_of r);
     }
 
+-- rows of the lengths of others
+pub record SameSizes (t t' : Rows) : Type 0 where
+  pub nums : length t'.nums ≡ length t.nums
+  pub numbers : length t'.numbers ≡ length t.numbers
+  pub dates : length t'.dates ≡ length t.dates
+
 -- the first n records
 unfoldable pub records_of : Rows → ℕ → List Record
 records_of t n = tab n (record_at t)
