@@ -13,7 +13,6 @@ ghost use Rattle.posting.specs.Lookup.{receipt_at};
 ghost use Rattle.posting.specs.Steps.{Held};
 ghost use Rattle.line_rows.specs.Lines.{Read};
 
-use table::rows::{Table, TableView};
 use clearing::{each_line, report, sweeping};
 use days::calendar::Day;
 use ledger::Reply;
@@ -21,6 +20,7 @@ use lines::line::Line;
 use posting::lookup;
 use registry::text;
 use table::Gate;
+use table::rows::{Table, TableView};
 
 // Settles the lines and sweeps the day, with the table's receipts in chains. The accounts are listed once, for only their balances move; so are the lines chained.
 fn clear_day(
@@ -49,16 +49,7 @@ fn clear_day(
     let mut firsts = index::no_heads();
     let mut afters = [0u16; text::LINES_MOST];
     sweeping::link_lines(lines, &mut firsts, &mut afters);
-    let a = each_line::settle_lines(
-        table,
-        g,
-        clock,
-        lines,
-        &names[..n],
-        &keys[..n],
-        heads,
-        next,
-    );
+    let a = each_line::settle_lines(table, g, clock, lines, &names[..n], &keys[..n], heads, next);
     sweeping::sweep(
         table,
         a,
@@ -89,11 +80,9 @@ pub fn settle_day(
 {
     let mut heads = index::no_heads();
     let mut next = index::no_links();
-    lookup::link_records(nums, g.used, &mut heads, &mut next);
-    let b = clear_day(
-        table, g, clock, day, lines, &mut heads, &mut next,
-    );
-    report::write_report(table, b.used, &heads, &next, lines, out);
+    lookup::link_records(table.view().nums, g.used, &mut heads, &mut next);
+    let b = clear_day(table, g, clock, day, lines, &mut heads, &mut next);
+    report::write_report(table.view(), b.used, &heads, &next, lines, out);
     let mut gate = b;
     gate.closed = day;
     Reply {
@@ -104,12 +93,7 @@ pub fn settle_day(
 }
 
 // Writes the report of a day that was closed before; nothing is settled.
-pub fn report_day(
-    table: TableView<'_>,
-    g: Gate,
-    lines: &[Line],
-    out: &mut [u8],
-) -> Reply
+pub fn report_day(table: TableView<'_>, g: Gate, lines: &[Line], out: &mut [u8]) -> Reply
     requires held { Held g (rows_seen table) 10000000000000 }
     requires read { Read lines.now × (512 ≤ length out.old) }
     ensures { delivery_of result (rows_seen table.entry) out.new
@@ -118,7 +102,7 @@ pub fn report_day(
     let used = g.used;
     let mut heads = index::no_heads();
     let mut next = index::no_links();
-    lookup::link_records(nums, used, &mut heads, &mut next);
+    lookup::link_records(table.nums, used, &mut heads, &mut next);
     report::write_report(table, used, &heads, &next, lines, out);
     Reply {
         code: 0,

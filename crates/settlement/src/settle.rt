@@ -9,12 +9,12 @@ ghost use Rattle.admission.specs.Delivery.{delivery_of};
 ghost use Rattle.posting.specs.Steps.{Held};
 ghost use Rattle.line_rows.specs.Lines.{Read};
 
-use table::rows::Table;
 use days::calendar::Day;
 use ledger::Reply;
 use line_rows::reading;
 use lines::line::Line;
 use table::Gate;
+use table::rows::Table;
 
 // Whether the day is a date up to the closed one.
 fn is_past(closed: Day, day: Day) -> bool
@@ -44,7 +44,7 @@ pub(crate) fn settle_read(
         return closing::settle_day(table, g, clock, day, lines, out);
     }
     if is_past(closed, day) {
-        return closing::report_day(table, g, lines, out);
+        return closing::report_day(table.view(), g, lines, out);
     }
     Reply {
         code: 55,
