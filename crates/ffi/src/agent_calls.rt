@@ -16,6 +16,7 @@ use daybook::freezing::Freezing;
 use daybook::{Writing, freezing};
 use days::calendar::Day;
 use fields::number::Number;
+use lists::rows::{Rows, RowsView};
 use payments::Action;
 use reporting::taking;
 use reporting::taking::Reporting;
@@ -34,8 +35,13 @@ pub extern "C" fn roosteryore_accept(
 ) -> Acceptance
     ensures { acceptance_of result (lent_book nums.new numbers.new dates.new) ≡ accept book (lent_book nums.old numbers.old dates.old) number kind kopecks date.now }
 {
+    let mut entries = Rows {
+        nums,
+        numbers,
+        dates,
+    };
     let written = *date;
-    accepting::accept(nums, numbers, dates, book, number, kind, kopecks, written)
+    accepting::accept(&mut entries, book, number, kind, kopecks, written)
 }
 
 // Freezes the next day.
@@ -49,7 +55,12 @@ pub extern "C" fn roosteryore_freeze(
 ) -> Freezing
     ensures { result ≡ freeze book (lent_book nums.now numbers.now dates.now) day }
 {
-    freezing::freeze(nums, numbers, dates, book, day)
+    let entries = RowsView {
+        nums,
+        numbers,
+        dates,
+    };
+    freezing::freeze(entries, book, day)
 }
 
 // Writes the registry of a frozen day.
@@ -64,7 +75,12 @@ pub extern "C" fn roosteryore_write_registry(
 ) -> Writing
     ensures { listing_of result out.new ≡ write_registry book (lent_book nums.now numbers.now dates.now) day out.old }
 {
-    listing::write_registry(nums, numbers, dates, book, day, out)
+    let entries = RowsView {
+        nums,
+        numbers,
+        dates,
+    };
+    listing::write_registry(entries, book, day, out)
 }
 
 // Writes a check of an account and an amount.
@@ -81,7 +97,12 @@ pub extern "C" fn roosteryore_write_check(
 ) -> Writing
     ensures { writing_of result (lent_book nums.now numbers.now dates.now) out.new ≡ write_check book (lent_book nums.now numbers.now dates.now) number kind kopecks out.old }
 {
-    writing::write_check(nums, numbers, dates, book, number, kind, kopecks, out)
+    let entries = RowsView {
+        nums,
+        numbers,
+        dates,
+    };
+    writing::write_check(entries, book, number, kind, kopecks, out)
 }
 
 // Writes the payment of a receipt.
@@ -96,7 +117,12 @@ pub extern "C" fn roosteryore_write_payment(
 ) -> Writing
     ensures { writing_of result (lent_book nums.new numbers.new dates.new) out.new ≡ write_request book (lent_book nums.old numbers.old dates.old) Payment receipt 0 out.old }
 {
-    writing::write_payment(nums, numbers, dates, book, receipt, out)
+    let mut entries = Rows {
+        nums,
+        numbers,
+        dates,
+    };
+    writing::write_payment(&mut entries, book, receipt, out)
 }
 
 // Writes the status of a receipt.
@@ -111,7 +137,12 @@ pub extern "C" fn roosteryore_write_status(
 ) -> Writing
     ensures { writing_of result (lent_book nums.new numbers.new dates.new) out.new ≡ write_request book (lent_book nums.old numbers.old dates.old) Status receipt 0 out.old }
 {
-    writing::write_status(nums, numbers, dates, book, receipt, out)
+    let mut entries = Rows {
+        nums,
+        numbers,
+        dates,
+    };
+    writing::write_status(&mut entries, book, receipt, out)
 }
 
 // Writes the cancel of a receipt, for a reason; its entry is cancel-asked from then on.
@@ -127,7 +158,12 @@ pub extern "C" fn roosteryore_write_cancel(
 ) -> Writing
     ensures { writing_of result (lent_book nums.new numbers.new dates.new) out.new ≡ write_request book (lent_book nums.old numbers.old dates.old) Cancel receipt reason out.old }
 {
-    writing::write_cancel(nums, numbers, dates, book, receipt, reason, out)
+    let mut entries = Rows {
+        nums,
+        numbers,
+        dates,
+    };
+    writing::write_cancel(&mut entries, book, receipt, reason, out)
 }
 
 // Takes the answer to a check; it has no receipt.
@@ -141,7 +177,12 @@ pub extern "C" fn roosteryore_take_check_answer(
 ) -> u64
     ensures { taking_of result (lent_book nums.new numbers.new dates.new) ≡ take_answer book (lent_book nums.old numbers.old dates.old) Check 0 text.now }
 {
-    answering::take_answer(nums, numbers, dates, book, Action::Check, 0, text)
+    let mut entries = Rows {
+        nums,
+        numbers,
+        dates,
+    };
+    answering::take_answer(&mut entries, book, Action::Check, 0, text)
 }
 
 // Takes the answer to a payment.
@@ -156,7 +197,12 @@ pub extern "C" fn roosteryore_take_payment_answer(
 ) -> u64
     ensures { taking_of result (lent_book nums.new numbers.new dates.new) ≡ take_answer book (lent_book nums.old numbers.old dates.old) Payment receipt text.now }
 {
-    answering::take_answer(nums, numbers, dates, book, Action::Payment, receipt, text)
+    let mut entries = Rows {
+        nums,
+        numbers,
+        dates,
+    };
+    answering::take_answer(&mut entries, book, Action::Payment, receipt, text)
 }
 
 // Takes the answer to a status.
@@ -171,7 +217,12 @@ pub extern "C" fn roosteryore_take_status_answer(
 ) -> u64
     ensures { taking_of result (lent_book nums.new numbers.new dates.new) ≡ take_answer book (lent_book nums.old numbers.old dates.old) Status receipt text.now }
 {
-    answering::take_answer(nums, numbers, dates, book, Action::Status, receipt, text)
+    let mut entries = Rows {
+        nums,
+        numbers,
+        dates,
+    };
+    answering::take_answer(&mut entries, book, Action::Status, receipt, text)
 }
 
 // Takes the answer to a cancel.
@@ -186,7 +237,12 @@ pub extern "C" fn roosteryore_take_cancel_answer(
 ) -> u64
     ensures { taking_of result (lent_book nums.new numbers.new dates.new) ≡ take_answer book (lent_book nums.old numbers.old dates.old) Cancel receipt text.now }
 {
-    answering::take_answer(nums, numbers, dates, book, Action::Cancel, receipt, text)
+    let mut entries = Rows {
+        nums,
+        numbers,
+        dates,
+    };
+    answering::take_answer(&mut entries, book, Action::Cancel, receipt, text)
 }
 
 // Takes the report of a frozen day.
@@ -201,5 +257,10 @@ pub extern "C" fn roosteryore_take_report(
 ) -> Reporting
     ensures { reporting_of result (lent_book nums.new numbers.new dates.new) ≡ take_report book (lent_book nums.old numbers.old dates.old) day marks.now }
 {
-    taking::take_report(nums, numbers, dates, book, day, marks)
+    let mut entries = Rows {
+        nums,
+        numbers,
+        dates,
+    };
+    taking::take_report(&mut entries, book, day, marks)
 }

@@ -1,13 +1,14 @@
-use Rattle.std.proofs.Common.{ap, not}
+use Rattle.std.proofs.Common.{ap, not, sym, ◌∙◌}
+use Rattle.book.proofs.RowsLaws.{entries-viewed}
+use Rattle.book_validity.specs.BookValid.{book_good}
 use Rattle.book_validity.proofs.PassedLaws.{dated-is}
-use Rattle.reporting.proofs.TakingLaws.{marks-enough}
 use Rattle.reporting.proofs.taking.take_report.Goals as goal
 
 pub count_listed-n-requires-clause-dated : goal.count_listed-n-requires-clause-dated
-count_listed-n-requires-clause-dated c = dated-is _ _ _ c.book_good.ensures.value (ap not c.if-not-book_good.false)
+count_listed-n-requires-clause-dated c =
+    let same = entries-viewed _ _ c.view.ensures ∙ sym (entries-viewed _ _ c.view-2.ensures) in
+    dated-is _ _ _ (c.book_good.ensures.value ∙ ap (book_good c.args.book) same) (ap not c.if-not-book_good.false)
 
 pub mark_entries-requires-clause-dated : goal.mark_entries-requires-clause-dated
-mark_entries-requires-clause-dated c = dated-is _ _ _ c.book_good.ensures.value (ap not c.if-not-book_good.false)
-
-pub mark_entries-requires-clause-s_len : goal.mark_entries-requires-clause-s_len
-mark_entries-requires-clause-s_len c = marks-enough _ _ _ _ _ c.count_listed-n.ensures _ c.is_report.ensures c.if-not-is_report.false
+mark_entries-requires-clause-dated c =
+    dated-is _ _ _ (c.book_good.ensures.value ∙ ap (book_good c.args.book) (entries-viewed _ _ c.view.ensures)) (ap not c.if-not-book_good.false)
