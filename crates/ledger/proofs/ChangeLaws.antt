@@ -32,7 +32,7 @@ use Rattle.ledger.specs.Change.{make_record, revoked, credited_at, debited_at, r
 use Rattle.planning.proofs.PlanLaws.{found_within, found-amount, account-within}
 use Rattle.rules.proofs.DecisionLaws.{append-of}
 
--- ---- a balance as it is passed, a sum and a difference as they are returned
+-- ---- a balance as it is passed, a difference as it is returned
 module _ (b : ℤ) (near : mag b ≤ 10000000000000000) where
   pub near-back : to_z w64 (of_z w64 b) ≡ b
   near-back = back b (omega (arith, near))
@@ -41,17 +41,11 @@ module _ (b : ℤ) (near : mag b ≤ 10000000000000000) where
   near-passed = rw near-back near
 
 module _ (b r : ℤ) (n : ℕ) (near : mag b ≤ 10000000000000000) (fits : mag r < 2 ^ 63) where
-  pub sum_back : r ≡ to_z w64 (of_z w64 b) +ℤ pos n → to_z w64 (of_z w64 r) ≡ b +ℤ pos n
-  sum_back e = back r fits ∙ e ∙ ap (λ (z : ℤ). z +ℤ pos n) (near-back b near)
-
   pub rest_back : r ≡ to_z w64 (of_z w64 b) -ℤ pos n → to_z w64 (of_z w64 r) ≡ b -ℤ pos n
   rest_back e = back r fits ∙ e ∙ ap (λ (z : ℤ). z -ℤ pos n) (near-back b near)
 
 -- ---- the balance of the account that was found, among balances that are lent
 module _ (f : Option ℕ) (z : ℤ) (l m : List ℤ) where
-  pub moved_none : f ≡ None → m ≡ l → (h : Head) (names keys : List (List ℕ)) (n : ℕ) → gate_of (used_head h n) (columns_of names keys m) ≡ moved_at (gate_of h (columns_of names keys l)) f z n
-  moved_none e q h names keys n = rw (e, q)
-
   pub moved-there : (a : ℕ) → f ≡ Some a → (y : ℤ) → y ≡ z → ((h : Head) (names keys : List (List ℕ)) → gate_of h (columns_of names keys m) ≡ gate_balance (gate_of h (columns_of names keys l)) a y)
       → (h : Head) (names keys : List (List ℕ)) (n : ℕ) → gate_of (used_head h n) (columns_of names keys m) ≡ moved_at (gate_of h (columns_of names keys l)) f z n
   moved-there a e y ey put h names keys n = rw (e, ← ey) (put (used_head h n) names keys)
@@ -103,13 +97,6 @@ appended t used whole same room r t' q =
     let a : used < length t.numbers = omega (arith, same.numbers) in
     let b : used < length t.dates = omega (arith, same.dates) in
     q ∙ sym (rows_more t used whole r room a b)
-
--- the other rows have the room that the first has
-pub room-too : (n m used : ℕ) → m ≡ n → used < n → used < m
-room-too n m used e h = omega arith
-
-pub place-small : (n used : ℕ) → used < n → n ≤ 4096 → used < 4096
-place-small n used h l = omega arith
 
 -- the record that was found cancelled
 pub revoked-rows : (t : Rows) (used : ℕ) (f : Option ℕ) (r r' : Record) → r ≡ r' → (t' : Rows) → t' ≡ rows_from t (replaced_at (records_of t used) f r)

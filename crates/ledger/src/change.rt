@@ -32,17 +32,23 @@ pub(crate) struct Outcome {
 }
 
 // The record of a payment that is credited now, by a gate with so many records.
+#[tactic(auto, unfolding(crate::specs::Change::make_record, crate::specs::Change::next_authcode))]
 pub fn make_record(used: usize, clock: [u8; 19], q: Details) -> Record
     requires { used < 4096 }
     ensures { (g : Gate) → g.used ≡ used → result ≡ make_record g clock q }
 {
-    let number = q.number;
-    let date = q.date;
-    Record {
-        receipt: q.receipt,
+    let Details {
+        receipt,
         number,
-        kind: q.kind,
-        amount: q.amount,
+        kind,
+        amount,
+        date,
+    } = q;
+    Record {
+        receipt,
+        number,
+        kind,
+        amount,
         date,
         state: table::DONE,
         authcode: used as u64 + 1,
@@ -52,13 +58,15 @@ pub fn make_record(used: usize, clock: [u8; 19], q: Details) -> Record
 }
 
 // A record that is cancelled now.
+#[tactic(auto, unfolding(crate::specs::Change::revoked))]
 pub fn revoke_record(clock: [u8; 19], r: Record) -> Record
     ensures { result ≡ revoked clock r }
 {
-    let mut next = r;
-    next.state = table::CANCELLED;
-    next.cancel = clock;
-    next
+    Record {
+        state: table::CANCELLED,
+        cancel: clock,
+        ..r
+    }
 }
 
 // Puts the balance z at the account that was found.
@@ -158,19 +166,14 @@ fn make_change(
         (moved_at g p.account result.balance result.used) result.subject
         (lent nums.new numbers.new dates.new) }
 {
-    let details = q.details;
-    let d = p.decided;
-    let c = d.change;
-    let found = p.found;
-    let payment = p.payment;
-    match c {
+    match p.decided.change {
         Change::Keep => Outcome {
             used,
             balance: b,
-            subject: payment,
+            subject: p.payment,
         },
-        Change::Append => append(nums, numbers, dates, used, clock, details, b),
-        Change::Revoke => revoke(nums, numbers, dates, used, clock, found, payment, b),
+        Change::Append => append(nums, numbers, dates, used, clock, q.details, b),
+        Change::Revoke => revoke(nums, numbers, dates, used, clock, p.found, p.payment, b),
     }
 }
 
@@ -194,20 +197,15 @@ pub fn execute(
         (lent nums.new numbers.new dates.new) }
 {
     let used = head.used;
-    let closed = head.closed;
-    let details = q.details;
-    let found = rows::find_record(nums, numbers, dates, used, details.receipt);
+    let found = rows::find_record(nums, numbers, dates, used, q.details.receipt);
     let payment = plan::found_record(nums, numbers, dates, used, found);
     let h = plan::holding_of(names, keys, balances, head, q, payment);
-    let p = plan::make_plan(closed, used, nums.len(), fault, q, found, payment, h);
+    let p = plan::make_plan(head.closed, used, nums.len(), fault, q, found, payment, h);
     let o = make_change(nums, numbers, dates, used, clock, q, p, h.balance);
-    let d = p.decided;
-    let account = p.account;
-    move_balance(balances, account, o.balance);
-    let subject = o.subject;
+    move_balance(balances, p.account, o.balance);
     Execution {
-        code: d.code,
+        code: p.decided.code,
         used: o.used,
-        subject,
+        subject: o.subject,
     }
 }
