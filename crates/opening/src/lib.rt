@@ -21,10 +21,7 @@ use validity::valid;
 fn is_named(n: Number, kind: u64) -> bool
     ensures { result ≡ is_number n && is_kind kind }
 {
-    if !n.is_valid() {
-        return false;
-    }
-    codes::is_kind(kind)
+    n.is_valid() && codes::is_kind(kind)
 }
 
 // A reply that leaves the head as it is.
@@ -38,7 +35,7 @@ fn keep(code: u64, head: Head) -> HeadReply
     }
 }
 
-#[tactic(auto, using(crate::proofs::OpeningLaws::open_to_laws))]
+#[tactic(auto, unfolding(crate::specs::Opening::open_to))]
 fn open_to(
     names: &mut [[u8; 30]; 256],
     keys: &mut [[u64; 2]; 256],
@@ -53,7 +50,7 @@ fn open_to(
     if !is_named(n, kind) {
         return keep(59, head);
     }
-    if let Some(_) = columns::find_account(names, keys, balances, head, n, kind) {
+    if columns::find_account(names, keys, balances, head, n, kind).is_some() {
         return keep(56, head);
     }
     let at = head.count;
@@ -61,12 +58,17 @@ fn open_to(
         return keep(57, head);
     }
     columns::put_account(names, keys, balances, at, n, kind);
-    let mut next = head;
-    next.count = at + 1;
-    keep(0, next)
+    keep(
+        0,
+        Head {
+            count: at + 1,
+            ..head
+        },
+    )
 }
 
 // Opens an account with a balance of 0, among accounts that are lent in columns.
+#[tactic(auto, unfolding(crate::specs::Opening::open_account))]
 pub fn open_lent(
     nums: &[[u64; 6]],
     numbers: &[[u8; 30]],
@@ -121,19 +123,16 @@ pub fn open_account(
 }
 
 // A draw from the account that was looked up.
+#[tactic(auto, unfolding(crate::specs::Opening::draw_on))]
 fn draw_on(balances: &mut [i64; 256], head: Head, h: Holding, kopecks: u64) -> HeadReply
     requires { Within h.at 256 × (mag h.balance ≤ 10000000000000000) }
     ensures { (names keys : List (List ℕ)) → h.balance ≡ balance_of (gate_of head (columns_of names keys balances.old)) h.at
         → lent_reply result (columns_of names keys balances.new) ≡ draw_on (gate_of head (columns_of names keys balances.old)) h.at kopecks }
 {
-    let f = h.at;
-    let Some(a) = f else {
+    let Some(a) = h.at else {
         return keep(59, head);
     };
-    if !amount::is_amount(kopecks) {
-        return keep(58, head);
-    }
-    if accounts::is_less(h.balance, kopecks) {
+    if !amount::is_amount(kopecks) || accounts::is_less(h.balance, kopecks) {
         return keep(58, head);
     }
     columns::put_balance(balances, a, accounts::minus(h.balance, kopecks));
@@ -141,6 +140,7 @@ fn draw_on(balances: &mut [i64; 256], head: Head, h: Holding, kopecks: u64) -> H
 }
 
 // Draws kopecks from an account, as a print job does; the accounts are lent in columns.
+#[tactic(auto, unfolding(crate::specs::Opening::draw_funds, crate::specs::Opening::draw_from))]
 pub fn draw_lent(
     nums: &[[u64; 6]],
     numbers: &[[u8; 30]],
