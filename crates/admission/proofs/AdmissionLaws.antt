@@ -1,19 +1,16 @@
 -- Laws of what is looked at before a request or a registry.
-use Prim.Native.Nat.{ℕ, ◌≤◌, ◌<◌}
+use Prim.Native.Nat.{ℕ, ◌≤◌}
 use native.Mathlib.Omega.{arith}
 use mathlib.Core.Path.{◌≡◌, refl, sym, ap, ◌∙◌}
-use mathlib.Core.Bool.{Bool, true, false, cond, not}
+use mathlib.Core.Bool.{Bool, true, false, cond}
 use mathlib.Core.List.{List}
 use lib.Dec.{leb}
 use lib.ListN.{length}
-use borrow.Author.Tests.{le-leb, lt-leb, leb-true, not-true, not-false}
+use borrow.Author.Tests.{leb-true}
 use Rattle.dates.specs.Date.{is_written}
 use Rattle.table.specs.declared.Gate.{Gate}
-use Rattle.table.specs.declared.Head.{Head}
-use Rattle.table.specs.Columns.{Columns, gate_of, head_of}
-use Rattle.table.proofs.ColumnLaws.{in-columns}
 use Rattle.table.specs.Table.{Rows}
-use Rattle.validity.specs.Valid.{table_good, Ready}
+use Rattle.validity.specs.Valid.{table_good}
 use Rattle.admission.specs.Delivery.{Delivery, undelivered, admission, admitted}
 
 -- ---- three tests in their order, and a fault for each
@@ -53,34 +50,3 @@ module _ (g : Gate) (t : Rows) (clock : List ℕ) (room f : ℕ) (ef : f ≡ adm
   pub admitted-room : 512 ≤ room
   unfolding admission
   admitted-room = leb-true 512 room (all_of (table_good g t) (leb 512 room) (is_written clock) (sym z ∙ ef)).1
-
--- ---- the ways out of the check
-module _ (g : Gate) (t : Rows) (clock : List ℕ) (room : ℕ) (b : Bool) (eb : b ≡ table_good g t) where
-  pub admit-table : not b ≡ true → 68 ≡ admission g t clock room
-  unfolding admission
-  admit-table h = rw (← eb, not-true b h)
-
-  module _ (h : not b ≡ false) where
-    pub admit-room : room < 512 → 50 ≡ admission g t clock room
-    unfolding admission
-    admit-room l = rw (← eb, not-false b h, lt-leb _ _ l)
-
-    module _ (l : 512 ≤ room) (w : Bool) (ew : w ≡ is_written clock) where
-      pub admit-clock : not w ≡ true → 51 ≡ admission g t clock room
-      unfolding admission
-      admit-clock n = rw (← eb, not-false b h, le-leb _ _ l, ← ew, not-true w n)
-
-      pub admit-all : not w ≡ false → 0 ≡ admission g t clock room
-      unfolding admission
-      admit-all n = rw (← eb, not-false b h, le-leb _ _ l, ← ew, not-false w n)
-
-pub admit-ready : (g : Gate) (t : Rows) (b : Bool) → (b ≡ true → Ready g t) → not b ≡ false → Ready g t
-admit-ready g t b ready h = ready (not-false b h)
-
--- ---- a gate that was put into columns
-module _ (g : Gate) (h : Head) (a : Columns) (unpacked : gate_of (head_of g) a ≡ g) (eh : h ≡ head_of g) (t : Rows) where
-  pub admit-packed : (clock : List ℕ) (room f : ℕ) → f ≡ admission (gate_of h a) t clock room → f ≡ admission g t clock room
-  admit-packed clock room f e = e ∙ ap (λ (x : Gate). admission x t clock room) (in-columns g h a unpacked eh)
-
-  pub ready-packed : Ready (gate_of h a) t → Ready g t
-  ready-packed r = rw (← in-columns g h a unpacked eh) r

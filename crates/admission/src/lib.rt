@@ -13,7 +13,8 @@ use validity::valid;
 // How many bytes the buffer of an answer or a report has at least.
 const ROOM: usize = 512;
 
-// 68, 50 or 51, or 0 where there is none of them.
+// 68, 50 or 51, or 0 where there is none of them: the numbers that a call answers to C.
+#[tactic(auto, unfolding(crate::specs::Delivery::admission))]
 pub fn admit(
     nums: &[[u64; 6]],
     numbers: &[[u8; 30]],
@@ -29,15 +30,14 @@ pub fn admit(
     ensures ready { result ≡ 0 → Ready (gate_of head (columns_of names.now keys.now balances.now)) (lent nums.now numbers.now dates.now) }
 {
     if !valid::table_good(nums, numbers, dates, names, keys, balances, head) {
-        return 68;
+        68
+    } else if room < ROOM {
+        50
+    } else if !date::is_written(clock) {
+        51
+    } else {
+        0
     }
-    if room < ROOM {
-        return 50;
-    }
-    if !date::is_written(clock) {
-        return 51;
-    }
-    0
 }
 
 // The same with the gate by value.
