@@ -13,7 +13,7 @@ use Rattle.texts.proofs.Tests.{and_right}
 use Rattle.lines.specs.declared.line.Line.{Line}
 use Rattle.lists.specs.Lists.{first_from}
 use Rattle.index.specs.Index.{slot_of, Chained}
-use Rattle.index.proofs.ChainLaws.{slot-below, onward-slot, chained_same}
+use Rattle.index.proofs.ChainLaws.{slot-below, chained_same}
 use Rattle.index.proofs.WalkLaws.{Walk, walk_from, walk-hit, walk-next, walk_none}
 use Rattle.table.specs.declared.Record.{Record}
 use Rattle.table.specs.declared.Gate.{Gate}
@@ -57,11 +57,6 @@ module _ (t : Rows) (n : ℕ) (w : Sought) (x : Line) where
       pub seek-next : b ≡ false → (heads next : List ℕ) → Chained (receipt_at t.nums) 0 n heads next → (to : ℕ) → to ≡ get_or next (at - 1) 0
           → Walk (fits w x) (records_of t n) (receipt_at t.nums) (slot_of x.receipt) n to
       seek-next y heads next c to e = walk-next k h heads next c to e r (tested ∙ y)
-
--- ---- the end of a chain: a link leads to a place of the same slot
-pub last-slot : (nums : List (List ℕ)) (n : ℕ) (heads next : List ℕ) → Chained (receipt_at nums) 0 n heads next → (k at i : ℕ) → k < n → at ≡ get_or next k 0 → 0 < at
-    → slot_of (receipt_at nums k) ≡ slot_of (receipt_at nums i) → slot_of (receipt_at nums (at - 1)) ≡ slot_of (receipt_at nums i)
-last-slot nums n heads next c k at i h e p s = onward-slot (receipt_at nums) n heads next c k at h e p i s
 
 -- ---- what a line leaves of the receipts: those that stand are kept, and there is at most one more
 module _ (g : Gate) (t : Rows) (clock : List ℕ) (x : Line) where
