@@ -73,6 +73,7 @@ pub(crate) fn write_lines(
 }
 
 // Writes the registry of a day up to the frozen one, alike each time; a fault keeps all.
+// Rows and code are as `roosteryore_write_registry` lends and answers them.
 #[tactic(auto, unfolding(crate::specs::Listing::write_registry, crate::specs::Listing::list_on))]
 pub fn write_registry(
     nums: &[[u64; 6]],
