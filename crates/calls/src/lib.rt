@@ -12,27 +12,29 @@ use ledger::Reply;
 use settlement::settle;
 use table::Gate;
 
-// What a call asks for.
+// A call, but for its text.
 #[derive(Clone, Copy)]
-pub enum What {
-    Request,
-    Registry,
-    Opening,
-    Drawing,
-}
-
-// A call, but for its text. A request has a clock; a registry its day too; an opening number and type; a drawing its kopecks too.
-#[derive(Clone, Copy)]
-pub struct Call {
-    pub what: What,
-    pub clock: [u8; 19],
-    pub day: Day,
-    pub number: Number,
-    pub kind: u64,
-    pub kopecks: u64,
+pub enum Call {
+    Request {
+        clock: [u8; 19],
+    },
+    Registry {
+        clock: [u8; 19],
+        day: Day,
+    },
+    Opening {
+        number: Number,
+        kind: u64,
+    },
+    Drawing {
+        number: Number,
+        kind: u64,
+        kopecks: u64,
+    },
 }
 
 // A call on the rows. Opening and drawing read no text and write none.
+#[tactic(auto, unfolding(crate::specs::Calls::call_on))]
 pub fn call_on(
     nums: &mut [[u64; 6]],
     numbers: &mut [[u8; 30]],
@@ -44,23 +46,21 @@ pub fn call_on(
 ) -> Reply
     ensures { delivery_of result (lent nums.new numbers.new dates.new) out.new ≡ call_on gate call text.now out.old (lent nums.old numbers.old dates.old) }
 {
-    let what = call.what;
-    let clock = call.clock;
-    let day = call.day;
-    let number = call.number;
-    match what {
-        What::Request => deliver::deliver(nums, numbers, dates, gate, clock, text, out),
-        What::Registry => settle::settle(nums, numbers, dates, gate, clock, day, text, out),
-        What::Opening => opening::open_account(nums, numbers, dates, gate, number, call.kind),
-        What::Drawing => opening::draw_funds(
-            nums,
-            numbers,
-            dates,
-            gate,
+    match call {
+        Call::Request { clock } => {
+            deliver::deliver(nums, numbers, dates, gate, clock, text, out)
+        }
+        Call::Registry { clock, day } => {
+            settle::settle(nums, numbers, dates, gate, clock, day, text, out)
+        }
+        Call::Opening { number, kind } => {
+            opening::open_account(nums, numbers, dates, gate, number, kind)
+        }
+        Call::Drawing {
             number,
-            call.kind,
-            call.kopecks,
-        ),
+            kind,
+            kopecks,
+        } => opening::draw_funds(nums, numbers, dates, gate, number, kind, kopecks),
     }
 }
 
@@ -68,77 +68,28 @@ pub fn call_on(
 pub fn request_call(clock: [u8; 19]) -> Call
     ensures { result ≡ request_call clock }
 {
-    let day = Day {
-        year: 0,
-        month: 0,
-        day: 0,
-    };
-    let number = Number {
-        bytes: [0u8; 30],
-        len: 0,
-    };
-    Call {
-        what: What::Request,
-        clock,
-        day,
-        number,
-        kind: 0,
-        kopecks: 0,
-    }
+    Call::Request { clock }
 }
 
 // A registry, as a call.
 pub fn registry_call(clock: [u8; 19], day: Day) -> Call
     ensures { result ≡ registry_call clock day }
 {
-    let number = Number {
-        bytes: [0u8; 30],
-        len: 0,
-    };
-    Call {
-        what: What::Registry,
-        clock,
-        day,
-        number,
-        kind: 0,
-        kopecks: 0,
-    }
+    Call::Registry { clock, day }
 }
 
 // The opening of an account, as a call.
 pub fn opening_call(number: Number, kind: u64) -> Call
     ensures { result ≡ opening_call number kind }
 {
-    let day = Day {
-        year: 0,
-        month: 0,
-        day: 0,
-    };
-    let clock = [0u8; 19];
-    Call {
-        what: What::Opening,
-        clock,
-        day,
-        number,
-        kind,
-        kopecks: 0,
-    }
+    Call::Opening { number, kind }
 }
 
 // A drawing from an account, as a call.
 pub fn drawing_call(number: Number, kind: u64, kopecks: u64) -> Call
     ensures { result ≡ drawing_call number kind kopecks }
 {
-    let day = Day {
-        year: 0,
-        month: 0,
-        day: 0,
-    };
-    let clock = [0u8; 19];
-    Call {
-        what: What::Drawing,
-        clock,
-        day,
+    Call::Drawing {
         number,
         kind,
         kopecks,

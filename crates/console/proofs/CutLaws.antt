@@ -15,17 +15,18 @@ use Rattle.texts.proofs.Tests.{by-test}
 use Rattle.texts.specs.Lists.{find, eq_list}
 use Rattle.texts.specs.Digits.{digits_read, range_read}
 use Rattle.fields.specs.Codes.{kind_read}
-use Rattle.fields.specs.Number.{is_number_text, number_read, no_number}
+use Rattle.fields.specs.Number.{is_number_text, number_read}
 use Rattle.days.specs.Calendar.{day_read}
-use Rattle.dates.specs.Date.{date_day, date_read, no_date}
+use Rattle.dates.specs.Date.{date_day, date_read}
 use Rattle.coding.specs.Params.{longer, split_at}
 use Rattle.payments.specs.declared.Action.TheVariants.{Check}
+use Rattle.message.specs.declared.request.Fault.TheVariants.{Malformed}
 use Rattle.message.specs.Request.{refused, request_read}
 use Rattle.table.specs.declared.Gate.{Gate}
 use Rattle.table.specs.Table.{Rows}
 use Rattle.gate.specs.Deliver.{deliver}
 use Rattle.orders.specs.Order.{Console}
-use Rattle.orders.specs.Order.{start_turn, open_turn, draw_of, draw_turn, ask_turn, list_turn, order_turn, line_turn}
+use Rattle.orders.specs.Order.{clock_in, start_turn, open_turn, draw_of, draw_turn, ask_turn, list_turn, order_turn, line_turn}
 use Rattle.line_fields.specs.LineFields.{field_count, field_at, has_letter, after_space, params_in}
 
 -- ---- a line cut: m bytes of this field, 31 of each of the fields up to the jth space, and of the rest what e leaves
@@ -203,7 +204,7 @@ kind-cut s = rw (digits-cut 3 (omega arith) s)
 
 number_cut : (s : List ℕ) → number_read (take 31 s) ≡ number_read s
 unfolding number_read is_number_text
-number_cut = cut-read number_read no_number 31 (λ u l. rw (lt-leb (length u) 30 l, and-false))
+number_cut = cut-read number_read None 31 (λ u l. rw (lt-leb (length u) 30 l, and-false))
 
 day-cut : (s : List ℕ) → day_read (take 31 s) ≡ day_read s
 unfolding day_read
@@ -211,11 +212,11 @@ day-cut = cut-read day_read None 31 (λ u l. rw (ne_eqb (length u) 10 (λ q. abs
 
 date-cut : (s : List ℕ) → date_read (take 31 s) ≡ date_read s
 unfolding date_read date_day
-date-cut = cut-read date_read no_date 31 (λ u l. rw (ne_eqb (length u) 19 (λ q. absurd (omega arith))))
+date-cut = cut-read date_read None 31 (λ u l. rw (ne_eqb (length u) 19 (λ q. absurd (omega arith))))
 
 request-cut : (s : List ℕ) → request_read (take 2049 s) ≡ request_read s
 unfolding request_read
-request-cut = cut-read request_read (refused 31 Check) 2049 (λ u l. rw (lt-leb (length u) 2048 l))
+request-cut = cut-read request_read (refused Malformed Check) 2049 (λ u l. rw (lt-leb (length u) 2048 l))
 
 deliver-cut : (g : Gate) (t : Rows) (clock params out : List ℕ) → deliver g t clock (take 2049 params) out ≡ deliver g t clock params out
 unfolding deliver
@@ -266,7 +267,7 @@ module _ (x : Console) (t : Rows) (u l : List ℕ) where
     ask-cut : params_in u ≡ take 2049 (params_in l) → ask_turn x t u ≡ ask_turn x t l
     unfolding ask_turn
     ask-cut p =
-        rw (first, date-cut (field_at 1 l), p, deliver-cut x.gate t (date_read (field_at 1 l)).date (params_in l) (replicate 512 0))
+        rw (first, date-cut (field_at 1 l), p, deliver-cut x.gate t (clock_in l) (params_in l) (replicate 512 0))
 
     module _ (second : field_at 2 u ≡ take 31 (field_at 2 l)) where
       open-cut : open_turn x t u ≡ open_turn x t l

@@ -1,4 +1,5 @@
 -- Laws of a session that is fed in parts: a line that ends, the loop over a part, and the ways out.
+use Rattle.std.specs.Prelude.{Some, None}
 use Prim.Native.Nat.{ℕ, suc, ◌+◌, ◌-◌, ◌*◌, ◌/◌, ◌≤◌, ◌<◌}
 use native.Mathlib.Nat.{add-zero, zero-add, mod-lt, div-add-mod', div-mul-le_self, mul-le-mul_right}
 use native.Mathlib.Omega.{arith}
@@ -303,7 +304,7 @@ finished-rows f = go (ltb 0 f.held.len)
 
 module _ (t : Rows) (input out : List ℕ) (need : ℕ) (en : need ≡ line_room (length t.nums)) where
   pub run-refused : length out / need ≤ length input → (rows : Rows) → rows ≡ t → (o : List ℕ) → o ≡ out
-      → ◌≡◌ {A = Run} (record { ok = false; rows = rows; out = o; size = 0 }) (run_all t input out)
+      → ◌≡◌ {A = Run} (record { size = None; rows = rows; out = o }) (run_all t input out)
   unfolding run_all
   run-refused h rows er o eo =
       let less : length out < need * (length input + 1)
@@ -343,7 +344,7 @@ module _ (t : Rows) (input out : List ℕ) (need : ℕ) (en : need ≡ line_room
       last-room = omega (arith, size, taken-all.1, enough, ap length shown, over-length out 0 all.text fit, en, ap line_room places-all)
 
       pub run-whole : (q : Part) → q ≡ last_part p.console p.held p.rows p.out p.size
-          → ◌≡◌ {A = Run} (record { ok = true; rows = q.rows; out = q.out; size = q.size }) (run_all t input out)
+          → ◌≡◌ {A = Run} (record { size = Some q.size; rows = q.rows; out = q.out }) (run_all t input out)
       unfolding run_all last_part
       run-whole q e =
           let rest : Fed = finished (before p.console p.held p.rows) in

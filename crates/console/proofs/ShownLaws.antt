@@ -1,9 +1,9 @@
 -- Laws of what a line prints: what it rests on, how long it is, and that the table keeps its places.
 use Rattle.std.specs.Prelude.{Option, Some, None}
-use Prim.Native.Nat.{ℕ, ◌+◌, ◌-◌, ◌*◌, ◌≤◌, ◌<◌}
+use Prim.Native.Nat.{ℕ, ◌+◌, ◌*◌, ◌≤◌, ◌<◌}
 use native.Mathlib.Omega.{arith}
-use mathlib.Core.Path.{◌≡◌, refl, sym, ap, subst, ◌∙◌}
-use mathlib.Core.Bool.{Bool, true, false, ◌&&◌}
+use mathlib.Core.Path.{◌≡◌, refl, sym, ap, subst}
+use mathlib.Core.Bool.{true, ◌&&◌}
 use mathlib.Core.List.{List, [], ◌∷◌, ◌++◌}
 use lib.Dec.{eqb, leb, ltb}
 use lib.ListN.{length, set, replicate, length-set, length-append}
@@ -13,7 +13,6 @@ use Rattle.texts.proofs.Tests.{and_left, cond-elim, by-test}
 use Rattle.texts.specs.Digits.{digits_read}
 use Rattle.days.specs.declared.calendar.Day.{Day}
 use Rattle.days.specs.Calendar.{day_read}
-use Rattle.dates.specs.Date.{date_read}
 use Rattle.lists.proofs.LentLaws.{lent-facts}
 use Rattle.table.specs.declared.Gate.{Gate}
 use Rattle.table.specs.declared.Record.{Record}
@@ -24,7 +23,7 @@ use Rattle.opening.proofs.OpeningLaws.{kopecks-small}
 use Rattle.validity.specs.Valid.{lent_good, table_good}
 use Rattle.validity.proofs.GoodLaws.{record-good}
 use Rattle.payments.specs.declared.Instruction.{Instruction}
-use Rattle.message.specs.Request.{request_read}
+use Rattle.message.specs.Request.{request_read, fault_number}
 use Rattle.admission.specs.Delivery.{Delivery}
 use Rattle.gate.specs.Deliver.{instruction_in, deliver, respond}
 use Rattle.gate_theorems.proofs.OutcomeLaws.{Outcome, stays, appends, revokes, outcome}
@@ -38,7 +37,7 @@ use Rattle.figures.proofs.DailyLaws.{day-length}
 use Rattle.line_fields.specs.LineFields.{field_at, field_count, has_letter, params_in}
 use Rattle.orders.specs.declared.turn.Shown.{Shown}
 use Rattle.orders.specs.declared.turn.Shown.TheVariants.{Figures, Payments}
-use Rattle.orders.specs.Order.{Console, Turn, start_turn, open_turn, draw_of, draw_turn, ask_turn, list_of, list_turn, order_turn, line_turn, shown_text, turn_text}
+use Rattle.orders.specs.Order.{Console, Turn, clock_in, start_turn, open_turn, draw_of, draw_turn, ask_turn, list_of, list_turn, order_turn, line_turn, shown_text, turn_text}
 use Rattle.console.specs.Feed.{line_room}
 use Rattle.console.specs.Parts.{Showable}
 
@@ -58,14 +57,6 @@ module _ (n : ℕ) where
 
   pub room-day : (used : ℕ) → used ≤ n → used ≤ 4096 → 64 * (used + 2) ≤ line_room n
   room-day used h few = by-test (ltb n 4096) (λ t. omega (arith, room-few (ltb-true _ _ t))) (λ t. omega (arith, room_most (ltb-false _ _ t)))
-
--- ---- whether a part goes on
-module _ (at len size room need : ℕ) where
-  pub goes-past : len ≤ at → false ≡ ltb at len && leb need (room - size)
-  goes-past h = rw (le-ltb _ _ h)
-
-  pub goes_by : at < len → (b : Bool) → b ≡ leb need (room - size) → b ≡ ltb at len && leb need (room - size)
-  goes_by h b e = e ∙ rw (lt-ltb _ _ h)
 
 -- ---- a table that is not refused can be printed
 pub good-payable : (g : Gate) (t : Rows) → table_good g t ≡ true → Payable t g.used
@@ -94,7 +85,7 @@ outcome-length g t clock q d p (revokes i r f ea ei er ef es day fu ec eg el) =
 
 deliver-length : (g : Gate) (t : Rows) (clock params out : List ℕ) → length (deliver g t clock params out).rows.nums ≡ length t.nums
 deliver-length g t clock params out =
-    let f : ℕ = (request_read params).fault in
+    let f : ℕ = fault_number (request_read params) in
     let q : Instruction = instruction_in params in
     delivered-by g t clock params out (λ (d : Delivery). length d.rows.nums ≡ length t.nums) (λ code left size. refl)
     (λ good _. outcome-length g t clock q (respond g t clock f q out) (good-payable g t good) (outcome g t clock f q out))
@@ -117,7 +108,7 @@ module _ (x : Console) (t : Rows) (l : List ℕ) where
       cond-elim Shows (has_letter 79 l && eqb (field_count l) 3) _ _ (λ _. (refl, tt))
       (λ _. cond-elim Shows (has_letter 68 l && eqb (field_count l) 4) _ _ (λ _. draw-of-shows (digits_read 15 (field_at 3 l)))
       (λ _. cond-elim Shows (has_letter 82 l && leb 3 (field_count l)) _ _
-      (λ _. (deliver-length x.gate t (date_read (field_at 1 l)).date (params_in l) (replicate 512 0), tt))
+      (λ _. (deliver-length x.gate t (clock_in l) (params_in l) (replicate 512 0), tt))
       (λ _. cond-elim Shows (has_letter 80 l && eqb (field_count l) 2) _ _ (λ _. list-of-shows (day_read (field_at 1 l))) (λ _. (refl, tt)))))
 
   start-shows : Shows (start_turn x t l)

@@ -15,13 +15,12 @@ use borrow.Author.Tests.{leb-false, not-true}
 use Rattle.fields.specs.declared.number.Number.{Number}
 use Rattle.texts.specs.Digits.{digits_read}
 use Rattle.fields.specs.Amount.{is_amount}
-use Rattle.fields.specs.Codes.{is_kind, kind_read}
-use Rattle.fields.specs.Number.{is_number, number_read}
+use Rattle.fields.specs.Codes.{is_kind}
+use Rattle.fields.specs.Number.{is_number}
 use Rattle.days.specs.Calendar.{day_read}
-use Rattle.dates.specs.Date.{date_read}
 use Rattle.texts.proofs.Tests.{and_right, cond-elim}
 use Rattle.payments.specs.declared.Instruction.{Instruction}
-use Rattle.message.specs.Request.{request_read}
+use Rattle.message.specs.Request.{request_read, fault_number}
 use Rattle.lists.specs.Lists.{is_found}
 use Rattle.table.specs.declared.Account.{Account}
 use Rattle.table.specs.declared.Gate.{Gate}
@@ -44,7 +43,7 @@ use Rattle.validity.proofs.GoodLaws.{Near, near-table}
 use Rattle.gate_theorems.proofs.RowsLaws.{SameNames, names-moved, names-debited}
 use Rattle.gate_theorems.proofs.CallLaws.{near-debited, opened-other, opened-new}
 use Rattle.orders.specs.Order.{Console}
-use Rattle.orders.specs.Order.{Turn, kind_in, draw_of, start_on, start_turn, open_turn, draw_turn, ask_turn, list_of, list_turn, order_turn, line_turn}
+use Rattle.orders.specs.Order.{Turn, number_in, kind_in, clock_in, draw_of, start_on, start_turn, open_turn, draw_turn, ask_turn, list_of, list_turn, order_turn, line_turn}
 use Rattle.line_fields.specs.LineFields.{field_at, field_count, has_letter, params_in}
 use Rattle.figures.specs.Sums.{Summable}
 
@@ -148,10 +147,10 @@ module _ (g : Gate) (s : Summable g) where
 
   deliver-summable : (t : Rows) (clock params out : List ℕ) → Summable (deliver g t clock params out).gate
   deliver-summable t clock params out =
-      let f : ℕ = (request_read params).fault in
+      let f : ℕ = fault_number (request_read params) in
       let q : Instruction = instruction_in params in
       delivered-by g t clock params out (λ (d : Delivery). Summable d.gate) (λ code left size. s)
-      (λ good _. outcome-summable t good clock q (respond g t clock f q out) (asked-amount params (request_read params) refl) (outcome g t clock f q out))
+      (λ good _. outcome-summable t good clock q (respond g t clock f q out) (asked-amount params (request_read params) refl _ refl) (outcome g t clock f q out))
 
 -- ---- a line
 module _ (x : Console) (t : Rows) (l : List ℕ) (s : Summable x.gate) where
@@ -168,7 +167,7 @@ module _ (x : Console) (t : Rows) (l : List ℕ) (s : Summable x.gate) where
 
   draw-of-summable : (d : Option ℕ) → Left (draw_of x t l d)
   draw-of-summable None = s
-  draw-of-summable (Some m) = draw-summable x.gate s t (number_read (field_at 1 l)).number (kind_in (kind_read (field_at 2 l))) m
+  draw-of-summable (Some m) = draw-summable x.gate s t (number_in l) (kind_in l) m
 
   list-of-summable : (d : Option Day) → Left (list_of x t d)
   list-of-summable None = s
@@ -178,11 +177,11 @@ module _ (x : Console) (t : Rows) (l : List ℕ) (s : Summable x.gate) where
   unfolding order_turn open_turn draw_turn ask_turn list_turn
   order-summable =
       cond-elim Left (has_letter 79 l && eqb (field_count l) 3) _ _
-      (λ _. open-summable x.gate s t (number_read (field_at 1 l)).number (kind_in (kind_read (field_at 2 l))))
+      (λ _. open-summable x.gate s t (number_in l) (kind_in l))
       (λ _. cond-elim Left (has_letter 68 l && eqb (field_count l) 4) _ _
       (λ _. draw-of-summable (digits_read 15 (field_at 3 l)))
       (λ _. cond-elim Left (has_letter 82 l && leb 3 (field_count l)) _ _
-      (λ _. deliver-summable x.gate s t (date_read (field_at 1 l)).date (params_in l) (replicate 512 0))
+      (λ _. deliver-summable x.gate s t (clock_in l) (params_in l) (replicate 512 0))
       (λ _. cond-elim Left (has_letter 80 l && eqb (field_count l) 2) _ _
       (λ _. list-of-summable (day_read (field_at 1 l)))
       (λ _. s))))

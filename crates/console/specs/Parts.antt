@@ -1,5 +1,5 @@
 -- The calls of a session: a part of its input, the end of its input, or all of it at once.
-use Rattle.std.specs.Prelude.{ℕ, ◌+◌, ◌*◌, ◌≡◌, List, [], Bool, true, false, cond, leb, length}
+use Rattle.std.specs.Prelude.{ℕ, ◌+◌, ◌*◌, ◌≡◌, List, [], Option, Some, None, cond, leb, length}
 use Rattle.texts.specs.Lists.{over}
 use Rattle.table.specs.Table.{Rows}
 use Rattle.orders.specs.Order.{Console}
@@ -13,7 +13,6 @@ use Rattle.gathering.specs.Held.{held_of, held_text}
 use Rattle.console.specs.Feed.{Fed, fed, finished, line_room, Fill, filled}
 use Rattle.console.specs.Session.{new_fed, session_text}
 use Rattle.console.specs.declared.feed.Part.{Part as GivenPart}
-use Rattle.console.specs.declared.feed.Run.{Run as GivenRun}
 
 -- what a part leaves: the session, the buffer with what it prints, the cursor behind that, and how much of the part was taken
 pub record Part : Type 0 where
@@ -48,21 +47,20 @@ feed_part x h t input out = printed_at out 0 (filled (line_room (length t.nums))
 unfoldable pub last_part : Console → Held → Rows → List ℕ → ℕ → Part
 last_part x h t out at = printed_at out at (record { fed = finished (before x h t); taken = 0 })
 
--- ---- a whole session; a buffer without room for a line at each byte and one more is refused
+-- ---- a whole session: how many bytes it printed; a buffer without room for a line at each byte and one more is refused
 pub record Run : Type 0 where
-  pub ok : Bool
+  pub size : Option ℕ
   pub rows : Rows
   pub out : List ℕ
-  pub size : ℕ
 
-abbrev pub run_of : GivenRun → Rows → List ℕ → Run
-run_of r rows out = record { ok = r.ok; rows = rows; out = out; size = r.size }
+abbrev pub run_of : Option ℕ → Rows → List ℕ → Run
+run_of size rows out = record { size = size; rows = rows; out = out }
 
 unfoldable pub run_all : Rows → List ℕ → List ℕ → Run
 run_all t input out =
     cond (leb (line_room (length t.nums) * (length input + 1)) (length out))
-    (record { ok = true; rows = (finished (fed (new_fed t) input)).rows; out = over out 0 (session_text t input); size = length (session_text t input) })
-    (record { ok = false; rows = t; out = out; size = 0 })
+    (record { size = Some (length (session_text t input)); rows = (finished (fed (new_fed t) input)).rows; out = over out 0 (session_text t input) })
+    (record { size = None; rows = t; out = out })
 
 -- ---- a line that has ended, printed at the cursor
 pub record EndedAt (x : Console) (h : Held) (t : Rows) (d : List ℕ) (at : ℕ) (console : Console) (rows : Rows) (out : List ℕ) (size : ℕ) : Type 0 where

@@ -1,6 +1,6 @@
 -- Document 01, the session program: all of its input to all of its output, line by line.
 use Rattle.std.specs.Prelude.{ℕ, List, [], ◌∷◌, ◌++◌, false, pos, replicate}
-use Rattle.fields.specs.Number.{no_number}
+use Rattle.fields.specs.Number.{empty_number}
 use Rattle.coding.specs.Params.{split_at}
 use Rattle.table.specs.declared.Gate.{Gate}
 use Rattle.table.specs.Table.{Rows}
@@ -26,7 +26,7 @@ lines_text x t (l ∷ ls) = let r = line_turn x t l in turn_text r ++ lines_text
 abbrev pub empty_gate : Gate
 empty_gate =
     record {
-      accounts = replicate 256 (record { number = no_number.number; kind = 0; balance = pos 0 });
+      accounts = replicate 256 (record { number = empty_number; kind = 0; balance = pos 0 });
       count = 0;
       closed = record { year = 0; month = 0; day = 0 };
       used = 0;

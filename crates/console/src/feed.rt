@@ -23,13 +23,6 @@ pub struct Part {
     pub taken: usize,
 }
 
-// The whole of a session that was run; `ok` is false where the buffer is refused.
-#[derive(Clone, Copy)]
-pub struct Run {
-    pub ok: bool,
-    pub size: usize,
-}
-
 // The console after a line, and the cursor behind what it printed.
 #[derive(Clone, Copy)]
 pub(crate) struct Printed {
@@ -58,9 +51,11 @@ pub(crate) fn end_line(
 {
     let line = scan::first_bytes(bytes, m.len);
     let r = turn::line_turn(nums, numbers, dates, names, keys, balances, x, line);
-    let console = r.console;
     let size = show::write_shown(nums, numbers, dates, balances, r, out, at);
-    Printed { console, size }
+    Printed {
+        console: r.console,
+        size,
+    }
 }
 
 // Feeds a part of the input; what its lines print goes to the start of the buffer. Where that has no more room for a line, the rest is left to be fed again.
@@ -89,17 +84,16 @@ pub fn feed(
     let mut at: usize = 0;
     while show::goes_on(at, input.len(), size, out.len(), need) {
         let g = gathering::gather(bytes, mark, input, at);
-        let held = g.mark;
         if !g.ended {
             return Part {
                 console,
-                mark: held,
+                mark: g.mark,
                 size,
                 taken: g.at,
             };
         }
         let s = end_line(
-            nums, numbers, dates, names, keys, balances, console, bytes, held, out, size,
+            nums, numbers, dates, names, keys, balances, console, bytes, g.mark, out, size,
         );
         console = s.console;
         size = s.size;
@@ -144,27 +138,26 @@ pub fn finish(
     let s = end_line(
         nums, numbers, dates, names, keys, balances, x, bytes, m, out, at,
     );
-    let console = s.console;
     Part {
-        console,
+        console: s.console,
         mark: gathering::new_mark(),
         size: s.size,
         taken: 0,
     }
 }
 
-// Runs a whole session; the output has to have room for what a line can print, at each byte and once more.
+// Runs a whole session, and tells how many bytes it printed; the output has to have room for what a line can print, at each byte and once more.
 pub fn run_session(
     nums: &mut [[u64; 6]],
     numbers: &mut [[u8; 30]],
     dates: &mut [[[u8; 19]; 3]],
     input: &[u8],
     out: &mut [u8],
-) -> Run
+) -> Option<usize>
     ensures { run_of result (lent nums.new numbers.new dates.new) out.new ≡ run_all (lent nums.old numbers.old dates.old) input.now out.old }
 {
     if out.len() / show::line_room(nums.len()) <= input.len() {
-        return Run { ok: false, size: 0 };
+        return None;
     }
     let mut names = columns::empty_names();
     let mut keys = columns::empty_keys();
@@ -196,8 +189,5 @@ pub fn run_session(
         out,
         s.size,
     );
-    Run {
-        ok: true,
-        size: last.size,
-    }
+    Some(last.size)
 }

@@ -14,14 +14,11 @@ use orders::turn::{Shown, Turn};
 const RECORDS_MOST: usize = 4096;
 
 // How many bytes one line can print, with a table of so many records.
+#[tactic(auto, unfolding(crate::specs::Feed::line_room))]
 pub(crate) fn line_room(records: usize) -> usize
     ensures { result ≡ line_room records }
 {
-    if records < RECORDS_MOST {
-        64 * (records + 2)
-    } else {
-        64 * (RECORDS_MOST + 2)
-    }
+    64 * (records.min(RECORDS_MOST) + 2)
 }
 
 // Whether there is input left, and room for what its next line can print.
@@ -29,10 +26,7 @@ pub(crate) fn goes_on(at: usize, len: usize, size: usize, room: usize, need: usi
     requires { size ≤ room }
     ensures { result ≡ ltb at len && leb need (room - size) }
 {
-    if len <= at {
-        return false;
-    }
-    need <= room - size
+    at < len && need <= room - size
 }
 
 // Writes what a line prints at the cursor.
@@ -50,10 +44,8 @@ pub(crate) fn write_shown(
     ensures { Put out.old at
         (shown_text r.shown r.code (nameless r.console.head balances.now) (lent nums.now numbers.now dates.now)) result out.new }
 {
-    let console = r.console;
-    let head = console.head;
-    let shown = r.shown;
-    match shown {
+    let head = r.console.head;
+    match r.shown {
         Shown::Figures => print::write_turn(r.code, balances, head, out, at),
         Shown::Payments(d) => { daily::write_day(nums, numbers, dates, head.used, d, out, at) }
     }

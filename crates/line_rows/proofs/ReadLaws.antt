@@ -1,6 +1,6 @@
 -- Laws of the lines of a text that are read once.
 use Rattle.std.specs.Prelude.{Option, Some, None}
-use Prim.Native.Nat.{ℕ, zero, suc, ◌+◌, ◌-◌, ◌≤◌, ◌<◌}
+use Prim.Native.Nat.{ℕ, zero, suc, ◌+◌, ◌≤◌, ◌<◌}
 use native.Mathlib.Numerals.{add-one}
 use native.Mathlib.Nat.{zero-add}
 use native.Mathlib.Omega.{arith}
@@ -13,13 +13,13 @@ use lib.Seq.{length-take-le, drop-cons, append_snoc, take-suc-set}
 use Rattle.fields.specs.declared.number.Number.{Number}
 use Rattle.fields.specs.Amount.{amount_read}
 use Rattle.fields.specs.Codes.{receipt_read, kind_read}
-use Rattle.fields.specs.Number.{number_of, number_read}
+use Rattle.fields.specs.Number.{number_read}
 use Rattle.fields.proofs.AmountLaws.{amount-within}
 use Rattle.texts.proofs.DigitLaws.{within-high}
 use Rattle.lines.specs.declared.line.Line.{Line}
 use Rattle.lines.specs.Line.{field, after_field, line_of, line_read, line_or_zeros}
 use Rattle.lines.specs.declared.line.Found.{Found}
-use Rattle.lines.specs.LineText.{line_read_on, line_in, line_found, Stands, FoundIn}
+use Rattle.lines.specs.LineText.{line_read_on, line_in, line_found, FoundIn}
 use Rattle.lines.proofs.LineLaws.{on_read}
 use Rattle.days.specs.declared.calendar.Day.{Day}
 use Rattle.dates.specs.Date.{date_read}
@@ -73,15 +73,6 @@ next-line xs i x ex h = drop-cons xs i no_line h ∙ rw (← ex, add-one i)
 
 pub read_small : (xs : List Line) → Read xs → (i : ℕ) → i < length xs → (x : Line) → x ≡ get_or xs i no_line → x.amount < 1000000000
 read_small xs read i h x e = let a : x.amount ≡ (get_or xs i no_line).amount = ap (λ (y : Line). y.amount) e in omega (arith, read.small i h)
-
--- ---- a line that was found
-module _ (s : List ℕ) (f : Found) (stands : Stands s f) where
-  pub name-short : length (take f.len s) ≤ 30
-  name-short = omega (arith, length-take-le f.len s stands.number, stands.short)
-
-  pub line-made : (d : List ℕ) → d ≡ take (f.date + 19 - f.date) (drop f.date s)
-      → record { number = number_of (take f.len s); kind = f.kind; date = d; amount = f.amount; receipt = f.receipt } ≡ line_in s f
-  line-made d date = let n : f.date + 19 - f.date ≡ 19 = omega arith in rw (date, n)
 
 -- ---- a loop that has read n lines, up to `at`; the last had the receipt `last`
 pub record Reading (day : Day) (s : List ℕ) (u : List Line) (n at : ℕ) (rose : Bool) (last : ℕ) : Type 0 where

@@ -36,21 +36,6 @@ use Rattle.lines.specs.LineText.{EndsDate, line_kept, line_read_on, line_with, l
 pub behind-fits : (s : List ℕ) (p : ℕ) → p ≡ find 9 s → length s * 1 < 2 ^ 63 → Fits w64 (p + 1)
 behind-fits s p e h = let l : p ≤ length s = rw e (find-le 9 s) in omega arith
 
--- the date's place
-module _ (s s₁ : List ℕ) (p q : ℕ) (tab : p ≡ find 9 s) (e : s₁ ≡ drop (p + 1) s) (tab₁ : q ≡ find 9 s₁) (h : length s * 1 < 2 ^ 63) where
-  tabs-within : p + q ≤ length s
-  tabs-within =
-      let a : p ≤ length s = rw tab (find-le 9 s) in
-      let b : q ≤ length s₁ = rw tab₁ (find-le 9 s₁) in
-      let l : length s₁ ≡ length s - (p + 1) = ap length e ∙ length-drop (p + 1) s in
-      omega arith
-
-  pub tabs-fit : Fits w64 (p + q)
-  tabs-fit = omega (arith, tabs-within)
-
-  pub date-fits : Fits w64 (p + q + 2)
-  date-fits = omega (arith, tabs-within)
-
 -- ---- where the date ends
 none_written : (x : Option Day) → found x ≡ false → x ≡ None
 none_written (Some y) e = no-claim (sym e)

@@ -40,13 +40,6 @@ fn get(
     rows::load(&nums[..], &numbers[..], &dates[..], i)
 }
 
-// How many of the lent records have a place in the rows.
-fn rows_in(len: usize) -> usize
-    ensures { result ≡ rows_in len }
-{
-    if len <= PLACES_MOST { len } else { PLACES_MOST }
-}
-
 // The records into the rows.
 fn to_rows(
     records: &[Record],
@@ -56,12 +49,8 @@ fn to_rows(
 )
     ensures { lent nums.new numbers.new dates.new ≡ filled records.now (rows_in (length records.now)) (lent nums.old numbers.old dates.old) }
 {
-    let n = rows_in(records.len());
-    let mut i = 0;
-    while i < n {
-        let r = records[i];
-        put(nums, numbers, dates, i, r);
-        i += 1;
+    for i in 0..records.len().min(PLACES_MOST) {
+        put(nums, numbers, dates, i, records[i]);
     }
 }
 
@@ -74,11 +63,8 @@ fn from_rows(
 )
     ensures { records.new ≡ restored records.old (rows_in (length records.old)) (lent nums.now numbers.now dates.now) }
 {
-    let n = rows_in(records.len());
-    let mut i = 0;
-    while i < n {
+    for i in 0..records.len().min(PLACES_MOST) {
         records[i] = get(nums, numbers, dates, i);
-        i += 1;
     }
 }
 
@@ -152,13 +138,9 @@ pub fn call_records(
 ) -> Reply
     ensures { called_of result records.new out.new ≡ call_records gate records.old call text.now out.old }
 {
-    let no_nums: [u64; 6] = [0; 6];
-    let no_number: [u8; 30] = [0; 30];
-    let no_date: [u8; 19] = [0; 19];
-    let no_dates: [[u8; 19]; 3] = [no_date; 3];
-    let mut nums: [[u64; 6]; 4096] = [no_nums; 4096];
-    let mut numbers: [[u8; 30]; 4096] = [no_number; 4096];
-    let mut dates: [[[u8; 19]; 3]; 4096] = [no_dates; 4096];
+    let mut nums = [[0u64; 6]; 4096];
+    let mut numbers = [[0u8; 30]; 4096];
+    let mut dates = [[[0u8; 19]; 3]; 4096];
     to_rows(records, &mut nums, &mut numbers, &mut dates);
     let r = call_rows(
         &mut nums,

@@ -24,12 +24,6 @@ line-here s at e ends t f et ef =
     let n : e - at ≡ line_end (drop at s) = omega arith in
     ef ∙ rw (et, n)
 
-pub line-under : (s : List ℕ) (at e : ℕ) → e ≡ at + line_end (drop at s) → at ≤ e
-line-under s at e ends = omega arith
-
-pub rise-on : (rose : Bool) (last next : ℕ) → rose ≡ true → ltb last next ≡ rose && ltb last next
-rise-on rose last next e = rw e
-
 -- ---- a walk over the lines, at the line that begins at `at` and ends at e
 module _ (s : List ℕ) (at e : ℕ) (here : at < length s) (ends : e ≡ at + line_end (drop at s)) where
   some_left : 0 < length (drop at s)

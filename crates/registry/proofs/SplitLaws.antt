@@ -8,7 +8,6 @@ use mathlib.Core.Bool.{Bool, true, false, cond, ◌&&◌}
 use lib.Dec.{eqb}
 use lib.ListN.{length, get_or, take, drop, length-drop, drop_of_length-le}
 use lib.Seq.{drop-drop}
-use borrow.Author.Tests.{eq-eqb, ne_eqb}
 use Rattle.texts.specs.Lists.{find}
 use Rattle.texts.proofs.ListLaws.{drop-next}
 use Rattle.texts.proofs.ScanLaws.{find-le}
@@ -16,14 +15,6 @@ use Rattle.lines.specs.Line.{line_read, line_or_zeros}
 use Rattle.registry.specs.Registry.{line_end, onto, split_lines, count_of, line_count, good_line, good_lines, held_lines}
 use Rattle.days.specs.declared.calendar.Day.{Day}
 use Rattle.texts.proofs.Tests.{cond-elim}
-
--- ---- the two bytes of a line's end
-module _ (b c : ℕ) where
-  pub end-two : b ≡ 13 → eqb c 10 ≡ eqb b 13 && eqb c 10
-  end-two e = rw (eq-eqb _ _ e)
-
-  pub end-other : (b ≡ 13 → ⊥) → false ≡ eqb b 13 && eqb c 10
-  end-other n = rw (ne_eqb _ _ n)
 
 -- ---- the first line
 module _ (b c : ℕ) (s : List ℕ) where

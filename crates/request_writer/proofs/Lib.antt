@@ -1,3 +1,2 @@
 pub mod WriteTexts
-pub mod AskedLaws
 pub mod WriteLaws

@@ -57,3 +57,5 @@ module _ (q : Asked) (d : List ℕ) (at : ℕ) (t : Bool) (test : t ≡ is_asked
 
     pub request-written : (e : List ℕ) → e ≡ written d at v → e ≡ written d at (request_text q)
     request-written e g = g ∙ rw text-is
+
+pub ruleset refused_laws = (refused-cursor, refused-kept)

@@ -15,7 +15,6 @@ use Rattle.texts.specs.Digits.{decimal}
 use Rattle.fields.specs.Amount.{amount_bytes}
 use Rattle.fields.specs.Number.{number_text}
 use Rattle.texts.proofs.DecimalLaws.{fixed-length}
-use Rattle.payments.specs.declared.Action.{Action}
 use Rattle.message.specs.declared.request.Asked.{Asked}
 use Rattle.parameters.specs.Names.{action_name, number_name, kind_name, amount_name, receipt_name, date_name, reason_name, action_word, has_account, has_receipt, has_date, has_reason}
 use Rattle.message.specs.RequestText.{pair, pair_if, request_bytes}
@@ -39,16 +38,6 @@ module _ (xss yss : List (List ℕ)) (d : List ℕ) (at : ℕ) (e : List ℕ) (p
 
   pub then-cursor : (r : ℕ) → r ≡ cursor_all yss e p → r ≡ cursor_all (xss ++ yss) d at
   then-cursor r q = q ∙ rw (eb, ep) (sym (cursor-append xss yss d at))
-
--- a single text
-module _ (xs : List ℕ) (d : List ℕ) (at : ℕ) where
-  pub one-buffer : (e : List ℕ) → e ≡ written d at xs → e ≡ buffer_all (xs ∷ []) d at
-  unfolding buffer_all
-  one-buffer e q = q
-
-  pub one-cursor : (p : ℕ) → p ≡ cursor_after d at xs → p ≡ cursor_all (xs ∷ []) d at
-  unfolding cursor_all
-  one-cursor p q = q
 
 -- where all have room they are one text
 all-written : (xss : List (List ℕ)) (d : List ℕ) (at : ℕ) → at + length (joined xss) ≤ length d
@@ -174,14 +163,6 @@ module _ (q : Asked) (d : List ℕ) (at : ℕ) (e₁ : List ℕ) (p₁ : ℕ) (e
     pub payment-cursor : (r : ℕ) → r ≡ cursor_all (pair_texts um (prefix reason_name) (decimal q.reason)) e₂ p₂ → r ≡ cursor_all (payment_texts q) d at
     payment-cursor r g = rw (← er, ← ed, ← em) (three-cursor receipt-pair date-pair reason-pair d at e₁ p₁ b₁ c₁ e₂ p₂ b₂ c₂ r g)
 
--- ---- the word of an action
-module _ (a : Action) (d : List ℕ) (at : ℕ) (x : Action) (is : a ≡ x) where
-  pub word-cursor : (r : ℕ) → r ≡ cursor_after d at (action_word x) → r ≡ cursor_after d at (action_word a)
-  word-cursor r q = rw is q
-
-  pub word-written : (e : List ℕ) → e ≡ written d at (action_word x) → e ≡ written d at (action_word a)
-  word-written e q = rw is q
-
 -- ---- the whole text
 module _ (q : Asked) (d : List ℕ) (at : ℕ) (e₀ : List ℕ) (p₀ : ℕ) (b₀ : e₀ ≡ written d at (action_name ++ (61 ∷ []))) (c₀ : p₀ ≡ cursor_after d at (action_name ++ (61 ∷ [])))
     (e₁ : List ℕ) (p₁ : ℕ) (b₁ : e₁ ≡ written e₀ p₀ (action_word q.action)) (c₁ : p₁ ≡ cursor_after e₀ p₀ (action_word q.action))
@@ -233,3 +214,11 @@ texts-joined q =
     (pair_if (has_receipt a) receipt_name (decimal q.receipt))
     (pair_if (has_date a) date_name q.date)
     (pair_if (has_reason a) reason_name (decimal q.reason)))
+
+pub ruleset pair_laws = (pair-lacks-cursor, pair-lacks-buffer, pair-cursor, pair-buffer)
+
+pub ruleset account_laws = (account-cursor, account-buffer)
+
+pub ruleset payment_laws = (payment-cursor, payment-buffer)
+
+pub ruleset request_laws = (request-cursor, request-buffer)

@@ -19,19 +19,21 @@ use parameters::action;
 use payments::Action;
 use texts::{digits, out, scan};
 
-// Writes the word of an action.
-fn write_word(a: Action, dst: &mut [u8], at: usize) -> usize
-    ensures { (result ≡ cursor_after dst.old at (action_word a)) × (dst.new ≡ written dst.old at (action_word a)) }
+// The word of an action.
+#[tactic(auto, unfolding(parameters::specs::Names::action_word))]
+fn word(a: Action) -> &'static [u8]
+    ensures { result.now ≡ action_word a }
 {
     match a {
-        Action::Check => out::put_bytes(b"check", dst, at),
-        Action::Payment => out::put_bytes(b"payment", dst, at),
-        Action::Status => out::put_bytes(b"status", dst, at),
-        Action::Cancel => out::put_bytes(b"cancel", dst, at),
+        Action::Check => b"check",
+        Action::Payment => b"payment",
+        Action::Status => b"status",
+        Action::Cancel => b"cancel",
     }
 }
 
 // Writes a name and its value, url-coded, where the action has the field.
+#[tactic(auto, using(crate::proofs::WriteTexts::pair_laws))]
 fn write_pair(used: bool, before: &[u8], value: &[u8], dst: &mut [u8], at: usize) -> usize
     ensures { (result ≡ cursor_all (pair_texts used before.now value.now) dst.old at)
         × (dst.new ≡ buffer_all (pair_texts used before.now value.now) dst.old at) }
@@ -64,37 +66,35 @@ fn amount_pair(used: bool, before: &[u8], kopecks: u64, dst: &mut [u8], at: usiz
 }
 
 // Number, type and amount.
+#[tactic(auto, using(crate::proofs::WriteTexts::account_laws))]
 fn write_account(q: Asked, dst: &mut [u8], at: usize) -> usize
     ensures { (result ≡ cursor_all (account_texts q) dst.old at) × (dst.new ≡ buffer_all (account_texts q) dst.old at) }
 {
-    let a = q.action;
-    let used = action::has_account(a);
-    let n = q.number;
-    let len = n.len;
-    let bytes = n.bytes;
-    let p = write_pair(used, b"&number=", scan::first_bytes(&bytes, len), dst, at);
+    let used = action::has_account(q.action);
+    let number = scan::first_bytes(&q.number.bytes, q.number.len);
+    let p = write_pair(used, b"&number=", number, dst, at);
     let e = digits_pair(used, b"&type=", q.kind, dst, p);
     amount_pair(used, b"&amount=", q.amount, dst, e)
 }
 
 // Receipt, date and reason.
+#[tactic(auto, using(crate::proofs::WriteTexts::payment_laws))]
 fn write_payment(q: Asked, dst: &mut [u8], at: usize) -> usize
     ensures { (result ≡ cursor_all (payment_texts q) dst.old at) × (dst.new ≡ buffer_all (payment_texts q) dst.old at) }
 {
     let a = q.action;
     let p = digits_pair(action::has_receipt(a), b"&receipt=", q.receipt, dst, at);
-    let d = q.date;
-    let e = write_pair(action::has_date(a), b"&date=", &d, dst, p);
+    let e = write_pair(action::has_date(a), b"&date=", &q.date, dst, p);
     digits_pair(action::has_reason(a), b"&mes=", q.reason, dst, e)
 }
 
 // The whole text, piece by piece.
+#[tactic(auto, using(crate::proofs::WriteTexts::request_laws))]
 fn write_texts(q: Asked, dst: &mut [u8], at: usize) -> usize
     ensures { (result ≡ cursor_all (request_texts q) dst.old at) × (dst.new ≡ buffer_all (request_texts q) dst.old at) }
 {
     let p = out::put_bytes(b"action=", dst, at);
-    let a = q.action;
-    let w = write_word(a, dst, p);
+    let w = out::put_bytes(word(q.action), dst, p);
     let e = write_account(q, dst, w);
     write_payment(q, dst, e)
 }
@@ -103,42 +103,23 @@ fn write_texts(q: Asked, dst: &mut [u8], at: usize) -> usize
 fn account_valid(n: Number, kind: u64, kopecks: u64) -> bool
     ensures { result ≡ is_number n && (is_kind kind && is_amount kopecks) }
 {
-    if !n.is_valid() {
-        return false;
-    }
-    if !codes::is_kind(kind) {
-        return false;
-    }
-    amount::is_amount(kopecks)
-}
-
-// A test that counts only where the action has the field.
-fn unless(used: bool, good: bool) -> bool
-    ensures { result ≡ not used || good }
-{
-    if used { good } else { true }
+    n.is_valid() && codes::is_kind(kind) && amount::is_amount(kopecks)
 }
 
 // Whether the fields that the action has are well formed.
+#[tactic(auto, unfolding(message::specs::RequestText::is_asked))]
 pub fn is_asked(q: Asked) -> bool
     ensures { result ≡ is_asked q }
 {
     let a = q.action;
-    if !unless(action::has_receipt(a), codes::is_receipt(q.receipt)) {
-        return false;
-    }
-    let n = q.number;
-    if !unless(action::has_account(a), account_valid(n, q.kind, q.amount)) {
-        return false;
-    }
-    let d = q.date;
-    if !unless(action::has_date(a), date::is_written(d)) {
-        return false;
-    }
-    unless(action::has_reason(a), codes::is_reason(q.reason))
+    (!action::has_receipt(a) || codes::is_receipt(q.receipt))
+        && (!action::has_account(a) || account_valid(q.number, q.kind, q.amount))
+        && (!action::has_date(a) || date::is_written(q.date))
+        && (!action::has_reason(a) || codes::is_reason(q.reason))
 }
 
 // Writes a request at the cursor, where its fields are well formed and it has room.
+#[tactic(auto, using(crate::proofs::WriteLaws::refused_laws))]
 pub fn write_request(q: Asked, dst: &mut [u8], at: usize) -> usize
     ensures { (result ≡ cursor_after dst.old at (request_text q)) × (dst.new ≡ written dst.old at (request_text q)) }
 {

@@ -79,6 +79,7 @@ pub(crate) fn settle_text(
 }
 
 // Settles a day by its registry, or only reports it; a fault keeps all.
+// Rows, gate and code are as `roosteryore_settle` lends and answers them.
 pub fn settle(
     table: &mut Table<'_>,
     gate: Gate,

@@ -3,69 +3,20 @@ use Prim.Native.Nat.{ℕ, zero, suc, ◌+◌, ◌-◌, ◌*◌, ◌≤◌, ◌<�
 use native.Mathlib.Omega.{arith}
 use mathlib.Core.Path.{◌≡◌, refl, sym, ap, ◌∙◌}
 use mathlib.Core.List.{List, [], ◌∷◌}
-use mathlib.Core.Bool.{Bool, true, false, not, ◌&&◌}
+use mathlib.Core.Bool.{◌&&◌}
 use lib.Dec.{eqb}
-use lib.ListN.{length, get_or, drop, set, drop_of_length-le, get_or-eq_default}
+use lib.ListN.{length, get_or, drop, set, drop_of_length-le}
 use lib.Seq.{drop-drop, get_or-drop}
-use borrow.Author.Tests.{le-leb, lt-leb, ne_eqb, not-true, not-false}
+use borrow.Author.Tests.{le-leb, lt-leb}
 use mir.Syntax.{w64}
 use mir.Val.{Fits}
 use Rattle.texts.specs.Lists.{over}
 use Rattle.texts.proofs.ListLaws.{drop-next}
 use Rattle.texts.proofs.OutLaws.{over-step, over_none}
 use Rattle.texts.proofs.Tests.{cond-elim}
-use Rattle.coding.specs.Url.{is_hex, hex_value}
+use Rattle.coding.specs.Url.{is_hex}
 use Rattle.vectors.specs.declared.escape.Unit.{Unit}
-use Rattle.vectors.specs.Escapes.{gives, hex_unit, escaped, unit_of, unit_in, unit_at, unescaped_from, unescaped, unescaped_into, unescaped_count}
-
-pub byte_past : (s : List ℕ) (i : ℕ) → length s ≤ i → 0 ≡ get_or s i 0
-byte_past s i h = sym (get_or-eq_default s 0 h)
-
--- ---- what `\x` gives
-module _ (h l : ℕ) (t : Bool) (et : t ≡ is_hex h) where
-  pub hex-no-high : not t ≡ true → gives 92 1 ≡ hex_unit h l
-  unfolding hex_unit
-  hex-no-high n = rw (← et, not-true t n)
-
-  module _ (u : Bool) (eu : u ≡ is_hex l) (yes : not t ≡ false) where
-    pub hex-no-low : not u ≡ true → gives 92 1 ≡ hex_unit h l
-    unfolding hex_unit
-    hex-no-low n = rw (← et, ← eu, not-false t yes, not-true u n)
-
-    pub hex-both : not u ≡ false → (x y : ℕ) → x ≡ hex_value h → y ≡ hex_value l → gives (x * 16 + y) 4 ≡ hex_unit h l
-    unfolding hex_unit
-    hex-both n x y ex ey = rw (← et, ← eu, not-false t yes, not-false u n, ← ex, ← ey)
-
--- ---- what four bytes give
-module _ (b c h l : ℕ) where
-  pub unit-plain : (b ≡ 92 → ⊥) → gives b 1 ≡ unit_of b c h l
-  unfolding unit_of
-  unit-plain n = rw (ne_eqb _ _ n)
-
-  module _ (e : b ≡ 92) where
-    pub unit-tab : c ≡ 116 → gives 9 2 ≡ unit_of b c h l
-    unfolding unit_of escaped
-    unit-tab k = rw (e, k)
-
-    pub unit-return : c ≡ 114 → gives 13 2 ≡ unit_of b c h l
-    unfolding unit_of escaped
-    unit-return k = rw (e, k)
-
-    pub unit-line : c ≡ 110 → gives 10 2 ≡ unit_of b c h l
-    unfolding unit_of escaped
-    unit-line k = rw (e, k)
-
-    pub unit-back : c ≡ 92 → gives 92 2 ≡ unit_of b c h l
-    unfolding unit_of escaped
-    unit-back k = rw (e, k)
-
-    pub unit-hex : c ≡ 120 → (u : Unit) → u ≡ hex_unit h l → u ≡ unit_of b c h l
-    unfolding unit_of escaped
-    unit-hex k u eu = eu ∙ rw (e, k)
-
-    pub unit-other : (c ≡ 116 → ⊥) → (c ≡ 114 → ⊥) → (c ≡ 110 → ⊥) → (c ≡ 92 → ⊥) → (c ≡ 120 → ⊥) → gives 92 1 ≡ unit_of b c h l
-    unfolding unit_of escaped
-    unit-other n1 n2 n3 n4 n5 = rw (e, ne_eqb _ _ n1, ne_eqb _ _ n2, ne_eqb _ _ n3, ne_eqb _ _ n4, ne_eqb _ _ n5)
+use Rattle.vectors.specs.Escapes.{hex_unit, escaped, unit_of, unit_in, unit_at, unescaped_from, unescaped, unescaped_into, unescaped_count}
 
 -- from one byte to four
 abbrev Wide : Unit → Type 0
@@ -88,10 +39,6 @@ unfolding unescaped_from
 from-drop zero s = refl
 from-drop (suc k) [] = refl
 from-drop (suc k) (b ∷ s) = from-drop k s
-
-pub unit-in : (s : List ℕ) (i c x y : ℕ) (u : Unit) → c ≡ get_or s (i + 1) 0 → x ≡ get_or s (i + 2) 0 → y ≡ get_or s (i + 3) 0 → u ≡ unit_of (get_or s i 0) c x y → u ≡ unit_in s i
-unfolding unit_in
-unit-in s i c x y u ec ex ey eu = eu ∙ rw (ec, ex, ey)
 
 module _ (s : List ℕ) (i : ℕ) (h : i < length s) (u : Unit) (eu : u ≡ unit_in s i) where
   wide : Wide u

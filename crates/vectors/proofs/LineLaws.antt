@@ -9,11 +9,12 @@ use mathlib.Core.List.{List, [], ◌∷◌}
 use mathlib.Core.Bool.{Bool, true, false, cond}
 use mir.Syntax.{w64}
 use mir.Val.{Fits}
-use lib.Dec.{ltb, leb, eqb}
+use lib.Dec.{leb, eqb}
 use lib.ListN.{length, take, drop, get_or, length-drop}
 use lib.Seq.{length-take-le, take_all, drop-drop}
-use borrow.Author.Tests.{lt-ltb, le-ltb, le-leb, lt-leb}
+use borrow.Author.Tests.{eqb-true, le-leb, lt-leb}
 use Rattle.texts.specs.Lists.{find, eq_list}
+use Rattle.texts.proofs.Tests.{no-claim}
 use Rattle.texts.proofs.ScanLaws.{find-le}
 use Rattle.coding.proofs.ParamLaws.{split-first, split-last}
 use Rattle.vectors.specs.Lines.{is_heading, place_of, spaced}
@@ -26,15 +27,15 @@ pub part-size : {A : Type 0} (d : List A) (n k : ℕ) → length d ≡ k → n �
 part-size d n k l h = rows-size d n (omega arith)
 
 -- ---- headings
-pub heading-none : (s : List ℕ) → length s ≡ 0 → true ≡ is_heading s
+pub heading_none : (s : List ℕ) (t : Bool) → t ≡ eqb (length s) 0 → t ≡ true → t ≡ is_heading s
 unfolding is_heading
-heading-none [] h = refl
-heading-none (b ∷ s) h = absurd (omega arith)
+heading_none [] t e h = h
+heading_none (b ∷ s) t e h = absurd (omega (arith, eqb-true _ _ (sym e ∙ h)))
 
-pub heading-first : (s : List ℕ) → (length s ≡ 0 → ⊥) → eqb (get_or s 0 0) 35 ≡ is_heading s
+pub heading_first : (s : List ℕ) (t : Bool) → t ≡ eqb (length s) 0 → t ≡ false → eqb (get_or s 0 0) 35 ≡ is_heading s
 unfolding is_heading
-heading-first [] h = absurd (h refl)
-heading-first (b ∷ s) h = refl
+heading_first [] t e h = no-claim (sym h ∙ e)
+heading_first (b ∷ s) t e h = refl
 
 -- ---- words by their place: what is left from a place on gives the rest of the count
 abbrev pub words_from : ℕ → List ℕ → List (List ℕ)
@@ -93,14 +94,3 @@ module _ (s w : List ℕ) where
 
 pub place-fits : (s : List ℕ) (at i : ℕ) → at ≤ length s → i ≤ at → length s * 1 < 2 ^ 63 → Fits w64 (i + 1)
 place-fits s at i h b l = omega arith
-
--- ---- the lesser of two
-module _ (a b : ℕ) where
-  pub least_first : a < b → a ≡ cond (ltb a b) a b
-  least_first h = rw (lt-ltb _ _ h)
-
-  pub least-second : b ≤ a → b ≡ cond (ltb a b) a b
-  least-second h = rw (le-ltb _ _ h)
-
-  pub least-inside : a < b → a ≤ b
-  least-inside h = omega arith

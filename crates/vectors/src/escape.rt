@@ -15,55 +15,48 @@ pub(crate) struct Unit {
 fn byte_at(s: &[u8], i: usize) -> u8
     ensures { result ≡ get_or s.now i 0 }
 {
-    if i < s.len() { s[i] } else { 0 }
+    s.get(i).copied().unwrap_or(0)
 }
 
 // What `\x` and two bytes behind it give.
+#[tactic(auto, unfolding(crate::specs::Escapes::hex_unit), using(coding::proofs::UnitLaws::high_fits, coding::proofs::UnitLaws::pair_fits))]
 fn hex_unit(h: u8, l: u8) -> Unit
     ensures { result ≡ hex_unit h l }
 {
-    if !url::is_hex(h) {
-        return Unit {
+    if url::is_hex(h) && url::is_hex(l) {
+        Unit {
+            byte: url::hex_value(h) * 16 + url::hex_value(l),
+            width: 4,
+        }
+    } else {
+        Unit {
             byte: b'\\',
             width: 1,
-        };
-    }
-    if !url::is_hex(l) {
-        return Unit {
-            byte: b'\\',
-            width: 1,
-        };
-    }
-    Unit {
-        byte: url::hex_value(h) * 16 + url::hex_value(l),
-        width: 4,
+        }
     }
 }
 
 // What the first of four bytes gives.
+#[tactic(auto, unfolding(crate::specs::Escapes::unit_of, crate::specs::Escapes::escaped))]
 fn unit_of(b: u8, c: u8, h: u8, l: u8) -> Unit
     ensures { result ≡ unit_of b c h l }
 {
     if b != b'\\' {
         return Unit { byte: b, width: 1 };
     }
-    match c {
-        b't' => Unit { byte: 9, width: 2 },
-        b'r' => Unit { byte: 13, width: 2 },
-        b'n' => Unit { byte: 10, width: 2 },
-        b'\\' => Unit {
-            byte: b'\\',
-            width: 2,
-        },
-        b'x' => hex_unit(h, l),
-        _ => Unit {
-            byte: b'\\',
-            width: 1,
-        },
-    }
+    let byte = match c {
+        b't' => b'\t',
+        b'r' => b'\r',
+        b'n' => b'\n',
+        b'\\' => b'\\',
+        b'x' => return hex_unit(h, l),
+        _ => return Unit { byte: b, width: 1 },
+    };
+    Unit { byte, width: 2 }
 }
 
 // What the byte at i gives.
+#[tactic(auto, unfolding(crate::specs::Escapes::unit_in))]
 fn unit_at(s: &[u8], i: usize) -> Unit
     requires { i < length s.now }
     ensures { result ≡ unit_in s.now i }

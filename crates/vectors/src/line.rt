@@ -8,10 +8,7 @@ use texts::scan;
 pub fn is_heading(line: &[u8]) -> bool
     ensures { result ≡ is_heading line.now }
 {
-    if line.len() == 0 {
-        return true;
-    }
-    line[0] == b'#'
+    line.is_empty() || line[0] == b'#'
 }
 
 // The place of a word among others that one space splits, or their number where it is none of them.
@@ -36,5 +33,5 @@ pub fn place(word: &[u8], words: &[u8]) -> usize
 pub fn least(a: usize, b: usize) -> usize
     ensures { (result ≡ cond (ltb a b) a b) × (result ≤ b) }
 {
-    if a < b { a } else { b }
+    a.min(b)
 }

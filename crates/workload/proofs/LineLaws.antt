@@ -1,51 +1,26 @@
 -- Laws of a step and its line.
-use Prim.Native.Nat.{ℕ, ◌%◌, ◌≤◌, ◌<◌}
+use Prim.Native.Nat.{ℕ, ◌≤◌}
 use native.Mathlib.Omega.{arith}
 use mathlib.Core.Path.{◌≡◌, ◌∙◌}
 use mathlib.Core.List.{List, [], ◌∷◌, ◌++◌, append_assoc}
 use lib.ListN.{length, take, length-append, length-take}
-use borrow.Author.Tests.{lt-ltb, le-ltb}
 use Rattle.texts.specs.Lists.{written, cursor_after}
 use Rattle.texts.specs.Digits.{decimal}
 use Rattle.texts.proofs.Tests.{cond-elim}
 use Rattle.fields.specs.declared.number.Number.{Number}
 use Rattle.fields.specs.Number.{number_text}
 use Rattle.payments.specs.declared.Action.{Action}
-use Rattle.payments.specs.declared.Action.TheVariants.{Payment, Status, Cancel}
 use Rattle.message.specs.declared.request.Asked.{Asked}
 use Rattle.message.specs.RequestText.{is_asked, request_bytes, request_text}
 use Rattle.message.proofs.RequestAgain.{request-length}
 use Rattle.request_writer.specs.Writes.{buffer_all, cursor_all, joined}
-use Rattle.request_writer.proofs.WriteTexts.{texts-there, three-buffer, three-cursor, decimal-twenty}
+use Rattle.request_writer.proofs.WriteTexts.{then-cursor, then-buffer, texts-there, three-buffer, three-cursor, decimal-twenty}
 use Rattle.generator.specs.declared.Rolls.{Rolls}
 use Rattle.workload.specs.declared.given.AccountName.{AccountName}
 use Rattle.workload.specs.declared.line.Step.{Step}
 use Rattle.workload.specs.declared.line.Step.TheVariants.{Asks, Draws}
-use Rattle.workload.specs.Lines.{step_of, receipt_of, kopecks_of, asked_of, step_text}
+use Rattle.workload.specs.Lines.{step_of, kopecks_of, asked_of, step_text}
 use Rattle.workload.specs.LineWalk.{space, line_end, head_texts, figure_texts, ask_texts, draw_texts, step_texts}
-
--- ---- the step that a roll picks
-module _ (roll : ℕ) where
-  pub picks-payment : roll % 8 < 4 → Asks Payment ≡ step_of roll
-  unfolding step_of
-  picks-payment h = rw (lt-ltb _ _ h)
-
-  pub picks-status : 4 ≤ roll % 8 → roll % 8 < 6 → Asks Status ≡ step_of roll
-  unfolding step_of
-  picks-status h k = rw (le-ltb _ _ h, lt-ltb _ _ k)
-
-  pub picks-cancel : 6 ≤ roll % 8 → roll % 8 < 7 → Asks Cancel ≡ step_of roll
-  unfolding step_of
-  picks-cancel h k =
-      let four : 4 ≤ roll % 8 = omega arith in
-      rw (le-ltb _ _ four, le-ltb _ _ h, lt-ltb _ _ k)
-
-  pub picks-draw : 7 ≤ roll % 8 → Draws ≡ step_of roll
-  unfolding step_of
-  picks-draw h =
-      let four : 4 ≤ roll % 8 = omega arith in
-      let six : 6 ≤ roll % 8 = omega arith in
-      rw (le-ltb _ _ four, le-ltb _ _ six, le-ltb _ _ h)
 
 -- ---- one text after another
 module _ (x y : List ℕ) (d : List ℕ) (at : ℕ) (e : List ℕ) (p : ℕ) (eb : e ≡ written d at x) (ep : p ≡ cursor_after d at x) where
@@ -92,12 +67,6 @@ module _ (n : Number) (kind kopecks : ℕ) (d : List ℕ) (at : ℕ) (v : List �
 
 -- ---- a step's request and texts
 module _ (date : List ℕ) (reason : ℕ) (a : AccountName) (r : Rolls) where
-  pub asked_is : (action : Action) (amount receipt : ℕ) → amount ≡ kopecks_of r → receipt ≡ receipt_of r
-      → record { action = action; number = a.number; kind = a.kind; amount = amount; receipt = receipt; date = date; reason = reason }
-      ≡ asked_of date reason a r action
-  unfolding asked_of
-  asked_is action amount receipt e f = rw (e, f)
-
   module _ (s : Step) (is : s ≡ step_of r.step) (d : List ℕ) (at : ℕ) where
     module _ (action : Action) (asks : s ≡ Asks action) (q : Asked) (eq : q ≡ asked_of date reason a r action) where
       pub asks-cursor : (e : ℕ) → e ≡ cursor_all (ask_texts date q) d at → e ≡ cursor_all (step_texts date reason a r (step_of r.step)) d at
@@ -150,3 +119,13 @@ module _ (date : List ℕ) (reason : ℕ) (a : AccountName) (r : Rolls) (dated :
 
     pub line-written : (e : List ℕ) → e ≡ written d at v → e ≡ written d at (step_text date reason a r (step_of r.step) ++ (10 ∷ []))
     line-written e g = g ∙ rw text-is
+
+pub ruleset write_head_laws = (head-cursor, head-buffer)
+
+pub ruleset write_ask_laws = (then-cursor, then-buffer, two-cursor, two-buffer)
+
+pub ruleset write_figure_laws = (figure-cursor, figure-buffer)
+
+pub ruleset write_draw_laws = (draw-cursor, draw-buffer)
+
+pub ruleset write_step_laws = (draws-cursor, draws-buffer)

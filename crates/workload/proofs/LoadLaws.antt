@@ -4,20 +4,19 @@ use native.Mathlib.Nat.{mod-lt, sub-zero, add-zero, zero-add, suc-add, add_assoc
 use native.Mathlib.Omega.{arith}
 use mathlib.Core.Path.{◌≡◌, refl, sym, ap, ◌∙◌}
 use mathlib.Core.List.{List, [], ◌∷◌, ◌++◌, append_assoc, append-nil}
-use mathlib.Core.Bool.{Bool, true, false, not}
 use lib.Dec.{leb}
 use lib.ListN.{length, length-append}
-use borrow.Author.Tests.{le-leb, lt-leb, leb-true, leb-false, not-true, not-false}
+use borrow.Author.Tests.{le-leb, lt-leb, leb-true, leb-false}
 use Rattle.texts.specs.Lists.{over, written, cursor_after}
 use Rattle.texts.proofs.Tests.{by-test, cond-le, cond-elim}
-use Rattle.texts.proofs.OutLaws.{over_none, over-length, over-over, cursor-stays, cursor-moves, buffer-stays, written_over, written-length}
+use Rattle.texts.proofs.OutLaws.{over_none, over-length, over-over, cursor-stays, cursor-moves, buffer-stays, written_over}
 use Rattle.generator.specs.declared.Rolls.{Rolls}
 use Rattle.generator.specs.Generator.{value_after, rolls_from}
 use Rattle.workload.specs.declared.given.AccountName.{AccountName}
 use Rattle.workload.specs.declared.load.Written.{Written}
 use Rattle.workload.specs.Given.{Load, load_of, account_at, is_load, GoodLoad}
 use Rattle.workload.specs.Lines.{step_of, step_text, line_after}
-use Rattle.workload.specs.Load.{after_steps, lines_from, steps_within, Filled, filled_of, filled_by, not_filled, write_steps, write_load}
+use Rattle.workload.specs.Load.{after_steps, lines_from, steps_within, Filled, filled_of, filled_by, not_filled, write_steps}
 use Rattle.workload.proofs.GivenLaws.{has-names}
 
 -- ---- steps one after the other
@@ -114,8 +113,11 @@ module _ (l : Load) (start most : ℕ) (d₀ d : List ℕ) (value at steps : ℕ
       rw (n, is, g.held, g.next, g.size)
 
   pub all-written : most ≤ steps
-      → record { code = 0; size = at; steps = steps; next = value; buffer = d } ≡ filled_by l start d₀ (steps_within l most (length d₀) start)
-  all-written h = stops (none_left l (length d₀ - at) value (most - steps) (omega arith)) d refl
+      → record { code = 0; size = at; steps = most; next = value; buffer = d } ≡ filled_by l start d₀ (steps_within l most (length d₀) start)
+  all-written h =
+      let all : most ≡ steps = omega (arith, g.few, h) in
+      ap (λ (k : ℕ). record { code = 0; size = at; steps = k; next = value; buffer = d }) all
+      ∙ stops (none_left l (length d₀ - at) value (most - steps) (omega arith)) d refl
 
   -- the next line, where it has room and where it has not
   module _ (below : steps < most) (r : Rolls) (er : r ≡ rolls_from value) (a : AccountName) (ea : a ≡ account_at l.names l.keys (r.account % length l.names))
@@ -146,9 +148,6 @@ module _ (l : Load) (start most : ℕ) (d₀ d : List ℕ) (value at steps : ℕ
     stops-here h =
         let n = no_room h in
         stops (none-fits l (length d₀ - at) value (most - steps) (omega (arith, n, same_size, g.fits))) x (buffer-is ∙ sym (buffer-stays d at (line_after l value) n))
-
-    pub kept_here : length x ≡ length d₀
-    kept_here = rw buffer-is (written-length d at (line_after l value)) ∙ same_size
 
     rolls-next : r.next ≡ value_after 4 value
     unfolding rolls_from
@@ -190,23 +189,6 @@ module _ (l : Load) (start most : ℕ) (d₀ d : List ℕ) (value at steps : ℕ
             rest = g.rest ∙ ap (λ (k : ℕ). steps + k) rest_more ∙ sym (add_assoc steps 1 (steps_within l (most - (steps + 1)) (length d₀ - e) r.next));
           }
 
--- ---- the call
-module _ (l : Load) (most start : ℕ) (d : List ℕ) (t : Bool) (e : t ≡ is_load l) where
-  pub load-refused : not t ≡ true → record { code = 60; size = 0; steps = 0; next = start; buffer = d } ≡ write_steps l most start d
-  unfolding write_steps
-  load-refused h = rw (← e, not-true t h)
-
-  pub load-written : not t ≡ false → (r : Filled) → r ≡ filled_by l start d (steps_within l most (length d) start) → r ≡ write_steps l most start d
-  unfolding write_steps
-  load-written h r q = q ∙ rw (← e, not-false t h)
-
-  pub load-facts : not t ≡ false → (t ≡ true → GoodLoad l) → GoodLoad l
-  load-facts h f = f (not-false t h)
-
-pub load-is-all : (l : Load) (start : ℕ) (d : List ℕ) (r : Filled) → r ≡ write_steps l (length d) start d → r ≡ write_load l start d
-unfolding write_load
-load-is-all l start d r q = q
-
 -- no more steps than asked for
 pub within-few : (l : Load) (most room v : ℕ) → steps_within l most room v ≤ most
 unfolding steps_within
@@ -219,3 +201,5 @@ unfolding write_steps
 steps-few l most v d e w q =
     rw (ap (λ (f : Filled). f.steps) q)
     (cond-elim (λ (f : Filled). f.steps ≤ most) (is_load l) (filled_by l v d (steps_within l most (length d) v)) (not_filled v d) (λ _. within-few l most (length d) v) (λ _. omega arith))
+
+pub ruleset fill_laws = (some-names, picked-name, picked-key)

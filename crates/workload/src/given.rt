@@ -22,59 +22,45 @@ pub(crate) fn account_at(names: &[[u8; 30]], keys: &[[u64; 2]], i: usize) -> Acc
     requires { (i < length names.now) × (i < length keys.now) }
     ensures { result ≡ account_at names.now keys.now i }
 {
-    let w = keys[i];
+    let [len, kind] = keys[i];
     let number = Number {
         bytes: names[i],
-        len: w[0] as usize,
+        len: len as usize,
     };
-    AccountName { number, kind: w[1] }
+    AccountName { number, kind }
 }
 
 // Whether number and type are well formed.
+#[tactic(auto, unfolding(crate::specs::Given::is_account_name))]
 fn is_account_name(a: AccountName) -> bool
     ensures { result ≡ is_account_name a }
 {
-    let n = a.number;
-    if !n.is_valid() {
-        return false;
-    }
-    codes::is_kind(a.kind)
+    a.number.is_valid() && codes::is_kind(a.kind)
 }
 
 // Whether each account is well formed.
+#[tactic(auto, using(crate::proofs::GivenLaws::accounts_good_laws))]
 fn accounts_good(names: &[[u8; 30]], keys: &[[u64; 2]]) -> bool
     requires { length keys.now ≡ length names.now }
     ensures { result ≡ all_from (λ i a. is_account_name a) 0 (accounts_of names.now keys.now) }
 {
-    let mut i: usize = 0;
-    while i < names.len() {
+    for i in 0..names.len() {
         if !is_account_name(account_at(names, keys, i)) {
             return false;
         }
-        i += 1;
     }
     true
 }
 
 // Whether date, reason and accounts are well formed, and the accounts 1 to 256.
+#[tactic(auto, using(crate::proofs::GivenLaws::is_load_laws), unfolding(crate::specs::Given::is_load))]
 pub(crate) fn is_load(names: &[[u8; 30]], keys: &[[u64; 2]], date: [u8; 19], reason: u64) -> bool
     ensures value { result ≡ is_load (load_of date reason names.now keys.now) }
     ensures good_load { result ≡ true → GoodLoad (load_of date reason names.now keys.now) }
 {
-    if !date::is_written(date) {
-        return false;
-    }
-    if !codes::is_reason(reason) {
-        return false;
-    }
-    if names.len() < 1 {
-        return false;
-    }
-    if ACCOUNTS_MOST < names.len() {
-        return false;
-    }
-    if keys.len() != names.len() {
-        return false;
-    }
-    accounts_good(names, keys)
+    date::is_written(date)
+        && codes::is_reason(reason)
+        && (1..=ACCOUNTS_MOST).contains(&names.len())
+        && keys.len() == names.len()
+        && accounts_good(names, keys)
 }

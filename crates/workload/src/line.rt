@@ -21,20 +21,16 @@ pub enum Step {
 }
 
 // The step that a roll picks.
+#[tactic(auto, unfolding(crate::specs::Lines::step_of))]
 fn step_of(roll: u64) -> Step
     ensures { result ≡ step_of roll }
 {
-    let n = roll % 8;
-    if n < 4 {
-        return Step::Asks(Action::Payment);
+    match roll % 8 {
+        0..=3 => Step::Asks(Action::Payment),
+        4 | 5 => Step::Asks(Action::Status),
+        6 => Step::Asks(Action::Cancel),
+        _ => Step::Draws,
     }
-    if n < 6 {
-        return Step::Asks(Action::Status);
-    }
-    if n < 7 {
-        return Step::Asks(Action::Cancel);
-    }
-    Step::Draws
 }
 
 fn receipt_of(r: Rolls) -> u64
@@ -50,14 +46,15 @@ fn kopecks_of(r: Rolls) -> u64
 }
 
 // The request of a step.
+#[tactic(auto, unfolding(crate::specs::Lines::asked_of))]
 fn asked_of(date: [u8; 19], reason: u64, a: AccountName, r: Rolls, action: Action) -> Asked
     ensures { result ≡ asked_of date reason a r action }
 {
-    let number = a.number;
+    let AccountName { number, kind } = a;
     Asked {
         action,
         number,
-        kind: a.kind,
+        kind,
         amount: kopecks_of(r),
         receipt: receipt_of(r),
         date,
@@ -66,6 +63,7 @@ fn asked_of(date: [u8; 19], reason: u64, a: AccountName, r: Rolls, action: Actio
 }
 
 // A letter, a field and a space.
+#[tactic(auto, using(crate::proofs::LineLaws::write_head_laws))]
 fn write_head(letter: &[u8], field: &[u8], dst: &mut [u8], at: usize) -> usize
     ensures { (result ≡ cursor_all (head_texts letter.now field.now) dst.old at)
         × (dst.new ≡ buffer_all (head_texts letter.now field.now) dst.old at) }
@@ -76,6 +74,7 @@ fn write_head(letter: &[u8], field: &[u8], dst: &mut [u8], at: usize) -> usize
 }
 
 // R, the clock and the parameters.
+#[tactic(auto, using(crate::proofs::LineLaws::write_ask_laws))]
 fn write_ask(clock: [u8; 19], q: Asked, dst: &mut [u8], at: usize) -> usize
     ensures { (result ≡ cursor_all (ask_texts clock q) dst.old at) × (dst.new ≡ buffer_all (ask_texts clock q) dst.old at) }
 {
@@ -85,6 +84,7 @@ fn write_ask(clock: [u8; 19], q: Asked, dst: &mut [u8], at: usize) -> usize
 }
 
 // A number's digits, and what ends them.
+#[tactic(auto, using(crate::proofs::LineLaws::write_figure_laws))]
 fn write_figure(n: u64, end: &[u8], dst: &mut [u8], at: usize) -> usize
     ensures { (result ≡ cursor_all (figure_texts n end.now) dst.old at) × (dst.new ≡ buffer_all (figure_texts n end.now) dst.old at) }
 {
@@ -93,17 +93,17 @@ fn write_figure(n: u64, end: &[u8], dst: &mut [u8], at: usize) -> usize
 }
 
 // D, the number, the type and the kopecks.
+#[tactic(auto, using(crate::proofs::LineLaws::write_draw_laws))]
 fn write_draw(n: Number, kind: u64, kopecks: u64, dst: &mut [u8], at: usize) -> usize
     ensures { (result ≡ cursor_all (draw_texts n kind kopecks) dst.old at) × (dst.new ≡ buffer_all (draw_texts n kind kopecks) dst.old at) }
 {
-    let len = n.len;
-    let bytes = n.bytes;
-    let p = write_head(b"D ", scan::first_bytes(&bytes, len), dst, at);
+    let p = write_head(b"D ", scan::first_bytes(&n.bytes, n.len), dst, at);
     let e = write_figure(kind, b" ", dst, p);
     write_figure(kopecks, b"\n", dst, e)
 }
 
 // A step's line, text by text.
+#[tactic(auto, using(crate::proofs::LineLaws::write_step_laws))]
 fn write_step(
     date: [u8; 19],
     reason: u64,
@@ -115,13 +115,9 @@ fn write_step(
     ensures { (result ≡ cursor_all (step_texts date reason a r (step_of r.step)) dst.old at)
         × (dst.new ≡ buffer_all (step_texts date reason a r (step_of r.step)) dst.old at) }
 {
-    let step = step_of(r.step);
-    match step {
+    match step_of(r.step) {
         Step::Asks(action) => write_ask(date, asked_of(date, reason, a, r, action), dst, at),
-        Step::Draws => {
-            let n = a.number;
-            write_draw(n, a.kind, kopecks_of(r), dst, at)
-        }
+        Step::Draws => write_draw(a.number, a.kind, kopecks_of(r), dst, at),
     }
 }
 

@@ -5,7 +5,7 @@ ghost use Rattle.workload.specs.Load.{steps_within, filled_of, filled_by, write_
 
 use crate::{given, line};
 
-// What a call wrote: its code, how many bytes and steps, and the value that a second call goes on from.
+// What a call wrote: its code, how many bytes and steps, and the value that a second call goes on from. A malformed load (60) tells its start too.
 #[derive(Clone, Copy)]
 pub struct Written {
     pub code: u64,
@@ -15,6 +15,7 @@ pub struct Written {
 }
 
 // Writes the lines of a load that is well formed, until so many are written or one does not fit.
+#[tactic(auto, using(crate::proofs::LoadLaws::fill_laws))]
 fn fill(
     names: &[[u8; 30]],
     keys: &[[u64; 2]],
@@ -31,8 +32,7 @@ fn fill(
     let count = names.len() as u64;
     let mut value = start;
     let mut at: usize = 0;
-    let mut steps: u64 = 0;
-    while steps < most {
+    for steps in 0..most {
         let r = generator::rolls_from(value);
         let a = given::account_at(names, keys, (r.account % count) as usize);
         let e = line::write_line(date, reason, a, r, dst, at);
@@ -46,17 +46,17 @@ fn fill(
         }
         value = r.next;
         at = e;
-        steps += 1;
     }
     Written {
         code: 0,
         size: at,
-        steps,
+        steps: most,
         next: value,
     }
 }
 
 // Writes the first steps of a load, at most so many.
+#[tactic(auto, unfolding(crate::specs::Load::write_steps))]
 pub fn write_steps(
     names: &[[u8; 30]],
     keys: &[[u64; 2]],
@@ -80,6 +80,7 @@ pub fn write_steps(
 }
 
 // Writes all the steps of a load that the buffer holds.
+#[tactic(auto, unfolding(crate::specs::Load::write_load))]
 pub fn write_load(
     names: &[[u8; 30]],
     keys: &[[u64; 2]],

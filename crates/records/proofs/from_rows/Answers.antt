@@ -1,11 +1,11 @@
-use Rattle.std.proofs.Common.{refl, arith, add-one}
+use Rattle.std.proofs.Common.{refl, add-one}
 use Rattle.records.specs.Copying.{restored}
 use Rattle.records.proofs.from_rows.Goals as goal
 
 pub loop-i-init : goal.loop-i-init
 unfolding restored
-loop-i-init c = (omega arith, refl)
+loop-i-init c = refl
 
 pub loop-i-preserved : goal.loop-i-preserved
 unfolding restored
-loop-i-preserved c = (omega arith, rw (add-one, c.get.ensures, ← c.loop-i.invariant.1))
+loop-i-preserved c = rw (add-one, c.get.ensures, ← c.loop-i.invariant)

@@ -1,10 +1,7 @@
-use Rattle.std.proofs.Common.{◌-◌, ◌≡◌, ◌≤◌}
+use Rattle.std.proofs.Common.{◌≡◌}
 use Rattle.table.specs.Lent.{lent}
 use Rattle.records.specs.Copying.{restored}
 use Rattle.records.proofs.from_rows.Given as goal
 
 abbrev pub invariant-loop-i : goal.invariant-loop-i
-invariant-loop-i l = (l.i ≤ l.n) × (l.records ≡ restored l.initial.records l.i (lent l.nums l.numbers l.dates))
-
-abbrev pub decreases-loop-i : goal.decreases-loop-i
-decreases-loop-i l = l.n - l.i
+invariant-loop-i l = l.records ≡ restored l.initial.records l.i (lent l.nums l.numbers l.dates)

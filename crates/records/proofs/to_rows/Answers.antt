@@ -7,15 +7,13 @@ use Rattle.records.proofs.to_rows.Goals as goal
 
 pub loop-i-init : goal.loop-i-init
 unfolding filled
-loop-i-init c = (omega arith, refl)
+loop-i-init c = refl
 
 pub loop-i-preserved : goal.loop-i-preserved
 unfolding filled
 loop-i-preserved c =
     let i = c.loop-i.i in
     let t : Rows = lent c.loop-i.nums c.loop-i.numbers c.loop-i.dates in
-    let within : i < length c.args.records.now = omega arith in (
-      omega arith,
-      rw add-one (c.put.ensures ∙ ap (rows_with t i) (get_or_default c.args.records.now i _ no_record within)
-          ∙ ap (λ (w : Rows). rows_with w i (get_or c.args.records.now i no_record)) c.loop-i.invariant.1),
-    )
+    let within : i < length c.args.records.now = omega arith in
+    rw add-one (c.put.ensures ∙ ap (rows_with t i) (get_or_default c.args.records.now i _ no_record within)
+    ∙ ap (λ (w : Rows). rows_with w i (get_or c.args.records.now i no_record)) c.loop-i.invariant)
