@@ -7,7 +7,7 @@ use mathlib.Core.Bool.{Bool, true, false, cond, not, ◌&&◌, ◌||◌, and-tru
 use lib.Dec.{eqb, leb}
 use lib.ListN.{length, get_or, take, drop, set, length-append, length-drop, drop_of_length-le}
 use lib.Seq.{drop-drop, take-append_seam}
-use borrow.Author.Tests.{le-leb, lt-leb, eq-eqb, ne_eqb, leb-true, not-true, not-false}
+use borrow.Author.Tests.{le-leb, lt-leb, eq-eqb, ne_eqb, leb-true}
 use mir.Syntax.{w64}
 use mir.Val.{Fits}
 use Rattle.std.specs.List.{list_any}
@@ -139,11 +139,11 @@ module _ (s : List ℕ) (i : ℕ) (h : i < length s) (u : Unit) (eu : u ≡ unit
   decoded-pass = decoded-unit (drop i s) left ∙ rw (← eu, drop-drop u.len i s)
 
   module _ (passed : well_coded s ≡ well_coded (drop i s)) where
-    pub well-step : not u.good ≡ false → well_coded s ≡ well_coded (drop (i + u.len) s)
-    well-step g = passed ∙ well-pass ∙ rw (not-false u.good g)
+    pub well-step : u.good ≡ true → well_coded s ≡ well_coded (drop (i + u.len) s)
+    well-step g = passed ∙ well-pass ∙ rw g
 
-    pub well-fails : not u.good ≡ true → false ≡ well_coded s
-    well-fails g = sym (passed ∙ well-pass ∙ rw (not-true u.good g))
+    pub well-fails : u.good ≡ false → false ≡ well_coded s
+    well-fails g = sym (passed ∙ well-pass ∙ rw g)
 
   module _ (j : ℕ) where
     pub unit-behind : j ≤ i → j + 1 ≤ i + u.len

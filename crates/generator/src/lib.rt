@@ -41,6 +41,7 @@ pub fn roll_of(v: u64) -> u64
 }
 
 // Four values after v are the rolls of a step, whatever it uses of them.
+#[tactic(auto, unfolding(crate::specs::Generator::rolls_from, crate::specs::Generator::value_after))]
 pub fn rolls_from(v: u64) -> Rolls
     ensures { result ≡ rolls_from v }
 {

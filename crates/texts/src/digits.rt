@@ -10,7 +10,7 @@ fn more_fits(value: u64, d: u64) -> bool
     requires { d < 10 }
     ensures { result ≡ ltb (value * 10 + d) (2 ^ 64) }
 {
-    value < 1844674407370955161 || value <= (u64::MAX - d) / 10
+    value < u64::MAX / 10 || value <= (u64::MAX - d) / 10
 }
 
 // The value of a field of 1 to `most` digits that fits 64 bits.

@@ -1,8 +1,7 @@
 -- Laws of headings, of words by their place, and of a part of a row.
-use Prim.Native.Nat.{ℕ, suc, ◌+◌, ◌-◌, ◌*◌, ◌≤◌, ◌<◌, ◌^◌}
+use Prim.Native.Nat.{ℕ, suc, ◌+◌, ◌*◌, ◌≤◌, ◌<◌, ◌^◌}
 use native.Mathlib.Omega.{arith}
 use native.Mathlib.Numerals.{add-one}
-use native.Mathlib.Nat.{zero-add}
 use native.Mathlib.Decide.{ℕ_discrete}
 use mathlib.Core.Path.{◌≡◌, refl, sym, ap, ◌∙◌}
 use mathlib.Core.List.{List, [], ◌∷◌}
@@ -54,9 +53,6 @@ module _ (s : List ℕ) (at p : ℕ) (h : at ≤ length s) (rest : List ℕ) (er
   pub word_fits : length s * 1 < 2 ^ 63 → Fits w64 (at + (p + 1))
   word_fits b = omega (arith, word-inside)
 
-  pub place-falls : (length s + 1) - (at + (p + 1)) < (length s + 1) - at
-  place-falls = omega arith
-
   pub place-below : (i : ℕ) → i ≤ at → i + 1 ≤ at + (p + 1)
   place-below i b = omega arith
 
@@ -85,12 +81,6 @@ module _ (s : List ℕ) (at p : ℕ) (h : at ≤ length s) (rest : List ℕ) (er
     word-passed b eb t = left ∙ rw (words-next, ← ex, ← eb, t) (omega arith)
 
 module _ (s w : List ℕ) where
-  pub words-start : place_of w (spaced s) ≡ 0 + place_of w (words_from 0 s)
-  words-start = rw (zero-add, le-leb 0 (length s) (omega arith))
-
   pub words-done : (at i : ℕ) → place_of w (spaced s) ≡ i + place_of w (words_from at s) → length s < at → i ≡ place_of w (spaced s)
   unfolding place_of
   words-done at i left h = sym (left ∙ rw (lt-leb _ _ h) (omega arith))
-
-pub place-fits : (s : List ℕ) (at i : ℕ) → at ≤ length s → i ≤ at → length s * 1 < 2 ^ 63 → Fits w64 (i + 1)
-place-fits s at i h b l = omega arith
