@@ -6,18 +6,18 @@ use Rattle.std.proofs.lemmas.List.Recursion.{is_position_or_len}
 use Prim.Native.Nat.{ℕ, suc, ◌+◌, ◌-◌, ◌*◌, ◌^◌, ◌≤◌, ◌<◌}
 use native.Mathlib.Nat.{le_refl}
 use native.Mathlib.Omega.{arith}
-use mathlib.Core.Path.{◌≡◌, refl, sym, ap}
+use mathlib.Core.Path.{◌≡◌, refl, sym, ap, ◌∙◌}
 use mathlib.Core.List.{List, [], ◌∷◌}
 use mathlib.Core.Bool.{Bool, true, false, cond, ◌&&◌}
 use mir.Syntax.{w64}
 use mir.Val.{Fits}
-use lib.ListN.{length, take, drop, length-drop}
+use lib.ListN.{length, get_or, take, drop, length-drop, drop_of_length-le}
 use lib.Seq.{take_all}
 use lib.Dec.{eqb, ltb}
-use lib.Pointwise.{pointwise}
-use borrow.Author.Tests.{eq-eqb, eqb-true, ltb-false}
+use borrow.Author.Tests.{eq-eqb, ne_eqb, eqb-true, ltb-false}
 use mathlib.Core.Bool.{and-false}
 use Rattle.texts.specs.Lists.{find, eq_list}
+use Rattle.texts.proofs.ListLaws.{drop-next}
 use Rattle.texts.proofs.Tests.{and_left, and_right, cond-le}
 
 pub find-le : (b : ℕ) (s : List ℕ) → find b s ≤ length s
@@ -38,19 +38,26 @@ pub position_find : (b : ℕ) (s : List ℕ) → find b s ≡ unwrap_or (positio
 position_find b s = sym (rw (← find_position b s) (found_or_length (ltb (find b s) (length s)) (find b s) (length s) refl (find-le b s)))
 
 -- ---- equality of two lists
-pub pointwise-list : (a b : List ℕ) → pointwise eqb a b ≡ eq_list a b
-unfolding eq_list
-pointwise-list [] [] = refl
-pointwise-list [] (y ∷ t) = refl
-pointwise-list (x ∷ s) [] = refl
-pointwise-list (x ∷ s) (y ∷ t) = ap (eqb x y &&◌) (pointwise-list s t)
-
 pub lengths_differ : (a b : List ℕ) → (length a ≡ length b → ⊥) → false ≡ eq_list a b
 unfolding eq_list
 lengths_differ [] [] n = absurd (n refl)
 lengths_differ [] (y ∷ t) n = refl
 lengths_differ (x ∷ s) [] n = refl
 lengths_differ (x ∷ s) (y ∷ t) n = rw (← lengths_differ s t (λ e. n (ap suc e))) (sym (and-false (eqb x y)))
+
+-- a loop that has passed i bytes: what is left decides t
+module _ (t : Bool) (a b : List ℕ) (i : ℕ) (passed : t ≡ eq_list (drop i a) (drop i b)) (same : length a ≡ length b) where
+  pub pass_same : i < length a → get_or a i 0 ≡ get_or b i 0 → t ≡ eq_list (drop (i + 1) a) (drop (i + 1) b)
+  unfolding eq_list
+  pass_same h e = passed ∙ rw (drop-next a i h, drop-next b i (omega arith), eq-eqb _ _ e)
+
+  pub bytes-differ : i < length a → (get_or a i 0 ≡ get_or b i 0 → ⊥) → false ≡ t
+  unfolding eq_list
+  bytes-differ h n = sym (passed ∙ rw (drop-next a i h, drop-next b i (omega arith), ne_eqb _ _ n))
+
+  pub all_same : length a ≤ i → true ≡ t
+  unfolding eq_list
+  all_same h = let k : length b ≤ i = omega arith in sym (passed ∙ rw (drop_of_length-le a h, drop_of_length-le b k))
 
 -- the test is the equation
 pub eq_list-refl : (a : List ℕ) → eq_list a a ≡ true
