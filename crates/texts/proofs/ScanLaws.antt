@@ -14,6 +14,7 @@ use mir.Val.{Fits}
 use lib.ListN.{length, get_or, take, drop, length-drop, drop_of_length-le}
 use lib.Seq.{take_all}
 use lib.Dec.{eqb, ltb}
+use lib.Pointwise.{pointwise}
 use borrow.Author.Tests.{eq-eqb, ne_eqb, eqb-true, ltb-false}
 use mathlib.Core.Bool.{and-false}
 use Rattle.texts.specs.Lists.{find, eq_list}
@@ -38,6 +39,13 @@ pub position_find : (b : ℕ) (s : List ℕ) → find b s ≡ unwrap_or (positio
 position_find b s = sym (rw (← find_position b s) (found_or_length (ltb (find b s) (length s)) (find b s) (length s) refl (find-le b s)))
 
 -- ---- equality of two lists
+pub pointwise-list : (a b : List ℕ) → pointwise eqb a b ≡ eq_list a b
+unfolding eq_list
+pointwise-list [] [] = refl
+pointwise-list [] (y ∷ t) = refl
+pointwise-list (x ∷ s) [] = refl
+pointwise-list (x ∷ s) (y ∷ t) = ap (eqb x y &&◌) (pointwise-list s t)
+
 pub lengths_differ : (a b : List ℕ) → (length a ≡ length b → ⊥) → false ≡ eq_list a b
 unfolding eq_list
 lengths_differ [] [] n = absurd (n refl)
