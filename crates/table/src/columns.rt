@@ -1,4 +1,4 @@
-// The accounts in three lent columns: the bytes of their numbers, the lengths of these with the types, the balances. No account is copied to be looked up.
+// The accounts in three columns, as C lends them: the bytes of their numbers, the lengths of these with the types, the balances. No account is copied to be looked up.
 ghost use Rattle.std.specs.Prelude.{◌≡◌, List, ℕ, ◌+◌, ◌<◌, ◌≤◌, pos, length, get_or, replicate};
 ghost use Rattle.table.specs.Accounts.{no_account, accounts_of, find_account, holding_of, gate_balance, opened};
 ghost use Rattle.table.specs.Columns.{accounts_in, gate_of, head_of, counted_head, columns_of, columns_in, columns_seen};

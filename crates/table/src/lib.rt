@@ -17,7 +17,7 @@ pub const DONE: u64 = 1;
 
 pub const CANCELLED: u64 = 2;
 
-// A payment. While it is done, zeros stand for its cancel date.
+// A payment. While it is done, zeros stand for its cancel date. Its state is a number, since C may lend any.
 #[derive(Clone, Copy)]
 pub struct Record {
     pub receipt: u64,

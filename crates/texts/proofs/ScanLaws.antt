@@ -6,18 +6,19 @@ use Rattle.std.proofs.lemmas.List.Recursion.{is_position_or_len}
 use Prim.Native.Nat.{ℕ, suc, ◌+◌, ◌-◌, ◌*◌, ◌^◌, ◌≤◌, ◌<◌}
 use native.Mathlib.Nat.{le_refl}
 use native.Mathlib.Omega.{arith}
-use mathlib.Core.Path.{◌≡◌, refl, sym, ap}
+use mathlib.Core.Path.{◌≡◌, refl, sym, ap, ◌∙◌}
 use mathlib.Core.List.{List, [], ◌∷◌}
 use mathlib.Core.Bool.{Bool, true, false, cond, ◌&&◌}
 use mir.Syntax.{w64}
 use mir.Val.{Fits}
-use lib.ListN.{length, take, drop, length-drop}
+use lib.ListN.{length, get_or, take, drop, length-drop, drop_of_length-le}
 use lib.Seq.{take_all}
 use lib.Dec.{eqb, ltb}
 use lib.Pointwise.{pointwise}
-use borrow.Author.Tests.{eq-eqb, eqb-true, ltb-false}
+use borrow.Author.Tests.{eq-eqb, ne_eqb, eqb-true, ltb-false}
 use mathlib.Core.Bool.{and-false}
 use Rattle.texts.specs.Lists.{find, eq_list}
+use Rattle.texts.proofs.ListLaws.{drop-next}
 use Rattle.texts.proofs.Tests.{and_left, and_right, cond-le}
 
 pub find-le : (b : ℕ) (s : List ℕ) → find b s ≤ length s
@@ -51,6 +52,20 @@ lengths_differ [] [] n = absurd (n refl)
 lengths_differ [] (y ∷ t) n = refl
 lengths_differ (x ∷ s) [] n = refl
 lengths_differ (x ∷ s) (y ∷ t) n = rw (← lengths_differ s t (λ e. n (ap suc e))) (sym (and-false (eqb x y)))
+
+-- a loop that has passed i bytes: what is left decides t
+module _ (t : Bool) (a b : List ℕ) (i : ℕ) (passed : t ≡ eq_list (drop i a) (drop i b)) (same : length a ≡ length b) where
+  pub pass_same : i < length a → get_or a i 0 ≡ get_or b i 0 → t ≡ eq_list (drop (i + 1) a) (drop (i + 1) b)
+  unfolding eq_list
+  pass_same h e = passed ∙ rw (drop-next a i h, drop-next b i (omega arith), eq-eqb _ _ e)
+
+  pub bytes-differ : i < length a → (get_or a i 0 ≡ get_or b i 0 → ⊥) → false ≡ t
+  unfolding eq_list
+  bytes-differ h n = sym (passed ∙ rw (drop-next a i h, drop-next b i (omega arith), ne_eqb _ _ n))
+
+  pub all_same : length a ≤ i → true ≡ t
+  unfolding eq_list
+  all_same h = let k : length b ≤ i = omega arith in sym (passed ∙ rw (drop_of_length-le a h, drop_of_length-le b k))
 
 -- the test is the equation
 pub eq_list-refl : (a : List ℕ) → eq_list a a ≡ true
