@@ -1,8 +1,9 @@
 // What a line of a session does.
 ghost use Rattle.std.specs.Prelude.{◌≡◌, true};
+ghost use Rattle.lists.specs.Rows.{SameLoan};
 ghost use Rattle.table.specs.Table.{Rows};
-ghost use Rattle.table.specs.Lent.{lent};
-ghost use Rattle.table.specs.Columns.{Columns, columns_of};
+ghost use Rattle.table.specs.Lent.{rows_in, rows_seen};
+ghost use Rattle.table.specs.Columns.{Columns, columns_of, columns_in, columns_seen, SameAccounts};
 ghost use Rattle.opening.specs.Opening.{lent_reply};
 ghost use Rattle.orders.specs.declared.turn.Shown.TheVariants.{Figures};
 ghost use Rattle.orders.specs.Order.{console_of, turn_of, unread, replied, number_in, kind_in, start_turn, open_turn, draw_turn, ask_turn, list_turn, order_turn, line_turn};
@@ -16,6 +17,8 @@ use fields::{codes, number};
 use gate::deliver;
 use ledger::HeadReply;
 use table::Head;
+use table::columns::{Accounts, AccountsView};
+use table::rows::{Table, TableView};
 use texts::digits;
 use validity::valid;
 
@@ -103,90 +106,58 @@ fn start_turn(x: ConsoleHead, line: &[u8]) -> Turn
 // O: an opening.
 #[tactic(auto, unfolding(crate::specs::Order::open_turn))]
 fn open_turn(
-    nums: &[[u64; 6]],
-    numbers: &[[u8; 30]],
-    dates: &[[[u8; 19]; 3]],
+    table: TableView<'_>,
     names: &mut [[u8; 30]; 256],
     keys: &mut [[u64; 2]; 256],
     balances: &mut [i64; 256],
     x: ConsoleHead,
     line: &[u8],
 ) -> Turn
-    ensures { turn_of result (columns_of names.new keys.new balances.new) (lent nums.now numbers.now dates.now)
-        ≡ open_turn (console_of x (columns_of names.old keys.old balances.old)) (lent nums.now numbers.now dates.now) line.now }
+    ensures { turn_of result (columns_of names.new keys.new balances.new) (rows_seen table.entry)
+        ≡ open_turn (console_of x (columns_of names.old keys.old balances.old)) (rows_seen table.entry) line.now }
 {
     let s = subject_of(line);
-    answered(opening::open_lent(
-        nums, numbers, dates, names, keys, balances, x.head, s.number, s.kind,
-    ))
+    answered(opening::open_lent(table, names, keys, balances, x.head, s.number, s.kind))
 }
 
 // D: a draw, of kopecks in 1 to 15 digits.
 #[tactic(auto, unfolding(crate::specs::Order::draw_turn))]
-fn draw_turn(
-    nums: &[[u64; 6]],
-    numbers: &[[u8; 30]],
-    dates: &[[[u8; 19]; 3]],
-    names: &[[u8; 30]; 256],
-    keys: &[[u64; 2]; 256],
-    balances: &mut [i64; 256],
-    x: ConsoleHead,
-    line: &[u8],
-) -> Turn
-    ensures { turn_of result (columns_of names.now keys.now balances.new) (lent nums.now numbers.now dates.now)
-        ≡ draw_turn (console_of x (columns_of names.now keys.now balances.old)) (lent nums.now numbers.now dates.now) line.now }
+fn draw_turn(table: TableView<'_>, accounts: &mut Accounts<'_>, x: ConsoleHead, line: &[u8]) -> Turn
+    ensures value { turn_of result (columns_in accounts.new) (rows_seen table.entry)
+        ≡ draw_turn (console_of x (columns_in accounts.old)) (rows_seen table.entry) line.now }
+    ensures same_accounts { SameAccounts accounts.old accounts.new }
 {
     let Some(kopecks) = digits::read_digits(line_fields::field_at(line, 3), 15) else {
         return not_read(x);
     };
     let s = subject_of(line);
-    answered(opening::draw_lent(
-        nums, numbers, dates, names, keys, balances, x.head, s.number, s.kind, kopecks,
-    ))
+    answered(opening::draw_lent(table, accounts, x.head, s.number, s.kind, kopecks))
 }
 
 // R: a request; its answer is not shown.
 #[tactic(auto, unfolding(crate::specs::Order::ask_turn))]
-fn ask_turn(
-    nums: &mut [[u64; 6]],
-    numbers: &mut [[u8; 30]],
-    dates: &mut [[[u8; 19]; 3]],
-    names: &[[u8; 30]; 256],
-    keys: &[[u64; 2]; 256],
-    balances: &mut [i64; 256],
-    x: ConsoleHead,
-    line: &[u8],
-) -> Turn
-    ensures { turn_of result (columns_of names.now keys.now balances.new) (lent nums.new numbers.new dates.new)
-        ≡ ask_turn (console_of x (columns_of names.now keys.now balances.old)) (lent nums.old numbers.old dates.old) line.now }
+fn ask_turn(table: &mut Table<'_>, accounts: &mut Accounts<'_>, x: ConsoleHead, line: &[u8]) -> Turn
+    ensures value { turn_of result (columns_in accounts.new) (rows_in table.new)
+        ≡ ask_turn (console_of x (columns_in accounts.old)) (rows_in table.old) line.now }
+    ensures same_loan { SameLoan table.old table.new }
+    ensures same_accounts { SameAccounts accounts.old accounts.new }
 {
     let mut out = [0u8; 512];
     let clock = date::read_date(line_fields::field_at(line, 1)).unwrap_or([0; 19]);
     let params = line_fields::params_in(line);
-    answered(deliver::deliver_lent(
-        nums, numbers, dates, names, keys, balances, x.head, clock, params, &mut out,
-    ))
+    answered(deliver::deliver_lent(table, accounts, x.head, clock, params, &mut out))
 }
 
 // P: the payments of a day are printed.
 #[tactic(auto, unfolding(crate::specs::Order::list_turn))]
-fn list_turn(
-    nums: &[[u64; 6]],
-    numbers: &[[u8; 30]],
-    dates: &[[[u8; 19]; 3]],
-    names: &[[u8; 30]; 256],
-    keys: &[[u64; 2]; 256],
-    balances: &[i64; 256],
-    x: ConsoleHead,
-    line: &[u8],
-) -> Turn
-    ensures { turn_of result (columns_of names.now keys.now balances.now) (lent nums.now numbers.now dates.now)
-        ≡ list_turn (console_of x (columns_of names.now keys.now balances.now)) (lent nums.now numbers.now dates.now) line.now }
+fn list_turn(table: TableView<'_>, accounts: AccountsView<'_>, x: ConsoleHead, line: &[u8]) -> Turn
+    ensures { turn_of result (columns_seen accounts.entry) (rows_seen table.entry)
+        ≡ list_turn (console_of x (columns_seen accounts.entry)) (rows_seen table.entry) line.now }
 {
     let Some(d) = calendar::read_day(line_fields::field_at(line, 1)) else {
         return not_read(x);
     };
-    if !valid::table_good(nums, numbers, dates, names, keys, balances, x.head) {
+    if !valid::table_good(table, accounts, x.head) {
         return Turn {
             code: 68,
             console: x,
@@ -203,26 +174,31 @@ fn list_turn(
 // A line of a started session, by its letter.
 #[tactic(auto, unfolding(crate::specs::Order::order_turn))]
 fn order_turn(
-    nums: &mut [[u64; 6]],
-    numbers: &mut [[u8; 30]],
-    dates: &mut [[[u8; 19]; 3]],
+    table: &mut Table<'_>,
     names: &mut [[u8; 30]; 256],
     keys: &mut [[u64; 2]; 256],
     balances: &mut [i64; 256],
     x: ConsoleHead,
     line: &[u8],
 ) -> Turn
-    ensures { turn_of result (columns_of names.new keys.new balances.new) (lent nums.new numbers.new dates.new)
-        ≡ order_turn (console_of x (columns_of names.old keys.old balances.old)) (lent nums.old numbers.old dates.old) line.now }
+    ensures value { turn_of result (columns_of names.new keys.new balances.new) (rows_in table.new)
+        ≡ order_turn (console_of x (columns_of names.old keys.old balances.old)) (rows_in table.old) line.now }
+    ensures same_loan { SameLoan table.old table.new }
 {
     if line_fields::has_form(line, b'O', 3) {
-        open_turn(nums, numbers, dates, names, keys, balances, x, line)
-    } else if line_fields::has_form(line, b'D', 4) {
-        draw_turn(nums, numbers, dates, names, keys, balances, x, line)
+        return open_turn(table.view(), names, keys, balances, x, line);
+    }
+    let mut accounts = Accounts {
+        names,
+        keys,
+        balances,
+    };
+    if line_fields::has_form(line, b'D', 4) {
+        draw_turn(table.view(), &mut accounts, x, line)
     } else if line_fields::has_least(line, b'R', 3) {
-        ask_turn(nums, numbers, dates, names, keys, balances, x, line)
+        ask_turn(table, &mut accounts, x, line)
     } else if line_fields::has_form(line, b'P', 2) {
-        list_turn(nums, numbers, dates, names, keys, balances, x, line)
+        list_turn(table.view(), accounts.view(), x, line)
     } else {
         not_read(x)
     }
@@ -231,20 +207,19 @@ fn order_turn(
 // What a line does: the first of a session starts it.
 #[tactic(auto, unfolding(crate::specs::Order::line_turn))]
 pub fn line_turn(
-    nums: &mut [[u64; 6]],
-    numbers: &mut [[u8; 30]],
-    dates: &mut [[[u8; 19]; 3]],
+    table: &mut Table<'_>,
     names: &mut [[u8; 30]; 256],
     keys: &mut [[u64; 2]; 256],
     balances: &mut [i64; 256],
     x: ConsoleHead,
     line: &[u8],
 ) -> Turn
-    ensures { turn_of result (columns_of names.new keys.new balances.new) (lent nums.new numbers.new dates.new)
-        ≡ line_turn (console_of x (columns_of names.old keys.old balances.old)) (lent nums.old numbers.old dates.old) line.now }
+    ensures value { turn_of result (columns_of names.new keys.new balances.new) (rows_in table.new)
+        ≡ line_turn (console_of x (columns_of names.old keys.old balances.old)) (rows_in table.old) line.now }
+    ensures same_loan { SameLoan table.old table.new }
 {
     if x.started {
-        order_turn(nums, numbers, dates, names, keys, balances, x, line)
+        order_turn(table, names, keys, balances, x, line)
     } else {
         start_turn(x, line)
     }
