@@ -2,6 +2,7 @@
 ghost use Rattle.std.specs.Prelude.{◌≡◌, ◌<◌, length};
 
 use acceptance::accepting;
+use book::rows::{Entries, EntriesView};
 use book::{Book, rows};
 use daybook::{Writing, freezing};
 use parameters::action;
@@ -10,7 +11,7 @@ use reporting::taking;
 use reporting::taking::Reporting;
 use table::Gate;
 use texts::scan;
-use vectors::{given, line};
+use vectors::given;
 
 #[derive(Clone, Copy)]
 pub struct Desk {
@@ -36,84 +37,53 @@ pub fn named(name: &[u8], n: u64) {
 // A request by its action's word, with or without more behind a hyphen, or else a registry.
 pub fn sent_of(s: &[u8]) -> Sent {
     let word = scan::before_byte(scan::before_byte(s, b' '), b'-');
-    let r = action::read_action(word);
-    match r {
+    match action::read_action(word) {
         Some(a) => Sent::Request(a),
         None => Sent::Registry,
     }
 }
 
 // A book from its first receipt, its frozen day and the number of entries lent; at the start it is settled. The gate stays.
-pub fn start(s: &[u8], g: Gate) -> Desk {
+pub fn start(s: &[u8], gate: Gate) -> Desk {
     let rest = scan::after_byte(s, b' ');
-    let frozen = given::day(rest);
     Desk {
         book: Book {
             first: given::value(s),
             used: 0,
-            frozen,
+            frozen: given::day(rest),
             settled: true,
         },
         lent: given::value(scan::after_byte(rest, b' ')) as usize,
-        gate: g,
+        gate,
         places: 0,
     }
 }
 
-// The desk with another book.
-pub fn with_book(d: Desk, b: Book) -> Desk {
-    let g = d.gate;
-    Desk {
-        book: b,
-        lent: d.lent,
-        gate: g,
-        places: d.places,
-    }
-}
-
 // A payment, from number, type, kopecks and date: code, receipt and entries used.
-pub fn accept(
-    s: &[u8],
-    nums: &mut [[u64; 6]],
-    numbers: &mut [[u8; 30]],
-    dates: &mut [[u8; 19]],
-    d: Desk,
-) -> Desk {
+pub fn accept(s: &[u8], entries: &mut Entries<'_>, d: Desk) -> Desk {
     let second = scan::after_byte(s, b' ');
     let third = scan::after_byte(second, b' ');
     let r = accepting::accept(
-        nums,
-        numbers,
-        dates,
+        entries,
         d.book,
         given::number(s),
         given::value(second),
         given::value(third),
         given::date(scan::after_byte(third, b' ')),
     );
-    let b = r.book;
     io::print_decimal(1, r.code);
     named(b" ", r.receipt);
-    named(b" ", b.used as u64);
-    with_book(d, b)
+    named(b" ", r.book.used as u64);
+    Desk { book: r.book, ..d }
 }
 
 // So many acceptances of what follows.
-pub fn accept_many(
-    s: &[u8],
-    nums: &mut [[u64; 6]],
-    numbers: &mut [[u8; 30]],
-    dates: &mut [[u8; 19]],
-    d: Desk,
-) -> Desk {
-    let n = given::value(s);
+pub fn accept_many(s: &[u8], entries: &mut Entries<'_>, d: Desk) -> Desk {
     let rest = scan::after_byte(s, b' ');
     let mut next = d;
-    let mut i: u64 = 0;
-    while i < n {
-        next = accept(rest, nums, numbers, dates, next);
+    for _ in 0..given::value(s) {
+        next = accept(rest, entries, next);
         io::write_all(1, b";");
-        i += 1;
     }
     next
 }
@@ -122,9 +92,7 @@ pub fn accept_many(
 fn write_request(
     a: Action,
     s: &[u8],
-    nums: &mut [[u64; 6]],
-    numbers: &mut [[u8; 30]],
-    dates: &mut [[u8; 19]],
+    entries: &mut Entries<'_>,
     b: Book,
     out: &mut [u8],
 ) -> Writing {
@@ -134,20 +102,11 @@ fn write_request(
     match a {
         Action::Check => {
             let kopecks = given::value(scan::after_byte(rest, b' '));
-            writing::write_check(
-                nums,
-                numbers,
-                dates,
-                b,
-                given::number(s),
-                second,
-                kopecks,
-                out,
-            )
+            writing::write_check(entries.view(), b, given::number(s), second, kopecks, out)
         }
-        Action::Payment => writing::write_payment(nums, numbers, dates, b, receipt, out),
-        Action::Status => writing::write_status(nums, numbers, dates, b, receipt, out),
-        Action::Cancel => writing::write_cancel(nums, numbers, dates, b, receipt, second, out),
+        Action::Payment => writing::write_payment(entries, b, receipt, out),
+        Action::Status => writing::write_status(entries, b, receipt, out),
+        Action::Cancel => writing::write_cancel(entries, b, receipt, second, out),
     }
 }
 
@@ -156,23 +115,14 @@ pub fn write_into(
     what: Sent,
     most: usize,
     s: &[u8],
-    nums: &mut [[u64; 6]],
-    numbers: &mut [[u8; 30]],
-    dates: &mut [[u8; 19]],
+    entries: &mut Entries<'_>,
     b: Book,
     out: &mut [u8],
 ) -> Writing {
-    let n = line::least(most, out.len());
+    let n = most.min(out.len());
     match what {
-        Sent::Request(a) => write_request(a, s, nums, numbers, dates, b, &mut out[..n]),
-        Sent::Registry => listing::write_registry(
-            nums,
-            numbers,
-            dates,
-            b,
-            given::day(s),
-            &mut out[..n],
-        ),
+        Sent::Request(a) => write_request(a, s, entries, b, &mut out[..n]),
+        Sent::Registry => listing::write_registry(entries.view(), b, given::day(s), &mut out[..n]),
     }
 }
 
@@ -183,37 +133,10 @@ pub fn points() -> [u8; 65536]
     [b'.'; 65536]
 }
 
-// How many bytes are lent for a writing, by the place of its word: what is asked for, or one less.
-fn room(k: usize) -> usize {
-    match k {
-        8 => 511,
-        9 => 65536,
-        10 => 65535,
-        _ => 512,
-    }
-}
-
-// A writing: its code, and what was written.
-pub fn write(
-    k: usize,
-    word: &[u8],
-    s: &[u8],
-    nums: &mut [[u64; 6]],
-    numbers: &mut [[u8; 30]],
-    dates: &mut [[u8; 19]],
-    d: Desk,
-) -> Desk {
+// A writing with so many bytes lent: its code, and what was written.
+pub fn write(what: Sent, most: usize, s: &[u8], entries: &mut Entries<'_>, d: Desk) -> Desk {
     let mut out = points();
-    let r = write_into(
-        sent_of(word),
-        room(k),
-        s,
-        nums,
-        numbers,
-        dates,
-        d.book,
-        &mut out,
-    );
+    let r = write_into(what, most, s, entries, d.book, &mut out);
     io::print_decimal(1, r.code);
     show_behind(scan::first_bytes(&out, r.size));
     d
@@ -228,89 +151,50 @@ fn show_behind(s: &[u8]) {
 }
 
 // The answer to a request by its receipt, or the report of a day.
-pub fn take(
-    what: Sent,
-    s: &[u8],
-    text: &[u8],
-    nums: &mut [[u64; 6]],
-    numbers: &mut [[u8; 30]],
-    dates: &mut [[u8; 19]],
-    b: Book,
-) -> Reporting {
+pub fn take(what: Sent, s: &[u8], text: &[u8], entries: &mut Entries<'_>, b: Book) -> Reporting {
     match what {
         Sent::Request(a) => {
-            let code = answering::take_answer(nums, numbers, dates, b, a, given::value(s), text);
+            let code = answering::take_answer(entries, b, a, given::value(s), text);
             Reporting { code, book: b }
         }
-        Sent::Registry => taking::take_report(nums, numbers, dates, b, given::day(s), text),
+        Sent::Registry => taking::take_report(entries, b, given::day(s), text),
     }
 }
 
 // Whether the frozen day has its report, where one was taken.
 fn show_settled(what: Sent, b: Book) {
-    match what {
-        Sent::Request(_) => {}
-        Sent::Registry => {
-            if b.settled {
-                io::write_all(1, b" settled");
-            } else {
-                io::write_all(1, b" unsettled");
-            }
-        }
+    if matches!(what, Sent::Registry) {
+        let word: &[u8] = if b.settled {
+            b" settled"
+        } else {
+            b" unsettled"
+        };
+        io::write_all(1, word);
     }
 }
 
 // An answer, from receipt and text, or a report, from day and text.
-pub fn taken(
-    what: Sent,
-    s: &[u8],
-    nums: &mut [[u64; 6]],
-    numbers: &mut [[u8; 30]],
-    dates: &mut [[u8; 19]],
-    d: Desk,
-) -> Desk {
-    let r = take(
-        what,
-        s,
-        scan::after_byte(s, b' '),
-        nums,
-        numbers,
-        dates,
-        d.book,
-    );
-    let b = r.book;
+pub fn taken(what: Sent, s: &[u8], entries: &mut Entries<'_>, d: Desk) -> Desk {
+    let r = take(what, s, scan::after_byte(s, b' '), entries, d.book);
     io::print_decimal(1, r.code);
-    show_settled(what, b);
-    with_book(d, b)
+    show_settled(what, r.book);
+    Desk { book: r.book, ..d }
 }
 
 // A day to be frozen.
-pub fn freeze(
-    s: &[u8],
-    nums: &[[u64; 6]],
-    numbers: &[[u8; 30]],
-    dates: &[[u8; 19]],
-    d: Desk,
-) -> Desk {
-    let r = freezing::freeze(nums, numbers, dates, d.book, given::day(s));
-    let b = r.book;
+pub fn freeze(s: &[u8], entries: EntriesView<'_>, d: Desk) -> Desk {
+    let r = freezing::freeze(entries, d.book, given::day(s));
     io::print_decimal(1, r.code);
-    with_book(d, b)
+    Desk { book: r.book, ..d }
 }
 
 // An entry's receipt, state and authcode.
-pub fn entry(
-    s: &[u8],
-    nums: &[[u64; 6]],
-    numbers: &[[u8; 30]],
-    dates: &[[u8; 19]],
-    d: Desk,
-) -> Desk {
+pub fn entry(s: &[u8], entries: EntriesView<'_>, d: Desk) -> Desk {
     let i = given::value(s) as usize;
-    if nums.len() <= i || numbers.len() <= i || dates.len() <= i {
+    if entries.nums.len() <= i || entries.numbers.len() <= i || entries.dates.len() <= i {
         return d;
     }
-    let e = rows::load_entry(nums, numbers, dates, i);
+    let e = rows::load_entry(entries, i);
     io::print_decimal(1, e.receipt);
     named(b" ", e.state);
     named(b" ", e.authcode);
@@ -321,22 +205,17 @@ pub fn entry(
 fn place_of(name: &[u8]) -> usize
     ensures { result < 6 }
 {
-    let k = line::place(name, b"receipt state");
-    match k {
-        0 => 0,
-        1 => 4,
+    match name {
+        b"receipt" => 0,
+        b"state" => 4,
         _ => 5,
     }
 }
 
 // The first entry's receipt, state or authcode, spoilt.
 pub fn spoil(s: &[u8], nums: &mut [[u64; 6]], d: Desk) -> Desk {
-    if nums.len() == 0 {
-        return d;
+    if let Some(first) = nums.first_mut() {
+        first[place_of(scan::before_byte(s, b' '))] = given::value(scan::after_byte(s, b' '));
     }
-    let v = given::value(scan::after_byte(s, b' '));
-    let mut w = nums[0];
-    w[place_of(scan::before_byte(s, b' '))] = v;
-    nums[0] = w;
     d
 }

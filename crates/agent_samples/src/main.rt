@@ -4,105 +4,56 @@ mod desk;
 mod ends;
 mod words;
 
-ghost use Rattle.std.specs.Prelude.{◌≡◌, length};
-
+use book::rows::Entries;
 use desk::Desk;
+use lists::rows::Rows;
+use table::rows::Table;
 use texts::scan;
-use vectors::{given, input, line};
+use vectors::{given, input, walk};
 
-// The rows that are lent at most: one entry more than a book may have.
-fn empty_nums() -> [[u64; 6]; 4097]
-    ensures { 4097 ≡ length result }
-{
-    [[0u64; 6]; 4097]
+// How many rows are lent at most: one entry more than a book may have.
+const ENTRIES_MOST: usize = 4097;
+
+// The first n elements, or all of fewer.
+fn first<T>(s: &mut [T], n: usize) -> &mut [T] {
+    let n = n.min(s.len());
+    &mut s[..n]
 }
 
-fn empty_numbers() -> [[u8; 30]; 4097]
-    ensures { 4097 ≡ length result }
-{
-    [[0u8; 30]; 4097]
-}
-
-fn empty_dates() -> [[u8; 19]; 4097]
-    ensures { 4097 ≡ length result }
-{
-    [[0u8; 19]; 4097]
-}
-
-// Prints a line and what it gives over what is lent, and hands the desk back.
-fn answer_line(
-    line: &[u8],
-    nums: &mut [[u64; 6]],
-    numbers: &mut [[u8; 30]],
-    dates: &mut [[u8; 19]],
-    table: &mut [[u64; 6]],
-    owners: &mut [[u8; 30]],
-    times: &mut [[[u8; 19]; 3]],
-    d: Desk,
-) -> Desk {
-    io::write_all(1, line);
-    if line::is_heading(line) {
-        io::write_all(1, b"\n");
-        return d;
-    }
-    io::write_all(1, b": ");
-    let n = line::least(d.lent, nums.len());
-    let m = line::least(d.lent, numbers.len());
-    let k = line::least(d.lent, dates.len());
-    let o = line::least(d.places, table.len());
-    let p = line::least(d.places, owners.len());
-    let q = line::least(d.places, times.len());
-    let next = words::answer(
+// Runs a line over what is lent, and hands the desk back.
+fn answer(line: &[u8], entries: &mut Entries<'_>, table: &mut Table<'_>, d: Desk) -> Desk {
+    words::answer(
         scan::before_byte(line, b' '),
         scan::after_byte(line, b' '),
-        &mut nums[..n],
-        &mut numbers[..m],
-        &mut dates[..k],
-        &mut table[..o],
-        &mut owners[..p],
-        &mut times[..q],
+        &mut Rows {
+            nums: first(entries.nums, d.lent),
+            numbers: first(entries.numbers, d.lent),
+            dates: first(entries.dates, d.lent),
+        },
+        &mut Rows {
+            nums: first(table.nums, d.places),
+            numbers: first(table.numbers, d.places),
+            dates: first(table.dates, d.places),
+        },
         d,
-    );
-    io::write_all(1, b"\n");
-    next
-}
-
-// Answers each line.
-fn lines(
-    s: &[u8],
-    nums: &mut [[u64; 6]],
-    numbers: &mut [[u8; 30]],
-    dates: &mut [[u8; 19]],
-    table: &mut [[u64; 6]],
-    owners: &mut [[u8; 30]],
-    times: &mut [[[u8; 19]; 3]],
-) {
-    let mut d = desk::start(b"", given::no_gate(given::day(b"")));
-    let mut at: usize = 0;
-    while at < s.len() {
-        let next = line_fields::lines::next_line(s, at);
-        let line = line_fields::lines::line_at(s, at);
-        d = answer_line(line, nums, numbers, dates, table, owners, times, d);
-        at = next;
-    }
+    )
 }
 
 fn main() {
     let mut buffer = io::large_buffer();
-    let mut nums = empty_nums();
-    let mut numbers = empty_numbers();
-    let mut dates = empty_dates();
-    let mut table = [[0u64; 6]; 8];
-    let mut owners = [[0u8; 30]; 8];
-    let mut times = [[[0u8; 19]; 3]; 8];
+    let mut entries = Rows {
+        nums: &mut [[0u64; 6]; ENTRIES_MOST],
+        numbers: &mut [[0u8; 30]; ENTRIES_MOST],
+        dates: &mut [[0u8; 19]; ENTRIES_MOST],
+    };
+    let mut table = Rows {
+        nums: &mut [[0u64; 6]; 8],
+        numbers: &mut [[0u8; 30]; 8],
+        dates: &mut [[[0u8; 19]; 3]; 8],
+    };
+    let mut d = desk::start(b"", given::no_gate(given::day(b"")));
     let n = input::read_all(&mut buffer);
-    lines(
-        &buffer[..n],
-        &mut nums,
-        &mut numbers,
-        &mut dates,
-        &mut table,
-        &mut owners,
-        &mut times,
-    );
+    walk::answer_lines(&buffer[..n], |line| {
+        d = answer(line, &mut entries, &mut table, d);
+    });
 }

@@ -1,98 +1,72 @@
 // The words of the vectors: the one place that says what each runs.
 use crate::desk::{Desk, Sent};
 use crate::{desk, ends};
+use book::rows::Entries;
+use table::rows::{Table, TableView};
 use texts::scan;
-use vectors::line;
 
-// Runs a word that the gate takes part in, or else one of the agent's.
+// Runs a word that both ends take part in, or else one of the gate's or the agent's alone.
 pub fn answer(
     word: &[u8],
     text: &[u8],
-    nums: &mut [[u64; 6]],
-    numbers: &mut [[u8; 30]],
-    dates: &mut [[u8; 19]],
-    table: &mut [[u64; 6]],
-    owners: &mut [[u8; 30]],
-    times: &mut [[[u8; 19]; 3]],
+    entries: &mut Entries<'_>,
+    table: &mut Table<'_>,
     d: Desk,
 ) -> Desk {
-    let k = line::place(word, b"ask lose settle gate open draw record");
-    if k < 3 {
-        return ends::exchange(k, text, nums, numbers, dates, table, owners, times, d);
-    }
-    if k < 7 {
-        return at_gate(k, text, table, owners, times, d);
-    }
-    at_agent(word, text, nums, numbers, dates, d)
+    let (lost, what, rest) = match word {
+        b"ask" => (false, desk::sent_of(text), scan::after_byte(text, b' ')),
+        b"lose" => (true, desk::sent_of(text), scan::after_byte(text, b' ')),
+        b"settle" => (false, Sent::Registry, text),
+        b"gate" | b"open" | b"draw" | b"record" => {
+            return at_gate(word, text, table.view(), d);
+        }
+        _ => return at_agent(word, text, entries, d),
+    };
+    ends::exchange(lost, what, rest, entries, table, d)
 }
 
-// Runs a word of the gate's alone, by its place.
-fn at_gate(
-    k: usize,
-    text: &[u8],
-    table: &[[u64; 6]],
-    owners: &[[u8; 30]],
-    times: &[[[u8; 19]; 3]],
-    d: Desk,
-) -> Desk {
-    match k {
-        3 => ends::start(text, d),
-        4 => ends::open(text, table, owners, times, d),
-        5 => ends::draw(text, table, owners, times, d),
+// Runs a word of the gate's alone.
+fn at_gate(word: &[u8], text: &[u8], table: TableView<'_>, d: Desk) -> Desk {
+    match word {
+        b"gate" => ends::start(text, d),
+        b"open" => ends::open(text, table, d),
+        b"draw" => ends::draw(text, table, d),
         _ => {
-            ends::record(text, table, owners, times);
+            ends::record(text, table);
             d
         }
     }
 }
 
 // Runs a word of the agent's.
-fn at_agent(
-    word: &[u8],
-    text: &[u8],
-    nums: &mut [[u64; 6]],
-    numbers: &mut [[u8; 30]],
-    dates: &mut [[u8; 19]],
-    d: Desk,
-) -> Desk {
-    let k = line::place(
-        word,
-        b"accept accept-many answer report payment status cancel check payment-small registry registry-small spoil book freeze entry",
-    );
-    match k {
-        0 => desk::accept(text, nums, numbers, dates, d),
-        1 => desk::accept_many(text, nums, numbers, dates, d),
-        2 => desk::taken(
-            desk::sent_of(text),
-            scan::after_byte(text, b' '),
-            nums,
-            numbers,
-            dates,
-            d,
-        ),
-        3 => desk::taken(Sent::Registry, text, nums, numbers, dates, d),
-        4..=10 => desk::write(k, word, text, nums, numbers, dates, d),
-        11 => desk::spoil(text, nums, d),
-        _ => look(k, text, nums, numbers, dates, d),
+fn at_agent(word: &[u8], text: &[u8], entries: &mut Entries<'_>, d: Desk) -> Desk {
+    match word {
+        b"accept" => desk::accept(text, entries, d),
+        b"accept-many" => desk::accept_many(text, entries, d),
+        b"answer" => {
+            let rest = scan::after_byte(text, b' ');
+            desk::taken(desk::sent_of(text), rest, entries, d)
+        }
+        b"report" => desk::taken(Sent::Registry, text, entries, d),
+        b"spoil" => desk::spoil(text, entries.nums, d),
+        b"book" => desk::start(text, d.gate),
+        b"freeze" => desk::freeze(text, entries.view(), d),
+        b"entry" => desk::entry(text, entries.view(), d),
+        _ => written(word, text, entries, d),
     }
 }
 
-// Runs a word that leaves the entries as they are.
-fn look(
-    k: usize,
-    text: &[u8],
-    nums: &[[u64; 6]],
-    numbers: &[[u8; 30]],
-    dates: &[[u8; 19]],
-    d: Desk,
-) -> Desk {
-    match k {
-        12 => desk::start(text, d.gate),
-        13 => desk::freeze(text, nums, numbers, dates, d),
-        14 => desk::entry(text, nums, numbers, dates, d),
+// Runs a word that writes, with as many bytes lent as are asked for, or one less.
+fn written(word: &[u8], text: &[u8], entries: &mut Entries<'_>, d: Desk) -> Desk {
+    let most = match word {
+        b"payment" | b"status" | b"cancel" | b"check" => 512,
+        b"payment-small" => 511,
+        b"registry" => 65536,
+        b"registry-small" => 65535,
         _ => {
             io::write_all(1, b"unknown word");
-            d
+            return d;
         }
-    }
+    };
+    desk::write(desk::sent_of(word), most, text, entries, d)
 }
