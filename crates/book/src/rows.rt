@@ -1,4 +1,4 @@
-// The book's rows, read and written an entry at a time.
+// The book's rows, read and written an entry at a time. They stay three slices, since C lends them so.
 ghost use Rattle.std.specs.Prelude.{◌≡◌, [], ◌<◌, length, get_or};
 ghost use Rattle.book.specs.Entries.{entry_from, entry_at, book_with};
 ghost use Rattle.book.specs.Lent.{lent_book};
