@@ -6,7 +6,7 @@ pub mod states;
 use days::calendar::Day;
 use fields::number::Number;
 
-// A payment taken at a counter. The numbers of its states are those of `State`, from 1 on.
+// A payment taken at a counter. The numbers of its states are those of `State`, from 1 on; the field is a number, since C may lend any.
 #[derive(Clone, Copy)]
 pub struct Entry {
     pub receipt: u64,

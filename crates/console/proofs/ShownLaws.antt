@@ -9,6 +9,7 @@ use lib.Dec.{eqb, leb, ltb}
 use lib.ListN.{length, set, replicate, length-set, length-append}
 use borrow.Author.Tests.{lt-ltb, le-ltb, ltb-true, ltb-false}
 use Rattle.texts.specs.Lists.{written, cursor_after}
+use Rattle.texts.proofs.DigitLaws.{within-high}
 use Rattle.texts.proofs.Tests.{and_left, cond-elim, by-test}
 use Rattle.texts.specs.Digits.{digits_read}
 use Rattle.days.specs.declared.calendar.Day.{Day}
@@ -19,7 +20,6 @@ use Rattle.table.specs.declared.Record.{Record}
 use Rattle.table.specs.Table.{Rows, record_at, records_of, rows_from}
 use Rattle.table.proofs.TableLaws.{length-records, from-whole}
 use Rattle.ledger.specs.Change.{make_record, revoked}
-use Rattle.opening.proofs.OpeningLaws.{kopecks-small}
 use Rattle.validity.specs.Valid.{lent_good, table_good}
 use Rattle.validity.proofs.GoodLaws.{record-good}
 use Rattle.payments.specs.declared.Instruction.{Instruction}
@@ -68,7 +68,7 @@ good-payable g t good =
       nums = lent.room;
       numbers = omega (arith, lent.room, lent.second);
       dates = omega (arith, lent.room, lent.third);
-      amounts = λ i h. kopecks-small (record_at t i).amount true (sym (parts-of g i (record_at t i) (record-good g t good i h)).amount) refl;
+      amounts = λ i h. omega (arith, within-high 1 999999999 (record_at t i).amount (parts-of g i (record_at t i) (record-good g t good i h)).amount);
     }
 
 -- ---- a line keeps the table's places, and what it prints can be printed

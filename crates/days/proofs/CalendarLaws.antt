@@ -12,7 +12,7 @@ use lib.Dec.{eqb, leb}
 use lib.ListN.{get_or, length}
 use borrow.Author.Tests.{le-leb, lt-leb, lt-ltb, le-ltb, eq-eqb, ne_eqb, leb-true}
 use Rattle.days.specs.declared.calendar.Day.{Day}
-use Rattle.days.specs.Calendar.{leap_year, days_in, is_date, day_of, is_day, next_day, same_day, on_day, two_digits, day_with, day_part, day_read}
+use Rattle.days.specs.Calendar.{leap_year, days_in, is_date, day_of, is_day, next_day, same_day, on_day, two_digits, day_with, day_part}
 use Rattle.texts.proofs.Tests.{and_left, and_right, by-test}
 
 module _ (y m : ℕ) where
@@ -35,16 +35,6 @@ module _ (y m : ℕ) where
   unfolding days_in
   thirty-one p q =
       simp (ne_eqb _ _ p, ne_eqb m 4 (λ e. q (inl e)), ne_eqb m 6 (λ e. q (inr (inl e))), ne_eqb m 9 (λ e. q (inr (inr (inl e)))), ne_eqb m 11 (λ e. q (inr (inr (inr e)))))
-
-  module _ (d : ℕ) where
-    module _ (t : Bool) (test : t ≡ is_date y m d) where
-      pub day-good : (r : Option Day) → r ≡ Some (record { year = y; month = m; day = d }) → t ≡ true → r ≡ day_of y m d
-      unfolding day_of
-      day-good r q i = q ∙ rw (← test, i)
-
-      pub day-none : t ≡ false → None ≡ day_of y m d
-      unfolding day_of
-      day-none i = rw (← test, i)
 
 -- ---- the following day
 module _ (x : Day) (t : Bool) (test : t ≡ is_date x.year x.month x.day) where
@@ -152,12 +142,8 @@ module _ (s : List ℕ) where
   unfolding day_part
   part-with c y m d r l ec ey em ed er = er ∙ rw (le-leb _ _ l, ← ec, ← ey, ← em, ← ed)
 
-  pub alone-other : (length s ≡ 10 → ⊥) → None ≡ day_read s
-  unfolding day_read
-  alone-other n = simp (ne_eqb _ _ n)
-
-  pub alone : (r : Option Day) → length s ≡ 10 → r ≡ day_part s → r ≡ day_read s
-  unfolding day_read
-  alone r l e = e ∙ simp (eq-eqb _ _ l)
-
 pub ruleset with_laws = (on-dash, on-other, on-century, on-year, on-month, on-day, on-all)
+
+pub ruleset month_laws = (february-leap, february, thirty, thirty-one)
+
+pub ruleset part_laws = (part-short, part-with)

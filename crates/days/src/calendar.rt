@@ -22,6 +22,7 @@ fn is_leap(year: u16) -> bool
 }
 
 // How many days a month has.
+#[tactic(auto, using(crate::proofs::CalendarLaws::month_laws))]
 fn days_in(year: u16, month: u8) -> u8
     ensures { result ≡ days_in year month }
 {
@@ -43,6 +44,7 @@ fn is_date(year: u16, month: u8, day: u8) -> bool
 }
 
 // The day with these numbers.
+#[tactic(auto, unfolding(crate::specs::Calendar::day_of))]
 fn day_of(year: u16, month: u8, day: u8) -> Option<Day>
     ensures { result ≡ day_of year month day }
 {
@@ -140,6 +142,7 @@ pub fn day_with(dash: u8, other: u8, century: u8, y: u8, month: u8, day: u8) -> 
 }
 
 // The day that the first ten bytes are.
+#[tactic(auto, using(crate::proofs::CalendarLaws::part_laws))]
 fn day_part(s: &[u8]) -> Option<Day>
     ensures { result ≡ day_part s.now }
 {
@@ -152,6 +155,7 @@ fn day_part(s: &[u8]) -> Option<Day>
 }
 
 // A day that stands alone, YYYY-MM-DD.
+#[tactic(auto, unfolding(crate::specs::Calendar::day_read))]
 pub fn read_day(s: &[u8]) -> Option<Day>
     ensures { result ≡ day_read s.now }
 {

@@ -1,5 +1,5 @@
 -- Laws of the sum of a gate's balances.
-use Prim.Native.Nat.{ℕ, zero, suc, ◌+◌, ◌-◌, ◌*◌, ◌^◌, ◌<◌, ◌≤◌}
+use Prim.Native.Nat.{ℕ, zero, suc, ◌+◌, ◌-◌, ◌*◌, ◌<◌, ◌≤◌}
 use native.Mathlib.Nat.{le_refl}
 use native.Mathlib.Omega.{arith}
 use mathlib.Core.Path.{◌≡◌, refl, sym, ap, ◌∙◌}
@@ -11,7 +11,7 @@ use lib.Signed.{mag}
 use lib.ListN.{length, take, drop, get_or, drop_of_length-le}
 use lib.Seq.{drop-cons, get_or-take}
 use mir.Syntax.{w64}
-use mir.Val.{SFits, to_z, of_z}
+use mir.Val.{to_z, of_z}
 use Rattle.table.specs.declared.Account.{Account}
 use Rattle.table.specs.declared.Gate.{Gate}
 use Rattle.table.specs.declared.Head.{Head}
@@ -21,7 +21,7 @@ use Rattle.table.proofs.ColumnLaws.{size_in}
 use Rattle.lists.specs.Lists.{tab}
 use Rattle.lists.proofs.ListLaws.{get_d-tab, map-tab}
 use Rattle.table.proofs.AccountLaws.{in_use}
-use Rattle.table.proofs.SignedLaws.{small, back, mag_up, mag_down}
+use Rattle.table.proofs.SignedLaws.{back, mag_up, mag_down}
 use Rattle.texts.specs.Digits.{decimal}
 use Rattle.figures.specs.Figures.{sum_balances, signed_text, figures, printed}
 use Rattle.figures.specs.Sums.{Summable, nameless}
@@ -30,19 +30,6 @@ use Rattle.figures.specs.Sums.{Summable, nameless}
 mag_sum : (a b : ℤ) → mag (a +ℤ b) ≤ mag a + mag b + 2
 mag_sum a (pos n) = omega (arith, mag_up a n)
 mag_sum a (negsuc n) = omega (arith, mag_down a (suc n))
-
-module _ (a b : ℤ) (na : mag a ≤ 10000000000000000) (nb : mag b ≤ 10000000000000000) where
-  sum-small : mag (a +ℤ b) < 2 ^ 63
-  sum-small = omega (arith, mag_sum a b)
-
-  pub plus-fits : SFits w64 (to_z w64 (of_z w64 a) +ℤ to_z w64 (of_z w64 b))
-  plus-fits = rw (back a (omega arith), back b (omega arith)) (small sum-small)
-
-  pub plus-is : to_z w64 (of_z w64 (to_z w64 (of_z w64 a) +ℤ to_z w64 (of_z w64 b))) ≡ a +ℤ b
-  plus-is = rw (back a (omega arith), back b (omega arith)) (back (a +ℤ b) sum-small)
-
-  pub plus-near : mag (to_z w64 (of_z w64 (to_z w64 (of_z w64 a) +ℤ to_z w64 (of_z w64 b)))) ≤ mag a + mag b + 2
-  plus-near = rw plus-is (mag_sum a b)
 
 -- ---- the balances of a list
 pub sum-next : (l : List Account) (i : ℕ) → i < length l → sum_balances (drop i l) ≡ (get_or l i no_account).balance +ℤ sum_balances (drop (suc i) l)
