@@ -1,7 +1,8 @@
 #![tactic(auto)]
 // A call on the gate as one value: what it asks for, with its parameters.
 ghost use Rattle.std.specs.Prelude.{◌≡◌};
-ghost use Rattle.table.specs.Lent.{lent};
+ghost use Rattle.lists.specs.Rows.{SameLoan};
+ghost use Rattle.table.specs.Lent.{rows_in};
 ghost use Rattle.admission.specs.Delivery.{delivery_of};
 ghost use Rattle.calls.specs.Calls.{call_on, request_call, registry_call, opening_call, drawing_call};
 
@@ -11,6 +12,7 @@ use gate::deliver;
 use ledger::Reply;
 use settlement::settle;
 use table::Gate;
+use table::rows::Table;
 
 // A call, but for its text.
 #[derive(Clone, Copy)]
@@ -33,34 +35,23 @@ pub enum Call {
     },
 }
 
-// A call on the rows. Opening and drawing read no text and write none.
+// A call on the table. Opening and drawing read no text and write none.
 #[tactic(auto, unfolding(crate::specs::Calls::call_on))]
-pub fn call_on(
-    nums: &mut [[u64; 6]],
-    numbers: &mut [[u8; 30]],
-    dates: &mut [[[u8; 19]; 3]],
-    gate: Gate,
-    call: Call,
-    text: &[u8],
-    out: &mut [u8],
-) -> Reply
-    ensures { delivery_of result (lent nums.new numbers.new dates.new) out.new ≡ call_on gate call text.now out.old (lent nums.old numbers.old dates.old) }
+pub fn call_on(table: &mut Table<'_>, gate: Gate, call: Call, text: &[u8], out: &mut [u8]) -> Reply
+    ensures value { delivery_of result (rows_in table.new) out.new ≡ call_on gate call text.now out.old (rows_in table.old) }
+    ensures same_loan { SameLoan table.old table.new }
 {
     match call {
-        Call::Request { clock } => {
-            deliver::deliver(nums, numbers, dates, gate, clock, text, out)
-        }
-        Call::Registry { clock, day } => {
-            settle::settle(nums, numbers, dates, gate, clock, day, text, out)
-        }
+        Call::Request { clock } => deliver::deliver(table, gate, clock, text, out),
+        Call::Registry { clock, day } => settle::settle(table, gate, clock, day, text, out),
         Call::Opening { number, kind } => {
-            opening::open_account(nums, numbers, dates, gate, number, kind)
+            opening::open_account(table.view(), gate, number, kind)
         }
         Call::Drawing {
             number,
             kind,
             kopecks,
-        } => opening::draw_funds(nums, numbers, dates, gate, number, kind, kopecks),
+        } => opening::draw_funds(table.view(), gate, number, kind, kopecks),
     }
 }
 

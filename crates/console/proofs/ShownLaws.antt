@@ -2,7 +2,7 @@
 use Rattle.std.specs.Prelude.{Option, Some, None}
 use Prim.Native.Nat.{ℕ, ◌+◌, ◌*◌, ◌≤◌, ◌<◌}
 use native.Mathlib.Omega.{arith}
-use mathlib.Core.Path.{◌≡◌, refl, sym, ap, subst}
+use mathlib.Core.Path.{◌≡◌, refl, sym, ap, subst, ◌∙◌}
 use mathlib.Core.Bool.{true, ◌&&◌}
 use mathlib.Core.List.{List, [], ◌∷◌, ◌++◌}
 use lib.Dec.{eqb, leb, ltb}
@@ -124,6 +124,9 @@ module _ (x : Console) (t : Rows) (l : List ℕ) where
 
   pub turn-showable : Showable (line_turn x t l).shown (line_turn x t l).rows (line_turn x t l).console.gate.used
   turn-showable = turn-shows.1
+
+pub places-left : (x : Console) (t : Rows) (l : List ℕ) (rows : Rows) → rows ≡ (line_turn x t l).rows → length rows.nums ≡ length t.nums
+places-left x t l rows e = ap (λ (r : Rows). length r.nums) e ∙ turn-places x t l
 
 -- ---- no more than there is room for
 pub shown-length : (s : Shown) (code : ℕ) (g : Gate) (t : Rows) → Showable s t g.used → length (shown_text s code g t) ≤ line_room (length t.nums)

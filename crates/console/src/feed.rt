@@ -1,6 +1,7 @@
 // A session's input, fed in parts, or whole. Accounts and the bytes of a line that has not ended are lent.
 ghost use Rattle.std.specs.Prelude.{◌≡◌, ◌+◌, ◌≤◌, length};
-ghost use Rattle.table.specs.Lent.{lent};
+ghost use Rattle.lists.specs.Rows.{SameLoan};
+ghost use Rattle.table.specs.Lent.{rows_in};
 ghost use Rattle.table.specs.Columns.{gate_of, columns_of};
 ghost use Rattle.figures.specs.Sums.{Summable};
 ghost use Rattle.gathering.specs.Held.{held_of};
@@ -12,6 +13,7 @@ use crate::{show, start};
 use gathering::Mark;
 use orders::{ConsoleHead, turn};
 use table::columns;
+use table::rows::Table;
 use texts::scan;
 
 // A session between two parts of its input: its console, where the held line stands, how many bytes the last part printed, and how many of its bytes were taken.
@@ -32,9 +34,7 @@ pub(crate) struct Printed {
 
 // The line that is held has ended: it does its turn and prints at the cursor.
 pub(crate) fn end_line(
-    nums: &mut [[u64; 6]],
-    numbers: &mut [[u8; 30]],
-    dates: &mut [[[u8; 19]; 3]],
+    table: &mut Table<'_>,
     names: &mut [[u8; 30]; 256],
     keys: &mut [[u64; 2]; 256],
     balances: &mut [i64; 256],
@@ -44,14 +44,15 @@ pub(crate) fn end_line(
     out: &mut [u8],
     at: usize,
 ) -> Printed
-    requires { Summable (gate_of x.head (columns_of names.old keys.old balances.old)) × (at + line_room (length nums.old) ≤ length out.old) }
-    ensures ended_at { EndedAt (console_of x (columns_of names.old keys.old balances.old)) (held_of bytes.now m) (lent nums.old numbers.old dates.old) out.old at
-        (console_of result.console (columns_of names.new keys.new balances.new)) (lent nums.new numbers.new dates.new) out.new result.size }
+    requires { Summable (gate_of x.head (columns_of names.old keys.old balances.old)) × (at + line_room (length table.old.nums.now) ≤ length out.old) }
+    ensures ended_at { EndedAt (console_of x (columns_of names.old keys.old balances.old)) (held_of bytes.now m) (rows_in table.old) out.old at
+        (console_of result.console (columns_of names.new keys.new balances.new)) (rows_in table.new) out.new result.size }
     ensures summable { Summable (gate_of result.console.head (columns_of names.new keys.new balances.new)) }
+    ensures same_loan { SameLoan table.old table.new }
 {
     let line = scan::first_bytes(bytes, m.len);
-    let r = turn::line_turn(nums, numbers, dates, names, keys, balances, x, line);
-    let size = show::write_shown(nums, numbers, dates, balances, r, out, at);
+    let r = turn::line_turn(table, names, keys, balances, x, line);
+    let size = show::write_shown(table.view(), balances, r, out, at);
     Printed {
         console: r.console,
         size,
@@ -60,9 +61,7 @@ pub(crate) fn end_line(
 
 // Feeds a part of the input; what its lines print goes to the start of the buffer. Where that has no more room for a line, the rest is left to be fed again.
 pub fn feed(
-    nums: &mut [[u64; 6]],
-    numbers: &mut [[u8; 30]],
-    dates: &mut [[[u8; 19]; 3]],
+    table: &mut Table<'_>,
     names: &mut [[u8; 30]; 256],
     keys: &mut [[u64; 2]; 256],
     balances: &mut [i64; 256],
@@ -73,11 +72,13 @@ pub fn feed(
     out: &mut [u8],
 ) -> Part
     requires { Summable (gate_of x.head (columns_of names.old keys.old balances.old)) }
-    ensures out_after { part_of result (columns_of names.new keys.new balances.new) bytes.new (lent nums.new numbers.new dates.new) out.new
-        ≡ feed_part (console_of x (columns_of names.old keys.old balances.old)) (held_of bytes.old m) (lent nums.old numbers.old dates.old) input.now out.old }
+    ensures out_after { part_of result (columns_of names.new keys.new balances.new) bytes.new (rows_in table.new) out.new
+        ≡ feed_part (console_of x (columns_of names.old keys.old balances.old)) (held_of bytes.old m) (rows_in table.old) input.now out.old }
     ensures summable { Summable (gate_of result.console.head (columns_of names.new keys.new balances.new)) }
+    ensures places { length table.new.nums.now ≡ length table.old.nums.now }
+    ensures same_loan { SameLoan table.old table.new }
 {
-    let need = show::line_room(nums.len());
+    let need = show::line_room(table.nums.len());
     let mut console = x;
     let mut mark = m;
     let mut size: usize = 0;
@@ -93,7 +94,7 @@ pub fn feed(
             };
         }
         let s = end_line(
-            nums, numbers, dates, names, keys, balances, console, bytes, g.mark, out, size,
+            table, names, keys, balances, console, bytes, g.mark, out, size,
         );
         console = s.console;
         size = s.size;
@@ -111,9 +112,7 @@ pub fn feed(
 // The end of the input: a last line without its end is read too, and prints at the cursor.
 #[tactic(auto, using(crate::proofs::PartLaws::finish_laws))]
 pub fn finish(
-    nums: &mut [[u64; 6]],
-    numbers: &mut [[u8; 30]],
-    dates: &mut [[[u8; 19]; 3]],
+    table: &mut Table<'_>,
     names: &mut [[u8; 30]; 256],
     keys: &mut [[u64; 2]; 256],
     balances: &mut [i64; 256],
@@ -123,9 +122,10 @@ pub fn finish(
     out: &mut [u8],
     at: usize,
 ) -> Part
-    requires { Summable (gate_of x.head (columns_of names.old keys.old balances.old)) × (at + line_room (length nums.old) ≤ length out.old) }
-    ensures { part_of result (columns_of names.new keys.new balances.new) bytes.now (lent nums.new numbers.new dates.new) out.new
-        ≡ last_part (console_of x (columns_of names.old keys.old balances.old)) (held_of bytes.now m) (lent nums.old numbers.old dates.old) out.old at }
+    requires { Summable (gate_of x.head (columns_of names.old keys.old balances.old)) × (at + line_room (length table.old.nums.now) ≤ length out.old) }
+    ensures value { part_of result (columns_of names.new keys.new balances.new) bytes.now (rows_in table.new) out.new
+        ≡ last_part (console_of x (columns_of names.old keys.old balances.old)) (held_of bytes.now m) (rows_in table.old) out.old at }
+    ensures same_loan { SameLoan table.old table.new }
 {
     if m.len == 0 {
         return Part {
@@ -135,9 +135,7 @@ pub fn finish(
             taken: 0,
         };
     }
-    let s = end_line(
-        nums, numbers, dates, names, keys, balances, x, bytes, m, out, at,
-    );
+    let s = end_line(table, names, keys, balances, x, bytes, m, out, at);
     Part {
         console: s.console,
         mark: gathering::new_mark(),
@@ -147,16 +145,11 @@ pub fn finish(
 }
 
 // Runs a whole session, and tells how many bytes it printed; the output has to have room for what a line can print, at each byte and once more.
-pub fn run_session(
-    nums: &mut [[u64; 6]],
-    numbers: &mut [[u8; 30]],
-    dates: &mut [[[u8; 19]; 3]],
-    input: &[u8],
-    out: &mut [u8],
-) -> Option<usize>
-    ensures { run_of result (lent nums.new numbers.new dates.new) out.new ≡ run_all (lent nums.old numbers.old dates.old) input.now out.old }
+pub fn run_session(table: &mut Table<'_>, input: &[u8], out: &mut [u8]) -> Option<usize>
+    ensures value { run_of result (rows_in table.new) out.new ≡ run_all (rows_in table.old) input.now out.old }
+    ensures same_loan { SameLoan table.old table.new }
 {
-    if out.len() / show::line_room(nums.len()) <= input.len() {
+    if out.len() / show::line_room(table.nums.len()) <= input.len() {
         return None;
     }
     let mut names = columns::empty_names();
@@ -164,9 +157,7 @@ pub fn run_session(
     let mut balances = columns::empty_balances();
     let mut bytes = gathering::new_bytes();
     let s = feed(
-        nums,
-        numbers,
-        dates,
+        table,
         &mut names,
         &mut keys,
         &mut balances,
@@ -177,9 +168,7 @@ pub fn run_session(
         out,
     );
     let last = finish(
-        nums,
-        numbers,
-        dates,
+        table,
         &mut names,
         &mut keys,
         &mut balances,

@@ -1,6 +1,6 @@
 // What a line prints, and how much that can be.
 ghost use Rattle.std.specs.Prelude.{◌≡◌, ◌&&◌, ◌+◌, ◌-◌, ◌≤◌, leb, ltb, length};
-ghost use Rattle.table.specs.Lent.{lent};
+ghost use Rattle.table.specs.Lent.{rows_seen};
 ghost use Rattle.figures.specs.Sums.{Summable, nameless};
 ghost use Rattle.figures.specs.Listing.{Put};
 ghost use Rattle.orders.specs.Order.{shown_text};
@@ -9,6 +9,7 @@ ghost use Rattle.console.specs.Parts.{Showable};
 
 use figures::{daily, print};
 use orders::turn::{Shown, Turn};
+use table::rows::TableView;
 
 // The most records of a table that is not refused.
 const RECORDS_MOST: usize = 4096;
@@ -31,22 +32,20 @@ pub(crate) fn goes_on(at: usize, len: usize, size: usize, room: usize, need: usi
 
 // Writes what a line prints at the cursor.
 pub(crate) fn write_shown(
-    nums: &[[u64; 6]],
-    numbers: &[[u8; 30]],
-    dates: &[[[u8; 19]; 3]],
+    table: TableView<'_>,
     balances: &[i64; 256],
     r: Turn,
     out: &mut [u8],
     at: usize,
 ) -> usize
-    requires summable { Summable (nameless r.console.head balances.now) × Showable r.shown (lent nums.now numbers.now dates.now) r.console.head.used }
-    requires nums_in_bounds { at + line_room (length nums.now) ≤ length out.old }
+    requires summable { Summable (nameless r.console.head balances.now) × Showable r.shown (rows_seen table) r.console.head.used }
+    requires nums_in_bounds { at + line_room (length table.nums.now) ≤ length out.old }
     ensures { Put out.old at
-        (shown_text r.shown r.code (nameless r.console.head balances.now) (lent nums.now numbers.now dates.now)) result out.new }
+        (shown_text r.shown r.code (nameless r.console.head balances.now) (rows_seen table.entry)) result out.new }
 {
     let head = r.console.head;
     match r.shown {
         Shown::Figures => print::write_turn(r.code, balances, head, out, at),
-        Shown::Payments(d) => { daily::write_day(nums, numbers, dates, head.used, d, out, at) }
+        Shown::Payments(d) => { daily::write_day(table, head.used, d, out, at) }
     }
 }

@@ -10,6 +10,7 @@ use days::calendar::Day;
 use fields::number::Number;
 use gate::deliver;
 use ledger::Reply;
+use lists::rows::{Rows, RowsView};
 use settlement::settle;
 use table::Gate;
 
@@ -25,7 +26,12 @@ pub extern "C" fn roosteryore_open_account(
 ) -> Reply
     ensures { result ≡ open_account gate (lent nums.now numbers.now dates.now) number kind }
 {
-    opening::open_account(nums, numbers, dates, gate, number, kind)
+    let table = RowsView {
+        nums,
+        numbers,
+        dates,
+    };
+    opening::open_account(table, gate, number, kind)
 }
 
 // Draws kopecks from an account.
@@ -41,7 +47,12 @@ pub extern "C" fn roosteryore_draw_funds(
 ) -> Reply
     ensures { result ≡ draw_funds gate (lent nums.now numbers.now dates.now) number kind kopecks }
 {
-    opening::draw_funds(nums, numbers, dates, gate, number, kind, kopecks)
+    let table = RowsView {
+        nums,
+        numbers,
+        dates,
+    };
+    opening::draw_funds(table, gate, number, kind, kopecks)
 }
 
 // Delivers a request; its answer is in the buffer.
@@ -57,8 +68,13 @@ pub extern "C" fn roosteryore_deliver(
 ) -> Reply
     ensures { delivery_of result (lent nums.new numbers.new dates.new) out.new ≡ deliver gate (lent nums.old numbers.old dates.old) clock.now params.now out.old }
 {
+    let mut table = Rows {
+        nums,
+        numbers,
+        dates,
+    };
     let written = *clock;
-    deliver::deliver(nums, numbers, dates, gate, written, params, out)
+    deliver::deliver(&mut table, gate, written, params, out)
 }
 
 // Delivers the registry of a day; its report is in the buffer.
@@ -75,6 +91,11 @@ pub extern "C" fn roosteryore_settle(
 ) -> Reply
     ensures { delivery_of result (lent nums.new numbers.new dates.new) out.new ≡ settle gate (lent nums.old numbers.old dates.old) clock.now day bytes.now out.old }
 {
+    let mut table = Rows {
+        nums,
+        numbers,
+        dates,
+    };
     let written = *clock;
-    settle::settle(nums, numbers, dates, gate, written, day, bytes, out)
+    settle::settle(&mut table, gate, written, day, bytes, out)
 }

@@ -9,7 +9,9 @@ ghost use Rattle.gate.specs.Deliver.{deliver};
 use fields::number::Number;
 use gate::deliver;
 use ledger::HeadReply;
+use lists::rows::{Rows, RowsView};
 use table::Head;
+use table::columns::Accounts;
 
 // Opens an account.
 #[unsafe(no_mangle)]
@@ -26,9 +28,12 @@ pub extern "C" fn roosteryore_open_account_lent(
 ) -> HeadReply
     ensures { lent_reply result (columns_of names.new keys.new balances.new) ≡ open_account (gate_of head (columns_of names.old keys.old balances.old)) (lent nums.now numbers.now dates.now) number kind }
 {
-    opening::open_lent(
-        nums, numbers, dates, names, keys, balances, head, number, kind,
-    )
+    let table = RowsView {
+        nums,
+        numbers,
+        dates,
+    };
+    opening::open_lent(table, names, keys, balances, head, number, kind)
 }
 
 // Draws kopecks from an account.
@@ -47,9 +52,17 @@ pub extern "C" fn roosteryore_draw_funds_lent(
 ) -> HeadReply
     ensures { lent_reply result (columns_of names.now keys.now balances.new) ≡ draw_funds (gate_of head (columns_of names.now keys.now balances.old)) (lent nums.now numbers.now dates.now) number kind kopecks }
 {
-    opening::draw_lent(
-        nums, numbers, dates, names, keys, balances, head, number, kind, kopecks,
-    )
+    let table = RowsView {
+        nums,
+        numbers,
+        dates,
+    };
+    let mut accounts = Accounts {
+        names,
+        keys,
+        balances,
+    };
+    opening::draw_lent(table, &mut accounts, head, number, kind, kopecks)
 }
 
 // Delivers a request; its answer is in the buffer.
@@ -69,8 +82,16 @@ pub extern "C" fn roosteryore_deliver_lent(
     ensures { lent_delivery result (columns_of names.now keys.now balances.new) (lent nums.new numbers.new dates.new) out.new
         ≡ deliver (gate_of head (columns_of names.now keys.now balances.old)) (lent nums.old numbers.old dates.old) clock.now params.now out.old }
 {
+    let mut table = Rows {
+        nums,
+        numbers,
+        dates,
+    };
+    let mut accounts = Accounts {
+        names,
+        keys,
+        balances,
+    };
     let written = *clock;
-    deliver::deliver_lent(
-        nums, numbers, dates, names, keys, balances, head, written, params, out,
-    )
+    deliver::deliver_lent(&mut table, &mut accounts, head, written, params, out)
 }

@@ -67,7 +67,7 @@ pub(crate) fn write_lines(entries: EntriesView<'_>, b: Book, day: Day, out: &mut
 }
 
 // Writes the registry of a day up to the frozen one, alike each time; a fault keeps all.
-// Rows and code are as `roosteryore_write_registry` lends and answers them.
+// The code is as `roosteryore_write_registry` gives it to C.
 #[tactic(auto, unfolding(crate::specs::Listing::write_registry, crate::specs::Listing::list_on))]
 pub fn write_registry(entries: EntriesView<'_>, book: Book, day: Day, out: &mut [u8]) -> Writing
     ensures { listing_of result out.new ≡ write_registry book (entries_seen entries.entry) day out.old }
