@@ -1,6 +1,6 @@
 #![tactic(auto)]
 // The session program: it moves bytes from standard input to the console, and what the console prints to standard output.
-ghost use Rattle.std.specs.Prelude.{◌≡◌, ◌≤◌, length};
+ghost use Rattle.std.specs.Prelude.{◌≡◌, ◌≤◌, length, IfSome};
 ghost use Rattle.table.specs.Columns.{gate_of, columns_of};
 ghost use Rattle.figures.specs.Sums.{Summable};
 ghost use Rattle.console.specs.Feed.{line_room};
@@ -11,14 +11,6 @@ use console::{feed, start};
 use std::io::{Read, Stdin};
 use table::columns;
 use texts::scan;
-
-// A session, whether its input goes on, and whether what it printed was written.
-#[derive(Clone, Copy)]
-struct Stage {
-    session: Part,
-    going: bool,
-    written: bool,
-}
 
 // The table that is lent: 256 records.
 fn empty_nums() -> [[u64; 6]; 256]
@@ -76,7 +68,7 @@ fn read_some(stdin: &mut Stdin, input: &mut [u8]) -> usize
     }
 }
 
-// Feeds what was read, again where the buffer had no room for all of it, and prints.
+// Feeds what was read, again where the buffer had no room for all of it, and prints. None where that could not be written.
 fn feed_read(
     nums: &mut [[u64; 6]],
     numbers: &mut [[u8; 30]],
@@ -88,15 +80,13 @@ fn feed_read(
     input: &[u8],
     out: &mut [u8],
     s: Part,
-) -> Stage
+) -> Option<Part>
     requires { Summable (gate_of s.console.head (columns_of names.old keys.old balances.old)) × (line_room (length nums.old) ≤ length out.old) }
-    ensures { Summable (gate_of result.session.console.head (columns_of names.new keys.new balances.new)) }
+    ensures { IfSome result (λ p. Summable (gate_of p.console.head (columns_of names.new keys.new balances.new))) }
 {
     let mut session = s;
     let mut at: usize = 0;
     while at < input.len() {
-        let console = session.console;
-        let mark = session.mark;
         session = feed::feed(
             nums,
             numbers,
@@ -105,67 +95,20 @@ fn feed_read(
             keys,
             balances,
             bytes,
-            console,
-            mark,
+            session.console,
+            session.mark,
             &input[at..],
             out,
         );
         if !io::write_all(1, scan::first_bytes(out, session.size)) {
-            return Stage {
-                session,
-                going: false,
-                written: false,
-            };
+            return None;
         }
         at += session.taken;
     }
-    Stage {
-        session,
-        going: true,
-        written: true,
-    }
+    Some(session)
 }
 
-// Reads once, feeds what came and prints.
-fn feed_some(
-    stdin: &mut Stdin,
-    nums: &mut [[u64; 6]],
-    numbers: &mut [[u8; 30]],
-    dates: &mut [[[u8; 19]; 3]],
-    names: &mut [[u8; 30]; 256],
-    keys: &mut [[u64; 2]; 256],
-    balances: &mut [i64; 256],
-    bytes: &mut [u8; 2177],
-    input: &mut [u8],
-    out: &mut [u8],
-    s: Part,
-) -> Stage
-    requires { Summable (gate_of s.console.head (columns_of names.old keys.old balances.old)) × (line_room (length nums.old) ≤ length out.old) }
-    ensures { Summable (gate_of result.session.console.head (columns_of names.new keys.new balances.new)) }
-{
-    let n = read_some(stdin, input);
-    if n == 0 {
-        return Stage {
-            session: s,
-            going: false,
-            written: true,
-        };
-    }
-    feed_read(
-        nums,
-        numbers,
-        dates,
-        names,
-        keys,
-        balances,
-        bytes,
-        &input[..n],
-        out,
-        s,
-    )
-}
-
-// Feeds all of the input. A proved loop has to end, so it counts its turns down from a number that no run uses up.
+// Feeds all of the input. A proved loop has to end, so it counts its turns to a number that no run comes to.
 fn feed_all(
     stdin: &mut Stdin,
     nums: &mut [[u64; 6]],
@@ -178,27 +121,30 @@ fn feed_all(
     input: &mut [u8],
     out: &mut [u8],
     s: Part,
-) -> Stage
+) -> Option<Part>
     requires { Summable (gate_of s.console.head (columns_of names.old keys.old balances.old)) × (line_room (length nums.old) ≤ length out.old) }
-    ensures { Summable (gate_of result.session.console.head (columns_of names.new keys.new balances.new)) }
+    ensures { IfSome result (λ p. Summable (gate_of p.console.head (columns_of names.new keys.new balances.new))) }
 {
     let mut session = s;
-    let mut turns = u64::MAX;
-    while 0 < turns {
-        let stage = feed_some(
-            stdin, nums, numbers, dates, names, keys, balances, bytes, input, out, session,
-        );
-        if !stage.going {
-            return stage;
+    for _ in 0..u64::MAX {
+        let n = read_some(stdin, input);
+        if n == 0 {
+            return Some(session);
         }
-        session = stage.session;
-        turns -= 1;
+        session = feed_read(
+            nums,
+            numbers,
+            dates,
+            names,
+            keys,
+            balances,
+            bytes,
+            &input[..n],
+            out,
+            session,
+        )?;
     }
-    Stage {
-        session,
-        going: true,
-        written: true,
-    }
+    Some(session)
 }
 
 // Prints the last line, where no 0A ends it.
@@ -215,10 +161,8 @@ fn print_last(
 ) -> bool
     requires { Summable (gate_of s.console.head (columns_of names.old keys.old balances.old)) × (line_room (length nums.old) ≤ length out.old) }
 {
-    let console = s.console;
-    let mark = s.mark;
     let last = feed::finish(
-        nums, numbers, dates, names, keys, balances, bytes, console, mark, out, 0,
+        nums, numbers, dates, names, keys, balances, bytes, s.console, s.mark, out, 0,
     );
     io::write_all(1, scan::first_bytes(out, last.size))
 }
@@ -234,7 +178,7 @@ fn main(rt: HostRuntime) {
     let mut bytes = gathering::new_bytes();
     let mut input = [0u8; 4096];
     let mut out = output_part();
-    let stage = feed_all(
+    let fed = feed_all(
         &mut stdin,
         &mut nums,
         &mut numbers,
@@ -247,10 +191,8 @@ fn main(rt: HostRuntime) {
         &mut out,
         begin(),
     );
-    let mut written = stage.written;
-    if written {
-        let session = stage.session;
-        written = print_last(
+    let written = match fed {
+        Some(session) => print_last(
             &mut nums,
             &mut numbers,
             &mut dates,
@@ -260,8 +202,9 @@ fn main(rt: HostRuntime) {
             &bytes,
             &mut out,
             session,
-        );
-    }
+        ),
+        None => false,
+    };
     if !written {
         complain(b"session: cannot write standard output\n");
     }
