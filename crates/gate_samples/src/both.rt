@@ -5,8 +5,6 @@ use calls::Call;
 use fields::number::Number;
 use ledger::Reply;
 use table::{Gate, Record, rows};
-use texts::scan;
-use vectors::line;
 
 // What a call answered, and the records and the buffer as it left them.
 #[derive(Clone, Copy)]
@@ -39,11 +37,7 @@ fn record_at(nums: &[[u64; 6]], numbers: &[[u8; 30]], dates: &[[[u8; 19]; 3]], i
 
 // The four records that the rows hold, used or not.
 fn held(nums: &[[u64; 6]], numbers: &[[u8; 30]], dates: &[[[u8; 19]; 3]]) -> [Record; 4] {
-    let a = record_at(nums, numbers, dates, 0);
-    let b = record_at(nums, numbers, dates, 1);
-    let c = record_at(nums, numbers, dates, 2);
-    let d = record_at(nums, numbers, dates, 3);
-    [a, b, c, d]
+    [0, 1, 2, 3].map(|i| record_at(nums, numbers, dates, i))
 }
 
 // The call over what is lent of the rows.
@@ -56,9 +50,9 @@ fn over_lent(
     text: &[u8],
     out: &mut [u8],
 ) -> Reply {
-    let n = line::least(w.lent, nums.len());
-    let m = line::least(w.lent, numbers.len());
-    let d = line::least(w.lent_dates, dates.len());
+    let n = w.lent.min(nums.len());
+    let m = w.lent.min(numbers.len());
+    let d = w.lent_dates.min(dates.len());
     calls::call_on(
         &mut nums[..n],
         &mut numbers[..m],
@@ -72,14 +66,12 @@ fn over_lent(
 
 // The call over as many of the records, with `room` bytes lent.
 fn over_records(records: [Record; 4], w: World, call: Call, text: &[u8], room: usize) -> Left {
-    let n = line::least(w.lent, 4);
-    let k = line::least(room, 512);
     let mut out = [b'.'; 512];
-    let desk = lending::call_first(records, n, w.gate, call, text, &mut out[..k]);
-    let reply = desk.reply;
+    let part = &mut out[..room.min(512)];
+    let desk = lending::call_first(records, w.lent.min(4), w.gate, call, text, part);
     let records = desk.records;
     Left {
-        reply,
+        reply: desk.reply,
         records,
         out,
     }
@@ -92,19 +84,13 @@ fn complain(what: &[u8]) {
 
 // Complains of each part in which two calls differ.
 fn compare(a: Left, b: Left) {
-    let r = a.reply;
-    let s = b.reply;
-    if !same::reply(r, s) {
+    if !same::reply(a.reply, b.reply) {
         complain(b"the reply");
     }
-    let x = a.records;
-    let y = b.records;
-    if !same::records(x, y) {
+    if !same::records(a.records, b.records) {
         complain(b"a record");
     }
-    let out = a.out;
-    let other = b.out;
-    if !scan::same_bytes(&out, &other) {
+    if a.out != b.out {
         complain(b"the buffer");
     }
 }
@@ -120,9 +106,9 @@ pub fn run(
     room: usize,
 ) -> Left {
     let before = held(nums, numbers, dates);
-    let k = line::least(room, 512);
     let mut out = [b'.'; 512];
-    let reply = over_lent(nums, numbers, dates, w, call, text, &mut out[..k]);
+    let part = &mut out[..room.min(512)];
+    let reply = over_lent(nums, numbers, dates, w, call, text, part);
     let records = held(nums, numbers, dates);
     let left = Left {
         reply,

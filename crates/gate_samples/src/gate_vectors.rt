@@ -2,7 +2,6 @@
 use crate::both::Left;
 use crate::world::World;
 use crate::{both, world};
-use calls::Call;
 use fields::number::Number;
 use ledger::Reply;
 use table::{Record, rows};
@@ -11,18 +10,13 @@ use vectors::given;
 
 // Shows what a call answered, and hands back the world that it left.
 fn answered(w: World, r: Reply) -> World {
-    let g = r.gate;
-    world::show_state(r.code, g);
-    world::with_gate(w, g)
+    world::show_state(r.code, r.gate);
+    World { gate: r.gate, ..w }
 }
 
 // The type before the first space; 1000 where there is none.
 fn kind(s: &[u8]) -> u64 {
-    let d = digits::read_digits(scan::before_byte(s, b' '), 3);
-    match d {
-        Some(v) => v,
-        None => 1000,
-    }
+    digits::read_digits(scan::before_byte(s, b' '), 3).unwrap_or(1000)
 }
 
 // A clock of nineteen bytes; nineteen zeros for any other text.
@@ -34,29 +28,30 @@ fn clock(s: &[u8]) -> [u8; 19] {
     }
 }
 
-// An opening or a draw, from number, type and for a draw kopecks.
-pub fn account_call(
-    opening: bool,
+// An opening, from number and type.
+pub fn open(
     s: &[u8],
     nums: &mut [[u64; 6]],
     numbers: &mut [[u8; 30]],
     dates: &mut [[[u8; 19]; 3]],
     w: World,
 ) -> World {
-    let a = both::run(nums, numbers, dates, w, account_of(opening, s), b"", 512);
-    let r = a.reply;
-    answered(w, r)
+    let call = calls::opening_call(given::number(s), kind(scan::after_byte(s, b' ')));
+    answered(w, both::run(nums, numbers, dates, w, call, b"", 512).reply)
 }
 
-// The call of a line that opens an account, or draws from one.
-fn account_of(opening: bool, s: &[u8]) -> Call {
-    let number = given::number(s);
+// A draw, from number, type and kopecks.
+pub fn draw(
+    s: &[u8],
+    nums: &mut [[u64; 6]],
+    numbers: &mut [[u8; 30]],
+    dates: &mut [[[u8; 19]; 3]],
+    w: World,
+) -> World {
     let rest = scan::after_byte(s, b' ');
-    if opening {
-        return calls::opening_call(number, kind(rest));
-    }
     let kopecks = given::value(scan::after_byte(rest, b' '));
-    calls::drawing_call(number, kind(rest), kopecks)
+    let call = calls::drawing_call(given::number(s), kind(rest), kopecks);
+    answered(w, both::run(nums, numbers, dates, w, call, b"", 512).reply)
 }
 
 // `a` and the digits of i.
@@ -64,20 +59,6 @@ fn named(i: u64) -> Number {
     let mut space = [b'a'; 30];
     let n = digits::write_digits(i, &mut space, 1);
     given::number(scan::first_bytes(&space, n))
-}
-
-// The opening of the account of this number.
-fn open_next(
-    i: u64,
-    nums: &mut [[u64; 6]],
-    numbers: &mut [[u8; 30]],
-    dates: &mut [[[u8; 19]; 3]],
-    w: World,
-) -> Reply {
-    let call = calls::opening_call(named(i), 1);
-    let a = both::run(nums, numbers, dates, w, call, b"", 512);
-    let r = a.reply;
-    r
 }
 
 // So many openings: the last one's code.
@@ -88,28 +69,35 @@ pub fn open_many(
     dates: &mut [[[u8; 19]; 3]],
     w: World,
 ) -> World {
-    let n = given::value(s);
     let mut code: u64 = 0;
-    let mut g = w.gate;
-    let mut i: u64 = 0;
-    while i < n {
-        let r = open_next(i, nums, numbers, dates, world::with_gate(w, g));
+    let mut next = w;
+    for i in 0..given::value(s) {
+        let call = calls::opening_call(named(i), 1);
+        let r = both::run(nums, numbers, dates, next, call, b"", 512).reply;
         code = r.code;
-        g = r.gate;
-        i += 1;
+        next.gate = r.gate;
     }
     io::print_decimal(1, code);
-    world::with_gate(w, g)
+    next
 }
 
-// How many bytes are lent for what is written: one less than asked for at odd places.
-fn room(k: usize) -> usize {
-    if k % 2 == 0 { 512 } else { 511 }
+// A request, from clock and parameters, with `room` bytes lent for its answer.
+pub fn deliver(
+    room: usize,
+    s: &[u8],
+    nums: &mut [[u64; 6]],
+    numbers: &mut [[u8; 30]],
+    dates: &mut [[[u8; 19]; 3]],
+    w: World,
+) -> World {
+    let call = calls::request_call(clock(s));
+    let text = scan::after_byte(s, b' ');
+    told(w, both::run(nums, numbers, dates, w, call, text, room))
 }
 
-// A request, from clock and parameters, or a registry, from day, clock and text: deliver, deliver-small, settle or settle-small.
-pub fn send(
-    k: usize,
+// A registry, from day, clock and text, with `room` bytes lent for its report.
+pub fn settle(
+    room: usize,
     s: &[u8],
     nums: &mut [[u64; 6]],
     numbers: &mut [[u8; 30]],
@@ -117,21 +105,15 @@ pub fn send(
     w: World,
 ) -> World {
     let rest = scan::after_byte(s, b' ');
-    if 2 <= k {
-        let text = scan::after_byte(rest, b' ');
-        let call = calls::registry_call(clock(rest), given::day(s));
-        return told(w, both::run(nums, numbers, dates, w, call, text, room(k)));
-    }
-    let call = calls::request_call(clock(s));
-    told(w, both::run(nums, numbers, dates, w, call, rest, room(k)))
+    let call = calls::registry_call(clock(rest), given::day(s));
+    let text = scan::after_byte(rest, b' ');
+    told(w, both::run(nums, numbers, dates, w, call, text, room))
 }
 
 // Shows what was answered and written, and hands back the world that the call left.
 fn told(w: World, a: Left) -> World {
-    let r = a.reply;
-    let out = a.out;
-    let next = answered(w, r);
-    show_written(&out, r.size);
+    let next = answered(w, a.reply);
+    show_written(&a.out, a.reply.size);
     next
 }
 
@@ -155,13 +137,8 @@ pub fn record(
     dates: &[[[u8; 19]; 3]],
     w: World,
 ) {
-    let g = w.gate;
     let i = given::value(s) as usize;
-    if g.used <= i {
-        io::write_all(1, b"unused");
-        return;
-    }
-    if nums.len() <= i || numbers.len() <= i || dates.len() <= i {
+    if w.gate.used <= i || nums.len() <= i || numbers.len() <= i || dates.len() <= i {
         io::write_all(1, b"unused");
         return;
     }
@@ -170,22 +147,16 @@ pub fn record(
 
 // Receipt, number, type, kopecks, date, state, authcode, credit date and cancel date.
 fn show_record(r: Record) {
-    let number = r.number;
     io::print_decimal(1, r.receipt);
     io::write_all(1, b" ");
-    let n = number.len;
-    let bytes = number.bytes;
-    io::write_all(1, scan::first_bytes(&bytes, n));
+    io::write_all(1, scan::first_bytes(&r.number.bytes, r.number.len));
     world::named(b" ", r.kind);
     world::named(b" ", r.amount);
-    let date = r.date;
-    show_date(date);
+    show_date(r.date);
     world::named(b" ", r.state);
     world::named(b" ", r.authcode);
-    let credit = r.credit;
-    show_date(credit);
-    let cancel = r.cancel;
-    show_date(cancel);
+    show_date(r.credit);
+    show_date(r.cancel);
 }
 
 // The bytes of a date before its first zero; `-` where there are none.

@@ -1,7 +1,6 @@
 // The words of the vectors: the one place that says what each runs.
 use crate::world::World;
 use crate::{gate_vectors, spoil, world};
-use vectors::line;
 
 // Runs the word on its text, and hands back the world.
 pub fn answer(
@@ -12,17 +11,17 @@ pub fn answer(
     dates: &mut [[[u8; 19]; 3]],
     w: World,
 ) -> World {
-    let k = line::place(
-        word,
-        b"deliver deliver-small settle settle-small open draw open-many spoil gate record",
-    );
-    match k {
-        0 | 1 | 2 | 3 => gate_vectors::send(k, text, nums, numbers, dates, w),
-        4 | 5 => gate_vectors::account_call(k == 4, text, nums, numbers, dates, w),
-        6 => gate_vectors::open_many(text, nums, numbers, dates, w),
-        7 => spoil::spoil(text, nums, numbers, dates, w),
-        8 => world::started(text),
-        9 => {
+    match word {
+        b"deliver" => gate_vectors::deliver(512, text, nums, numbers, dates, w),
+        b"deliver-small" => gate_vectors::deliver(511, text, nums, numbers, dates, w),
+        b"settle" => gate_vectors::settle(512, text, nums, numbers, dates, w),
+        b"settle-small" => gate_vectors::settle(511, text, nums, numbers, dates, w),
+        b"open" => gate_vectors::open(text, nums, numbers, dates, w),
+        b"draw" => gate_vectors::draw(text, nums, numbers, dates, w),
+        b"open-many" => gate_vectors::open_many(text, nums, numbers, dates, w),
+        b"spoil" => spoil::spoil(text, nums, numbers, dates, w),
+        b"gate" => world::started(text),
+        b"record" => {
             gate_vectors::record(text, nums, numbers, dates, w);
             w
         }

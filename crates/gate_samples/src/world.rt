@@ -1,7 +1,7 @@
 // What the vectors of the gate keep from line to line: the gate, and how many records are lent.
 use table::Gate;
 use texts::scan;
-use vectors::{given, line};
+use vectors::given;
 
 // The dates may be lent at a length of their own.
 #[derive(Clone, Copy)]
@@ -27,35 +27,10 @@ pub fn started(s: &[u8]) -> World {
     start(s)
 }
 
-// The world with another gate.
-pub fn with_gate(w: World, gate: Gate) -> World {
-    World {
-        gate,
-        lent: w.lent,
-        lent_dates: w.lent_dates,
-    }
-}
-
 // A name and a number, printed.
 pub fn named(name: &[u8], n: u64) {
     io::write_all(1, name);
     io::print_decimal(1, n);
-}
-
-// A balance, or 0 where it is below.
-fn positive(b: i64) -> u64 {
-    if b < 0 {
-        return 0;
-    }
-    b as u64
-}
-
-// How far a balance is below 0.
-fn owed(b: i64) -> u64 {
-    if b < 0 {
-        return std::num::wrapping_add_u64((-1 - b) as u64, 1);
-    }
-    0
 }
 
 fn show_difference(a: u64, b: u64) {
@@ -69,16 +44,11 @@ fn show_difference(a: u64, b: u64) {
 
 // The sum of the balances in use.
 fn show_total(g: Gate) {
-    let count = line::least(g.count, 256);
     let mut over: u64 = 0;
     let mut under: u64 = 0;
-    let mut i: usize = 0;
-    while i < count {
-        let a = g.accounts[i];
-        let b = a.balance;
-        over = std::num::wrapping_add_u64(over, positive(b));
-        under = std::num::wrapping_add_u64(under, owed(b));
-        i += 1;
+    for a in &g.accounts[..g.count.min(256)] {
+        over = over.wrapping_add(a.balance.max(0).unsigned_abs());
+        under = under.wrapping_add(a.balance.min(0).unsigned_abs());
     }
     show_difference(over, under);
 }
