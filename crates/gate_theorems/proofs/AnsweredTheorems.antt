@@ -52,12 +52,12 @@ unfolding one_of
 decision-never = decision-by (λ (c : ℕ). one_of (8 ∷ 50 ∷ 51 ∷ 68 ∷ []) c ≡ false) refl refl refl refl refl refl refl refl refl refl refl refl
 
 -- a request has no fault, or one of seven
-pub fault-codes : (params : List ℕ) → one_of (0 ∷ 1 ∷ 2 ∷ 3 ∷ 4 ∷ 5 ∷ 31 ∷ 32 ∷ []) fault_number (request_read params) ≡ true
+pub fault-codes : (params : List ℕ) → one_of (0 ∷ 1 ∷ 2 ∷ 3 ∷ 4 ∷ 5 ∷ 31 ∷ 32 ∷ []) (fault_number (request_read params)) ≡ true
 unfolding one_of
 fault-codes = fault-by (λ (c : ℕ). one_of (0 ∷ 1 ∷ 2 ∷ 3 ∷ 4 ∷ 5 ∷ 31 ∷ 32 ∷ []) c ≡ true) refl refl refl refl refl refl refl refl
 
 -- so its answer has the number that was found at fault
-pub fault-kept : (params : List ℕ) → (fault_number (request_read params) ≡ 0 → ⊥) → fault_code fault_number (request_read params) ≡ fault_number (request_read params)
+pub fault-kept : (params : List ℕ) → (fault_number (request_read params) ≡ 0 → ⊥) → fault_code (fault_number (request_read params)) ≡ fault_number (request_read params)
 unfolding fault_code is_fault
 fault-kept = fault-by (λ (c : ℕ). (c ≡ 0 → ⊥) → fault_code c ≡ c) (λ n. absurd (n refl)) (λ _. refl) (λ _. refl) (λ _. refl) (λ _. refl) (λ _. refl) (λ _. refl) (λ _. refl)
 
