@@ -18,7 +18,7 @@ pub struct Entry {
     pub authcode: u64,
 }
 
-// The entries in use are the first `used` of the lent rows; their receipts are consecutive from `first`.
+// The entries in use are the first `used` of the lent rows; their receipts are consecutive from `first`. C hands it in and gets it back.
 #[repr(C)]
 #[derive(Clone, Copy)]
 pub struct Book {

@@ -9,6 +9,7 @@ use book::rows::EntriesView;
 use book_validity::valid;
 use days::calendar::Day;
 
+// The code of a freezing, and the book as it leaves it. C gets it so (`roosteryore_freeze`).
 #[repr(C)]
 #[derive(Clone, Copy)]
 pub struct Freezing {

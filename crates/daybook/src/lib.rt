@@ -3,7 +3,7 @@
 pub mod freezing;
 pub mod frozen;
 
-// What a writing gives: `size` bytes of the buffer hold its text, none with a fault.
+// What a writing gives: `size` bytes of the buffer hold its text, none with a fault. C gets it so (`roosteryore_write_check`).
 #[repr(C)]
 #[derive(Clone, Copy)]
 pub struct Writing {

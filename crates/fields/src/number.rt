@@ -5,7 +5,7 @@ ghost use Rattle.fields.specs.Number.{number_byte, number_text, is_number, is_nu
 
 use texts::{out, scan};
 
-// The first `len` bytes count; a number that is read is zero after them.
+// The first `len` bytes count; a number that is read is zero after them. C passes it so: no slice, no heap.
 #[repr(C)]
 #[derive(Clone, Copy)]
 pub struct Number {

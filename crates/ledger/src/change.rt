@@ -18,7 +18,7 @@ use table::columns::{Accounts, AccountsView};
 use table::rows::{Table, TableView};
 use table::{Gate, Head, Record, accounts, columns, rows};
 
-// What an instruction comes to: the code, how many records there are then, and the record that the answer speaks of.
+// What an instruction comes to: the code, a number as in `Decided`, how many records there are then, and the record that the answer speaks of.
 #[derive(Clone, Copy)]
 pub struct Execution {
     pub code: u64,

@@ -4,7 +4,7 @@ pub mod change;
 
 use table::{Gate, Head};
 
-// What a call of the gate answers: its code, the gate as it leaves it, and how many bytes of the lent buffer it wrote.
+// What a call of the gate answers: its code, the gate as it leaves it, and how many bytes of the lent buffer it wrote. C gets it so (`roosteryore_deliver`): a number, and the gate with a fault too.
 #[repr(C)]
 #[derive(Clone, Copy)]
 pub struct Reply {
@@ -13,7 +13,7 @@ pub struct Reply {
     pub size: usize,
 }
 
-// The same where the accounts are lent in columns: the head instead of the gate.
+// The same where the accounts are lent in columns: the head instead of the gate. C gets it so (`roosteryore_deliver_lent`).
 #[repr(C)]
 #[derive(Clone, Copy)]
 pub struct HeadReply {

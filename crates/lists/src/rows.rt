@@ -1,4 +1,4 @@
-// The three rows in which a table, a book or the lines of a registry are lent: N holds the numbers of a place, D its dates.
+// The three rows in which a table or a book is lent: N holds the numbers of a place, D its dates. Three slices and no slice of records, since C lends them so (`roosteryore_deliver`, `roosteryore_accept`).
 ghost use Rattle.std.specs.Prelude.{◌≡◌, true, length};
 ghost use Rattle.lists.specs.Lent.{lent_well, Lent};
 ghost use Rattle.lists.specs.Rows.{IsView};

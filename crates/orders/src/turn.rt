@@ -29,7 +29,7 @@ pub enum Shown {
     Payments(Day),
 }
 
-// A line's code, or 99, the console after it, and what it prints.
+// A line's code, or 99, as it is printed, the console after it, and what else it prints.
 #[derive(Clone, Copy)]
 pub struct Turn {
     pub code: u64,

@@ -1,4 +1,4 @@
-// The payment table: three lent rows, read and written a record at a time. They stay three slices, since C lends them so.
+// The payment table: three lent rows, read and written a record at a time.
 ghost use Rattle.std.specs.Prelude.{◌≡◌, ◌==◌, slice_index, position, [], ◌<◌, ◌≤◌, length, get_or};
 ghost use Rattle.table.specs.Table.{record_from, record_at, rows_with, records_of, find_record};
 ghost use Rattle.lists.specs.Rows.{SameLoan};

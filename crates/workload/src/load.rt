@@ -5,7 +5,7 @@ ghost use Rattle.workload.specs.Load.{steps_within, filled_of, filled_by, write_
 
 use crate::{given, line};
 
-// What a call wrote: its code, how many bytes and steps, and the value that a second call goes on from. A malformed load (60) tells its start too.
+// What a call wrote: its code, how many bytes and steps, and the value that a second call goes on from. A malformed load (60) tells its start too. The code is a number, as the claims of workload_theorems speak of it.
 #[derive(Clone, Copy)]
 pub struct Written {
     pub code: u64,
