@@ -8,8 +8,10 @@ ghost use Rattle.console.specs.Session.{new_head};
 
 use console::feed::Part;
 use console::{feed, start};
+use lists::rows::Rows;
 use std::io::{Read, Stdin};
 use table::columns;
+use table::rows::Table;
 use texts::scan;
 
 // The table that is lent: 256 records.
@@ -70,9 +72,7 @@ fn read_some(stdin: &mut Stdin, input: &mut [u8]) -> usize
 
 // Feeds what was read, again where the buffer had no room for all of it, and prints. None where that could not be written.
 fn feed_read(
-    nums: &mut [[u64; 6]],
-    numbers: &mut [[u8; 30]],
-    dates: &mut [[[u8; 19]; 3]],
+    table: &mut Table<'_>,
     names: &mut [[u8; 30]; 256],
     keys: &mut [[u64; 2]; 256],
     balances: &mut [i64; 256],
@@ -81,16 +81,15 @@ fn feed_read(
     out: &mut [u8],
     s: Part,
 ) -> Option<Part>
-    requires { Summable (gate_of s.console.head (columns_of names.old keys.old balances.old)) × (line_room (length nums.old) ≤ length out.old) }
-    ensures { IfSome result (λ p. Summable (gate_of p.console.head (columns_of names.new keys.new balances.new))) }
+    requires { Summable (gate_of s.console.head (columns_of names.old keys.old balances.old)) × (line_room (length table.old.nums.now) ≤ length out.old) }
+    ensures summable { IfSome result (λ p. Summable (gate_of p.console.head (columns_of names.new keys.new balances.new))) }
+    ensures places { length table.new.nums.now ≡ length table.old.nums.now }
 {
     let mut session = s;
     let mut at: usize = 0;
     while at < input.len() {
         session = feed::feed(
-            nums,
-            numbers,
-            dates,
+            table,
             names,
             keys,
             balances,
@@ -111,9 +110,7 @@ fn feed_read(
 // Feeds all of the input. A proved loop has to end, so it counts its turns to a number that no run comes to.
 fn feed_all(
     stdin: &mut Stdin,
-    nums: &mut [[u64; 6]],
-    numbers: &mut [[u8; 30]],
-    dates: &mut [[[u8; 19]; 3]],
+    table: &mut Table<'_>,
     names: &mut [[u8; 30]; 256],
     keys: &mut [[u64; 2]; 256],
     balances: &mut [i64; 256],
@@ -122,8 +119,9 @@ fn feed_all(
     out: &mut [u8],
     s: Part,
 ) -> Option<Part>
-    requires { Summable (gate_of s.console.head (columns_of names.old keys.old balances.old)) × (line_room (length nums.old) ≤ length out.old) }
-    ensures { IfSome result (λ p. Summable (gate_of p.console.head (columns_of names.new keys.new balances.new))) }
+    requires { Summable (gate_of s.console.head (columns_of names.old keys.old balances.old)) × (line_room (length table.old.nums.now) ≤ length out.old) }
+    ensures summable { IfSome result (λ p. Summable (gate_of p.console.head (columns_of names.new keys.new balances.new))) }
+    ensures places { length table.new.nums.now ≡ length table.old.nums.now }
 {
     let mut session = s;
     for _ in 0..u64::MAX {
@@ -132,9 +130,7 @@ fn feed_all(
             return Some(session);
         }
         session = feed_read(
-            nums,
-            numbers,
-            dates,
+            table,
             names,
             keys,
             balances,
@@ -149,9 +145,7 @@ fn feed_all(
 
 // Prints the last line, where no 0A ends it.
 fn print_last(
-    nums: &mut [[u64; 6]],
-    numbers: &mut [[u8; 30]],
-    dates: &mut [[[u8; 19]; 3]],
+    table: &mut Table<'_>,
     names: &mut [[u8; 30]; 256],
     keys: &mut [[u64; 2]; 256],
     balances: &mut [i64; 256],
@@ -159,10 +153,10 @@ fn print_last(
     out: &mut [u8],
     s: Part,
 ) -> bool
-    requires { Summable (gate_of s.console.head (columns_of names.old keys.old balances.old)) × (line_room (length nums.old) ≤ length out.old) }
+    requires { Summable (gate_of s.console.head (columns_of names.old keys.old balances.old)) × (line_room (length table.old.nums.now) ≤ length out.old) }
 {
     let last = feed::finish(
-        nums, numbers, dates, names, keys, balances, bytes, s.console, s.mark, out, 0,
+        table, names, keys, balances, bytes, s.console, s.mark, out, 0,
     );
     io::write_all(1, scan::first_bytes(out, last.size))
 }
@@ -172,6 +166,11 @@ fn main(rt: HostRuntime) {
     let mut nums = empty_nums();
     let mut numbers = empty_numbers();
     let mut dates = empty_dates();
+    let mut table = Rows {
+        nums: &mut nums,
+        numbers: &mut numbers,
+        dates: &mut dates,
+    };
     let mut names = columns::empty_names();
     let mut keys = columns::empty_keys();
     let mut balances = columns::empty_balances();
@@ -180,9 +179,7 @@ fn main(rt: HostRuntime) {
     let mut out = output_part();
     let fed = feed_all(
         &mut stdin,
-        &mut nums,
-        &mut numbers,
-        &mut dates,
+        &mut table,
         &mut names,
         &mut keys,
         &mut balances,
@@ -193,9 +190,7 @@ fn main(rt: HostRuntime) {
     );
     let written = match fed {
         Some(session) => print_last(
-            &mut nums,
-            &mut numbers,
-            &mut dates,
+            &mut table,
             &mut names,
             &mut keys,
             &mut balances,

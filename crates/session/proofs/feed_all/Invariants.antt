@@ -5,4 +5,4 @@ use Rattle.session.proofs.feed_all.Given as goal
 
 abbrev pub invariant-loop : goal.invariant-loop
 invariant-loop l =
-    (length l.nums ≡ length l.initial.nums) × (length l.out ≡ length l.initial.out) × Summable (gate_of l.session.console.head (columns_of l.names l.keys l.balances))
+    (length l.table.nums.now ≡ length l.initial.table.nums.now) × (length l.out ≡ length l.initial.out) × Summable (gate_of l.session.console.head (columns_of l.names l.keys l.balances))

@@ -7,7 +7,7 @@ use Rattle.session.proofs.feed_read.Given as goal
 
 abbrev pub invariant-loop-at : goal.invariant-loop-at
 invariant-loop-at l =
-    (length l.nums ≡ length l.initial.nums) × (length l.numbers ≡ length l.initial.numbers) × (length l.dates ≡ length l.initial.dates) × (length l.out ≡ length l.initial.out)
+    (length l.table.nums.now ≡ length l.initial.table.nums.now) × (length l.out ≡ length l.initial.out)
     × Summable (gate_of l.session.console.head (columns_of l.names l.keys l.balances)) × (l.at ≤ length l.input) × (length l.input * 1 < 2 ^ 63)
 
 abbrev pub decreases-loop-at : goal.decreases-loop-at

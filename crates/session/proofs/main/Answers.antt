@@ -11,7 +11,7 @@ feed_all-fed-requires c = (
 
 pub print_last-written-requires : goal.print_last-written-requires
 print_last-written-requires c = (
-  c.in-Some.ensures,
-  room-kept _ _ _ _ c.feed_all-fed.auto.nums c.feed_all-fed.auto.out
+  c.in-Some.ensures.summable,
+  room-kept _ _ _ _ c.feed_all-fed.ensures.places c.feed_all-fed.auto.out
       (room_at _ _ (omega (arith, c.empty_nums-nums.ensures)) (omega (arith, c.empty_nums-nums.ensures, c.output_part-out.ensures))),
 )
