@@ -17,7 +17,13 @@ pub fn spoil(
     let name = scan::before_byte(s, b' ');
     let value = scan::after_byte(s, b' ');
     match name {
-        b"receipt" | b"amount" | b"state" | b"authcode" | b"account" | b"date" | b"credit"
+        b"receipt"
+        | b"amount"
+        | b"state"
+        | b"authcode"
+        | b"account"
+        | b"date"
+        | b"credit"
         | b"cancel" => {
             spoil_record(name, value, nums, numbers, dates);
             w
@@ -90,9 +96,5 @@ fn spoiled_account(name: &[u8], value: &[u8], a: Account) -> Account {
 
 // A number below 10^18, or 0 where it is not.
 fn signed(v: u64) -> i64 {
-    if v < 1000000000000000000 {
-        v as i64
-    } else {
-        0
-    }
+    if v < 1000000000000000000 { v as i64 } else { 0 }
 }

@@ -7,8 +7,6 @@ ghost use Rattle.table.specs.Table.{no_record};
 ghost use Rattle.table.specs.Accounts.{balance_of, holding_of};
 ghost use Rattle.table.specs.Columns.{gate_of, columns_seen};
 
-use table::columns::AccountsView;
-use table::rows::TableView;
 use dates::date;
 use days::calendar::Day;
 use fields::number::Number;
@@ -16,6 +14,8 @@ use payments::{Action, Details, Instruction};
 use rules::decision::{Decided, Standing, View};
 use rules::{answer, decision};
 use table::accounts::Holding;
+use table::columns::AccountsView;
+use table::rows::TableView;
 use table::{Gate, Head, Record, accounts, columns, payment, rows};
 
 // The decision, with the record and the account that it concerns.
@@ -74,12 +74,7 @@ pub fn standing(q: Instruction, found: Option<usize>, r: Record) -> Standing
 
 // The account that a request concerns, with its balance: a cancel's is its record's.
 #[tactic(auto, unfolding(crate::specs::Plan::account_of))]
-pub fn holding_of(
-    accounts: AccountsView<'_>,
-    head: Head,
-    q: Instruction,
-    r: Record,
-) -> Holding
+pub fn holding_of(accounts: AccountsView<'_>, head: Head, q: Instruction, r: Record) -> Holding
     requires { head.count ≤ 256 }
     ensures { result ≡ holding_of (gate_of head (columns_seen accounts.entry)) (account_of (gate_of head (columns_seen accounts.entry)) q r) }
 {
@@ -126,11 +121,7 @@ pub fn view_of(closed: Day, used: usize, lent: usize, q: Instruction, r: Record,
 }
 
 // The record that a lookup found.
-pub fn found_record(
-    table: TableView<'_>,
-    used: usize,
-    f: Option<usize>,
-) -> Record
+pub fn found_record(table: TableView<'_>, used: usize, f: Option<usize>) -> Record
     requires { (used ≤ length table.nums.now) × (used ≤ length table.numbers.now) × (used ≤ length table.dates.now) × Within f used }
     ensures { result ≡ record_found (records_of (rows_seen table.entry) used) f }
 {
