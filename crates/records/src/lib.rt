@@ -1,74 +1,65 @@
 #![tactic(auto)]
 // The payment table as a lent slice of records: they are copied into rows, the call is made on these, and they are copied back.
-ghost use Rattle.std.specs.Prelude.{◌≡◌, ◌<◌, ◌≤◌, length};
-ghost use Rattle.table.specs.Table.{record_at, rows_with};
-ghost use Rattle.table.specs.Lent.{lent};
+ghost use Rattle.std.specs.Prelude.{◌≡◌, ◌≤◌, length};
+ghost use Rattle.lists.specs.Rows.{SameLoan};
+ghost use Rattle.table.specs.Lent.{lent, rows_in, rows_seen};
 ghost use Rattle.admission.specs.Delivery.{delivery_of};
 ghost use Rattle.calls.specs.Calls.{call_on};
 ghost use Rattle.records.specs.Records.{called_of, call_records};
-ghost use Rattle.records.specs.Copying.{rows_in, filled, restored, on_part, Sized};
+ghost use Rattle.records.specs.Copying.{rows_in as placed, filled, restored, on_part, Sized};
 
 use calls::Call;
 use ledger::Reply;
 use lists::PLACES_MOST;
+use lists::rows::Rows;
+use table::rows::{Table, TableView};
 use table::{Gate, Record, rows};
 
-// Puts r at i.
-fn put(
-    nums: &mut [[u64; 6]; 4096],
-    numbers: &mut [[u8; 30]; 4096],
-    dates: &mut [[[u8; 19]; 3]; 4096],
-    i: usize,
-    r: Record,
-)
-    requires { i < 4096 }
-    ensures { lent nums.new numbers.new dates.new ≡ rows_with (lent nums.old numbers.old dates.old) i r }
-{
-    rows::store(&mut nums[..], &mut numbers[..], &mut dates[..], i, r);
-}
-
-// The record at i.
-fn get(
-    nums: &[[u64; 6]; 4096],
-    numbers: &[[u8; 30]; 4096],
-    dates: &[[[u8; 19]; 3]; 4096],
-    i: usize,
-) -> Record
-    requires { i < 4096 }
-    ensures { result ≡ record_at (lent nums.now numbers.now dates.now) i }
-{
-    rows::load(&nums[..], &numbers[..], &dates[..], i)
-}
-
 // The records into the rows.
-fn to_rows(
-    records: &[Record],
-    nums: &mut [[u64; 6]; 4096],
-    numbers: &mut [[u8; 30]; 4096],
-    dates: &mut [[[u8; 19]; 3]; 4096],
-)
-    ensures { lent nums.new numbers.new dates.new ≡ filled records.now (rows_in (length records.now)) (lent nums.old numbers.old dates.old) }
+fn to_rows(records: &[Record], table: &mut Table<'_>)
+    requires { Sized (rows_in table.old) }
+    ensures value { rows_in table.new ≡ filled records.now (placed (length records.now)) (rows_in table.old) }
+    ensures sized { Sized (rows_in table.new) }
+    ensures same_loan { SameLoan table.old table.new }
 {
     for i in 0..records.len().min(PLACES_MOST) {
-        put(nums, numbers, dates, i, records[i]);
+        rows::store(table, i, records[i]);
     }
 }
 
 // The rows into the records.
-fn from_rows(
-    records: &mut [Record],
-    nums: &[[u64; 6]; 4096],
-    numbers: &[[u8; 30]; 4096],
-    dates: &[[[u8; 19]; 3]; 4096],
-)
-    ensures { records.new ≡ restored records.old (rows_in (length records.old)) (lent nums.now numbers.now dates.now) }
+fn from_rows(records: &mut [Record], table: TableView<'_>)
+    requires { Sized (rows_seen table) }
+    ensures { records.new ≡ restored records.old (placed (length records.old)) (rows_seen table.entry) }
 {
     for i in 0..records.len().min(PLACES_MOST) {
-        records[i] = get(nums, numbers, dates, i);
+        records[i] = rows::load(table, i);
     }
 }
 
+// A call on the table that three slices are.
+fn call_slices(
+    nums: &mut [[u64; 6]],
+    numbers: &mut [[u8; 30]],
+    dates: &mut [[[u8; 19]; 3]],
+    gate: Gate,
+    call: Call,
+    text: &[u8],
+    out: &mut [u8],
+) -> Reply
+    ensures { delivery_of result (lent nums.new numbers.new dates.new) out.new ≡ call_on gate call text.now out.old (lent nums.old numbers.old dates.old) }
+{
+    let mut table = Rows {
+        nums,
+        numbers,
+        dates,
+    };
+    calls::call_on(&mut table, gate, call, text, out)
+}
+
 // A call on the first `len` places of the rows; more than they have are refused.
+// Three slices, and not a table: tried, the borrow checker covers no part of a slice in a field, and of parts in a new `Rows` the proof does not learn what became of them.
+#[tactic(auto, using(crate::proofs::PartLaws::part_laws))]
 fn call_part(
     nums: &mut [[u64; 6]],
     numbers: &mut [[u8; 30]],
@@ -79,9 +70,10 @@ fn call_part(
     text: &[u8],
     out: &mut [u8],
 ) -> Reply
-    requires { (4096 ≤ length nums.old) × (4096 ≤ length numbers.old) × (4096 ≤ length dates.old) }
-    ensures { delivery_of result (lent nums.new numbers.new dates.new) out.new
+    requires { Sized (lent nums.old numbers.old dates.old) }
+    ensures value { delivery_of result (lent nums.new numbers.new dates.new) out.new
         ≡ on_part len gate out.old (call_on gate call text.now out.old) (lent nums.old numbers.old dates.old) }
+    ensures sized { Sized (lent nums.new numbers.new dates.new) }
 {
     if PLACES_MOST < len {
         return Reply {
@@ -90,7 +82,7 @@ fn call_part(
             size: 0,
         };
     }
-    calls::call_on(
+    call_slices(
         &mut nums[..len],
         &mut numbers[..len],
         &mut dates[..len],
@@ -101,25 +93,25 @@ fn call_part(
     )
 }
 
-// The same, and the rows keep their places.
+// The same on a table.
 fn call_rows(
-    nums: &mut [[u64; 6]; 4096],
-    numbers: &mut [[u8; 30]; 4096],
-    dates: &mut [[[u8; 19]; 3]; 4096],
+    table: &mut Table<'_>,
     len: usize,
     gate: Gate,
     call: Call,
     text: &[u8],
     out: &mut [u8],
 ) -> Reply
-    ensures { (delivery_of result (lent nums.new numbers.new dates.new) out.new
-        ≡ on_part len gate out.old (call_on gate call text.now out.old) (lent nums.old numbers.old dates.old))
-        × Sized (lent nums.new numbers.new dates.new) }
+    requires { Sized (rows_in table.old) }
+    ensures value { delivery_of result (rows_in table.new) out.new
+        ≡ on_part len gate out.old (call_on gate call text.now out.old) (rows_in table.old) }
+    ensures sized { Sized (rows_in table.new) }
+    ensures same_loan { SameLoan table.old table.new }
 {
     call_part(
-        &mut nums[..],
-        &mut numbers[..],
-        &mut dates[..],
+        table.nums,
+        table.numbers,
+        table.dates,
         len,
         gate,
         call,
@@ -141,17 +133,13 @@ pub fn call_records(
     let mut nums = [[0u64; 6]; 4096];
     let mut numbers = [[0u8; 30]; 4096];
     let mut dates = [[[0u8; 19]; 3]; 4096];
-    to_rows(records, &mut nums, &mut numbers, &mut dates);
-    let r = call_rows(
-        &mut nums,
-        &mut numbers,
-        &mut dates,
-        records.len(),
-        gate,
-        call,
-        text,
-        out,
-    );
-    from_rows(records, &nums, &numbers, &dates);
+    let mut table = Rows {
+        nums: &mut nums,
+        numbers: &mut numbers,
+        dates: &mut dates,
+    };
+    to_rows(records, &mut table);
+    let r = call_rows(&mut table, records.len(), gate, call, text, out);
+    from_rows(records, table.view());
     r
 }

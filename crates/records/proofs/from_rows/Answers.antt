@@ -8,4 +8,4 @@ loop-i-init c = refl
 
 pub loop-i-preserved : goal.loop-i-preserved
 unfolding restored
-loop-i-preserved c = rw (add-one, c.get.ensures, ← c.loop-i.invariant)
+loop-i-preserved c = rw (add-one, c.load.ensures.value, ← c.loop-i.invariant)
