@@ -10,7 +10,7 @@ use Rattle.settlement_theorems.specs.Cases as C
 use Rattle.settlement_theorems.specs.Cases.{empty_gate, empty_rows, blank, clock2, clock3, clock5, clock6, payment1, cancel1, line1, payment2, day20, day22, opens, at_start, pays, pays_again, draws, cancels_drawn, cancels, pays_cancelled, settles_none, settles_line, pays_late, settles_later}
 use Rattle.settlement_theorems.proofs.Cases.{cases}
 use Rattle.records.specs.Records.{rows_of, Called, back_from}
-use Rattle.calls.specs.Calls.{call_with, call_on}
+use Rattle.calls.specs.Calls.{call_on}
 use Rattle.records_theorems.specs.Lists.{CallMade, over_rows}
 use Rattle.records_theorems.specs.Claims.{request, registry, opening, pay, drawn, cancelled, closed, start, run, KRecords}
 use Rattle.records_theorems.proofs.ListsTheorems.{lists-are}
@@ -31,51 +31,51 @@ unfolding run
 run_is ms = lists-are (opening ∷ ms) start ∙ ap (λ (t : Rows). back_from 4 (over_rows (start_rows t) (opening ∷ ms))) empty-rows
 
 opens-is : on_rows [] ≡ delivery_of opens empty_rows blank
-unfolding over_rows call_on call_with opens
+unfolding over_rows call_on opens
 opens-is = refl
 
 start_is : (params : List ℕ) → on_rows (request C.clock1 params ∷ []) ≡ at_start params
-unfolding over_rows call_on call_with opens at_start
+unfolding over_rows call_on opens at_start
 start_is params = refl
 
 pays-is : on_rows (pay ∷ []) ≡ pays
-unfolding over_rows call_on call_with opens at_start pays
+unfolding over_rows call_on opens at_start pays
 pays-is = refl
 
 again-is : on_rows (pay ∷ request clock2 payment1 ∷ []) ≡ pays_again
-unfolding over_rows call_on call_with opens at_start pays pays_again
+unfolding over_rows call_on opens at_start pays pays_again
 again-is = refl
 
 drawn-is : on_rows drawn ≡ delivery_of draws pays.rows blank
-unfolding over_rows call_on call_with opens at_start pays draws
+unfolding over_rows call_on opens at_start pays draws
 drawn-is = refl
 
 k7-is : on_rows (drawn ++ (request clock3 cancel1 ∷ [])) ≡ cancels_drawn
-unfolding over_rows call_on call_with opens at_start pays draws cancels_drawn
+unfolding over_rows call_on opens at_start pays draws cancels_drawn
 k7-is = refl
 
 cancels-is : on_rows (pay ∷ request clock3 cancel1 ∷ []) ≡ cancels
-unfolding over_rows call_on call_with opens at_start pays cancels
+unfolding over_rows call_on opens at_start pays cancels
 cancels-is = refl
 
 k8-is : on_rows cancelled ≡ pays_cancelled
-unfolding over_rows call_on call_with opens at_start pays cancels pays_cancelled
+unfolding over_rows call_on opens at_start pays cancels pays_cancelled
 k8-is = refl
 
 k9-is : on_rows closed ≡ settles_none
-unfolding over_rows call_on call_with opens at_start pays draws settles_none
+unfolding over_rows call_on opens at_start pays draws settles_none
 k9-is = refl
 
 k10-is : on_rows (cancelled ++ (registry clock5 day20 line1 ∷ [])) ≡ settles_line
-unfolding over_rows call_on call_with opens at_start pays cancels pays_cancelled settles_line
+unfolding over_rows call_on opens at_start pays cancels pays_cancelled settles_line
 k10-is = refl
 
 k11-is : on_rows (closed ++ (request clock6 payment2 ∷ [])) ≡ pays_late
-unfolding over_rows call_on call_with opens at_start pays draws settles_none pays_late
+unfolding over_rows call_on opens at_start pays draws settles_none pays_late
 k11-is = refl
 
 k12-is : on_rows (closed ++ (registry clock6 day22 [] ∷ [])) ≡ settles_later
-unfolding over_rows call_on call_with opens at_start pays draws settles_none settles_later
+unfolding over_rows call_on opens at_start pays draws settles_none settles_later
 k12-is = refl
 
 -- ---- what is said of a run over rows is so over records

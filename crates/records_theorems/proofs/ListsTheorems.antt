@@ -29,10 +29,9 @@ use Rattle.closing.specs.Closing.{settle_day}
 use Rattle.settlement_theorems.proofs.SettleLaws.{settled-by}
 use Rattle.settlement_theorems.proofs.GoodTheorems.{lines-room}
 use Rattle.calls.specs.declared.Call.{Call}
-use Rattle.calls.specs.declared.What.{What}
-use Rattle.calls.specs.declared.What.TheVariants.{Request, Registry, Opening, Drawing}
+use Rattle.calls.specs.declared.Call.TheVariants.{Request, Registry, Opening, Drawing}
 use Rattle.records.specs.Records.{rows_of, Called, back_from, call_records}
-use Rattle.calls.specs.Calls.{call_with, call_on}
+use Rattle.calls.specs.Calls.{call_on}
 use Rattle.records.proofs.RecordsLaws.{records-are, rows-from}
 use Rattle.records_theorems.specs.Lists.{CallMade, over_records, over_rows}
 
@@ -106,16 +105,12 @@ module _ (ts : List Record) where
         (omega (arith, places, length-map mid.records (swept_record clock day (registry_lines text)), lines-room clock (length t.nums) (registry_lines text) first size (omega (arith, size, places, used p.good))))
         _ refl)
 
-    with-held : (w : What) (c : Call) (text out : List ℕ) → Holds n (call_with w g c text out t).rows
-    unfolding call_with
-    with-held Request c text out = request c.clock text out
-    with-held Registry c text out = registry c.clock c.day text out
-    with-held Opening c text out = kept
-    with-held Drawing c text out = kept
-
     call-held : (c : Call) (text out : List ℕ) → Holds n (call_on g c text out t).rows
     unfolding call_on
-    call-held c text out = with-held c.what c text out
+    call-held (Request clock) text out = request clock text out
+    call-held (Registry clock day) text out = registry clock day text out
+    call-held (Opening number kind) text out = kept
+    call-held (Drawing number kind kopecks) text out = kept
 
 -- the rows that a call leaves are those of the records that it leaves
 pub rows_left : (g : Gate) (ts : List Record) (c : Call) (text out : List ℕ) → (call_on g c text out (rows_of ts)).rows ≡ rows_of (call_records g ts c text out).records
