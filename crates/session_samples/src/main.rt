@@ -2,6 +2,7 @@
 // Runs whole sessions from standard input, one a line: the room of the output, a space, and the input, in which / stands for 0A.
 // Prints each line, `: ` and what the session prints, again with / for 0A, or `refused`.
 use console::feed;
+use lists::rows::Rows;
 use texts::scan;
 use vectors::{given, input, walk};
 
@@ -15,18 +16,15 @@ fn exchange(s: &[u8], a: u8, b: u8, dst: &mut [u8]) -> usize {
 
 // Prints what a session prints for an input, into an output of this room.
 fn run(text: &[u8], room: usize, input: &mut [u8], output: &mut [u8], shown: &mut [u8]) {
-    let mut nums = [[0u64; 6]; 4];
-    let mut numbers = [[0u8; 30]; 4];
-    let mut dates = [[[0u8; 19]; 3]; 4];
     let n = exchange(text, b'/', b'\n', input);
     let k = room.min(output.len());
-    let Some(size) = feed::run_session(
-        &mut nums,
-        &mut numbers,
-        &mut dates,
-        scan::first_bytes(input, n),
-        &mut output[..k],
-    ) else {
+    let mut table = Rows {
+        nums: &mut [[0u64; 6]; 4],
+        numbers: &mut [[0u8; 30]; 4],
+        dates: &mut [[[0u8; 19]; 3]; 4],
+    };
+    let Some(size) = feed::run_session(&mut table, scan::first_bytes(input, n), &mut output[..k])
+    else {
         io::write_all(1, b"refused");
         return;
     };
