@@ -1,9 +1,11 @@
-// A call over three rows, and over records that hold the same.
+// A call over a table, and over records that hold the same.
 use crate::world::World;
 use crate::{lending, same};
 use calls::Call;
 use fields::number::Number;
 use ledger::Reply;
+use lists::rows::Rows;
+use table::rows::{Table, TableView};
 use table::{Gate, Record, rows};
 
 // What a call answered, and the records and the buffer as it left them.
@@ -15,8 +17,8 @@ pub struct Left {
 }
 
 // The record at i, or zeros past the rows.
-fn record_at(nums: &[[u64; 6]], numbers: &[[u8; 30]], dates: &[[[u8; 19]; 3]], i: usize) -> Record {
-    if nums.len() <= i || numbers.len() <= i || dates.len() <= i {
+fn record_at(table: TableView<'_>, i: usize) -> Record {
+    if table.nums.len() <= i || table.numbers.len() <= i || table.dates.len() <= i {
         return Record {
             receipt: 0,
             number: Number {
@@ -32,36 +34,28 @@ fn record_at(nums: &[[u64; 6]], numbers: &[[u8; 30]], dates: &[[[u8; 19]; 3]], i
             cancel: [0u8; 19],
         };
     }
-    rows::load(nums, numbers, dates, i)
+    rows::load(table, i)
 }
 
 // The four records that the rows hold, used or not.
-fn held(nums: &[[u64; 6]], numbers: &[[u8; 30]], dates: &[[[u8; 19]; 3]]) -> [Record; 4] {
-    [0, 1, 2, 3].map(|i| record_at(nums, numbers, dates, i))
+fn held(table: TableView<'_>) -> [Record; 4] {
+    [0, 1, 2, 3].map(|i| record_at(table, i))
+}
+
+// The first n elements, or all of fewer.
+fn first<T>(s: &mut [T], n: usize) -> &mut [T] {
+    let n = n.min(s.len());
+    &mut s[..n]
 }
 
 // The call over what is lent of the rows.
-fn over_lent(
-    nums: &mut [[u64; 6]],
-    numbers: &mut [[u8; 30]],
-    dates: &mut [[[u8; 19]; 3]],
-    w: World,
-    call: Call,
-    text: &[u8],
-    out: &mut [u8],
-) -> Reply {
-    let n = w.lent.min(nums.len());
-    let m = w.lent.min(numbers.len());
-    let d = w.lent_dates.min(dates.len());
-    calls::call_on(
-        &mut nums[..n],
-        &mut numbers[..m],
-        &mut dates[..d],
-        w.gate,
-        call,
-        text,
-        out,
-    )
+fn over_lent(table: &mut Table<'_>, w: World, call: Call, text: &[u8], out: &mut [u8]) -> Reply {
+    let mut part = Rows {
+        nums: first(table.nums, w.lent),
+        numbers: first(table.numbers, w.lent),
+        dates: first(table.dates, w.lent_dates),
+    };
+    calls::call_on(&mut part, w.gate, call, text, out)
 }
 
 // The call over as many of the records, with `room` bytes lent.
@@ -96,20 +90,12 @@ fn compare(a: Left, b: Left) {
 }
 
 // The call over both, with `room` bytes lent, and what the rows gave. Rows of different lengths are those of no records.
-pub fn run(
-    nums: &mut [[u64; 6]],
-    numbers: &mut [[u8; 30]],
-    dates: &mut [[[u8; 19]; 3]],
-    w: World,
-    call: Call,
-    text: &[u8],
-    room: usize,
-) -> Left {
-    let before = held(nums, numbers, dates);
+pub fn run(table: &mut Table<'_>, w: World, call: Call, text: &[u8], room: usize) -> Left {
+    let before = held(table.view());
     let mut out = [b'.'; 512];
     let part = &mut out[..room.min(512)];
-    let reply = over_lent(nums, numbers, dates, w, call, text, part);
-    let records = held(nums, numbers, dates);
+    let reply = over_lent(table, w, call, text, part);
+    let records = held(table.view());
     let left = Left {
         reply,
         records,

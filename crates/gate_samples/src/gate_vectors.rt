@@ -4,6 +4,7 @@ use crate::world::World;
 use crate::{both, world};
 use fields::number::Number;
 use ledger::Reply;
+use table::rows::{Table, TableView};
 use table::{Record, rows};
 use texts::{digits, scan};
 use vectors::given;
@@ -29,29 +30,17 @@ fn clock(s: &[u8]) -> [u8; 19] {
 }
 
 // An opening, from number and type.
-pub fn open(
-    s: &[u8],
-    nums: &mut [[u64; 6]],
-    numbers: &mut [[u8; 30]],
-    dates: &mut [[[u8; 19]; 3]],
-    w: World,
-) -> World {
+pub fn open(s: &[u8], table: &mut Table<'_>, w: World) -> World {
     let call = calls::opening_call(given::number(s), kind(scan::after_byte(s, b' ')));
-    answered(w, both::run(nums, numbers, dates, w, call, b"", 512).reply)
+    answered(w, both::run(table, w, call, b"", 512).reply)
 }
 
 // A draw, from number, type and kopecks.
-pub fn draw(
-    s: &[u8],
-    nums: &mut [[u64; 6]],
-    numbers: &mut [[u8; 30]],
-    dates: &mut [[[u8; 19]; 3]],
-    w: World,
-) -> World {
+pub fn draw(s: &[u8], table: &mut Table<'_>, w: World) -> World {
     let rest = scan::after_byte(s, b' ');
     let kopecks = given::value(scan::after_byte(rest, b' '));
     let call = calls::drawing_call(given::number(s), kind(rest), kopecks);
-    answered(w, both::run(nums, numbers, dates, w, call, b"", 512).reply)
+    answered(w, both::run(table, w, call, b"", 512).reply)
 }
 
 // `a` and the digits of i.
@@ -62,18 +51,12 @@ fn named(i: u64) -> Number {
 }
 
 // So many openings: the last one's code.
-pub fn open_many(
-    s: &[u8],
-    nums: &mut [[u64; 6]],
-    numbers: &mut [[u8; 30]],
-    dates: &mut [[[u8; 19]; 3]],
-    w: World,
-) -> World {
+pub fn open_many(s: &[u8], table: &mut Table<'_>, w: World) -> World {
     let mut code: u64 = 0;
     let mut next = w;
     for i in 0..given::value(s) {
         let call = calls::opening_call(named(i), 1);
-        let r = both::run(nums, numbers, dates, next, call, b"", 512).reply;
+        let r = both::run(table, next, call, b"", 512).reply;
         code = r.code;
         next.gate = r.gate;
     }
@@ -82,32 +65,18 @@ pub fn open_many(
 }
 
 // A request, from clock and parameters, with `room` bytes lent for its answer.
-pub fn deliver(
-    room: usize,
-    s: &[u8],
-    nums: &mut [[u64; 6]],
-    numbers: &mut [[u8; 30]],
-    dates: &mut [[[u8; 19]; 3]],
-    w: World,
-) -> World {
+pub fn deliver(room: usize, s: &[u8], table: &mut Table<'_>, w: World) -> World {
     let call = calls::request_call(clock(s));
     let text = scan::after_byte(s, b' ');
-    told(w, both::run(nums, numbers, dates, w, call, text, room))
+    told(w, both::run(table, w, call, text, room))
 }
 
 // A registry, from day, clock and text, with `room` bytes lent for its report.
-pub fn settle(
-    room: usize,
-    s: &[u8],
-    nums: &mut [[u64; 6]],
-    numbers: &mut [[u8; 30]],
-    dates: &mut [[[u8; 19]; 3]],
-    w: World,
-) -> World {
+pub fn settle(room: usize, s: &[u8], table: &mut Table<'_>, w: World) -> World {
     let rest = scan::after_byte(s, b' ');
     let call = calls::registry_call(clock(rest), given::day(s));
     let text = scan::after_byte(rest, b' ');
-    told(w, both::run(nums, numbers, dates, w, call, text, room))
+    told(w, both::run(table, w, call, text, room))
 }
 
 // Shows what was answered and written, and hands back the world that the call left.
@@ -130,19 +99,17 @@ fn show_written(out: &[u8], size: usize) {
 }
 
 // A record in use, as it stands.
-pub fn record(
-    s: &[u8],
-    nums: &[[u64; 6]],
-    numbers: &[[u8; 30]],
-    dates: &[[[u8; 19]; 3]],
-    w: World,
-) {
+pub fn record(s: &[u8], table: TableView<'_>, w: World) {
     let i = given::value(s) as usize;
-    if w.gate.used <= i || nums.len() <= i || numbers.len() <= i || dates.len() <= i {
+    if w.gate.used <= i
+        || table.nums.len() <= i
+        || table.numbers.len() <= i
+        || table.dates.len() <= i
+    {
         io::write_all(1, b"unused");
         return;
     }
-    show_record(rows::load(nums, numbers, dates, i));
+    show_record(rows::load(table, i));
 }
 
 // Receipt, number, type, kopecks, date, state, authcode, credit date and cancel date.

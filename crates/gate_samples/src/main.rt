@@ -1,5 +1,5 @@
 #![tactic(auto)]
-// Runs the gate's vectors of standard input over three rows and over records: prints each line, `: ` and what is answered.
+// Runs the gate's vectors of standard input over a table and over records: prints each line, `: ` and what is answered.
 mod both;
 mod gate_vectors;
 mod lending;
@@ -8,15 +8,18 @@ mod spoil;
 mod words;
 mod world;
 
+use lists::rows::Rows;
 use texts::scan;
 use vectors::{escape, input, walk};
 
 fn main() {
     let mut buffer = io::large_buffer();
     let mut space = io::large_buffer();
-    let mut nums = [[0u64; 6]; 4];
-    let mut numbers = [[0u8; 30]; 4];
-    let mut dates = [[[0u8; 19]; 3]; 4];
+    let mut table = Rows {
+        nums: &mut [[0u64; 6]; 4],
+        numbers: &mut [[0u8; 30]; 4],
+        dates: &mut [[[0u8; 19]; 3]; 4],
+    };
     let mut w = world::start(b"");
     let n = input::read_all(&mut buffer);
     walk::answer_lines(&buffer[..n], |line| {
@@ -24,9 +27,7 @@ fn main() {
         w = words::answer(
             scan::before_byte(line, b' '),
             scan::first_bytes(&space, n),
-            &mut nums,
-            &mut numbers,
-            &mut dates,
+            &mut table,
             w,
         );
     });

@@ -1,18 +1,13 @@
 // Values of the first record, the first account, the gate and what is lent, set to any.
 use crate::world::World;
 use days::calendar::Day;
+use table::rows::Table;
 use table::{Account, Record, rows};
 use texts::scan;
 use vectors::given;
 
 // Sets what the first word names to the value behind it.
-pub fn spoil(
-    s: &[u8],
-    nums: &mut [[u64; 6]],
-    numbers: &mut [[u8; 30]],
-    dates: &mut [[[u8; 19]; 3]],
-    w: World,
-) -> World {
+pub fn spoil(s: &[u8], table: &mut Table<'_>, w: World) -> World {
     io::write_all(1, b"ok");
     let name = scan::before_byte(s, b' ');
     let value = scan::after_byte(s, b' ');
@@ -25,7 +20,7 @@ pub fn spoil(
         | b"date"
         | b"credit"
         | b"cancel" => {
-            spoil_record(name, value, nums, numbers, dates);
+            spoil_record(name, value, table);
             w
         }
         b"holder" | b"holder-type" | b"balance" | b"debt" => {
@@ -37,18 +32,12 @@ pub fn spoil(
     }
 }
 
-fn spoil_record(
-    name: &[u8],
-    value: &[u8],
-    nums: &mut [[u64; 6]],
-    numbers: &mut [[u8; 30]],
-    dates: &mut [[[u8; 19]; 3]],
-) {
-    if nums.len() < 1 || numbers.len() < 1 || dates.len() < 1 {
+fn spoil_record(name: &[u8], value: &[u8], table: &mut Table<'_>) {
+    if table.nums.len() < 1 || table.numbers.len() < 1 || table.dates.len() < 1 {
         return;
     }
-    let r = spoiled_record(name, value, rows::load(nums, numbers, dates, 0));
-    rows::store(nums, numbers, dates, 0, r);
+    let r = spoiled_record(name, value, rows::load(table.view(), 0));
+    rows::store(table, 0, r);
 }
 
 // Receipt, amount, state, authcode, number, date, credit date or cancel date.
