@@ -324,7 +324,7 @@ unfolding FiAmount.kopecks_after FiAmount.amount_read FiAmount.amount_bytes
     CoParams.split_at
     CoUrl.is_hex CoUrl.hex_value CoUrl.well_coded CoUrl.decoded CoUrl.is_plain CoUrl.coded_byte CoUrl.coded
     MeNames.name_index MeNames.action_word MeNames.action_of
-    MeRequest.held MeRequest.field_of MeRequest.refused MeRequest.first_fault MeRequest.field_fault MeRequest.asked_of MeRequest.fields_read
+    MeRequest.held MeRequest.field_of MeRequest.first_fault MeRequest.field_fault MeRequest.nothing_asked MeRequest.fields_asked MeRequest.fields_read
     MeRequest.request_read
     MeRequestText.is_asked MeRequestText.pair MeRequestText.request_bytes MeRequestText.request_text
     MeSlots.add_piece MeSlots.gather_from MeSlots.gathered

@@ -42,7 +42,7 @@ use Rattle.settlement_theorems.specs.Cases.{opens, at_start, pays, pays_again, d
 
 -- every definition on the way is computed
 pub cases : K
-unfolding opens at_start pays pays_again draws cancels_drawn cancels pays_cancelled settles_none settles_line pays_late settles_later T.records_of TL.tab TL.first_from TL.all_from A.is_account A.find_account VA.table_good Le.lent_well VA.gate_good VA.account_good VA.near VA.record_good VA.ranges_good VA.state_good VA.account_known VA.authcode_good L.every L.eq_list N.number_byte N.is_number N.same_number C.leap_year C.days_in C.is_date C.day_of C.two_digits C.day_part W.clock_time W.date_day L.find G.digits_read G.range_read M.kopecks_after M.amount_read N.is_number_text N.number_read W.date_read T.rows_from T.find_record T.same_payment A.credited A.debited L.written L.cursor_after C.day_before LP.is_full LC.next_authcode LC.revoked deliver D.respond LP.plan_of LP.plan_with LP.view_of LP.date_of LP.account_of EA.is_cancel LP.date_closed LC.changed LC.make_record EA.answer_of EA.answers_authcode EA.answers_date EA.answer_date E.decision_on E.is_fault E.fault_code E.decision E.payment_new E.check_code E.cancel_done G.fixed G.decimal U.is_hex U.hex_value U.well_coded U.decoded P.split_at MN.name_index MN.action_word MN.action_of MS.add_piece MS.gather_from MS.gathered MR.held MR.field_of MR.refused MR.first_fault MR.field_fault MR.asked_of MR.fields_read MR.request_read AN.element AN.message_of AN.answer_bytes open_account O.open_to A.opened draw_funds O.draw_from O.draw_on settle S.settle_read CG.settle_day PO.matches PO.verdict_of PO.restored PO.posted_record PO.applied PO.settle_line CL.settle_lines CL.any_matches CL.is_stray CL.swept_record CL.swept_gate CL.sweep_gates CL.swept CL.any_done CL.report_of RR.split_lines RR.count_of RR.line_count RR.good_line RR.good_lines RR.held_lines RR.registry_lines RR.rising RR.registry_fault RL.line_read C.same_day C.next_day
+unfolding opens at_start pays pays_again draws cancels_drawn cancels pays_cancelled settles_none settles_line pays_late settles_later T.records_of TL.tab TL.first_from TL.all_from A.is_account A.find_account VA.table_good Le.lent_well VA.gate_good VA.account_good VA.near VA.record_good VA.ranges_good VA.state_good VA.account_known VA.authcode_good L.every L.eq_list N.number_byte N.is_number N.same_number C.leap_year C.days_in C.is_date C.day_of C.two_digits C.day_part W.clock_time W.date_day L.find G.digits_read G.range_read M.kopecks_after M.amount_read N.is_number_text N.number_read W.date_read T.rows_from T.find_record T.same_payment A.credited A.debited L.written L.cursor_after C.day_before LP.is_full LC.next_authcode LC.revoked deliver D.respond LP.plan_of LP.plan_with LP.view_of LP.date_of LP.account_of EA.is_cancel LP.date_closed LC.changed LC.make_record EA.answer_of EA.answers_authcode EA.answers_date EA.answer_date E.decision_on E.is_fault E.fault_code E.decision E.payment_new E.check_code E.cancel_done G.fixed G.decimal U.is_hex U.hex_value U.well_coded U.decoded P.split_at MN.name_index MN.action_word MN.action_of MS.add_piece MS.gather_from MS.gathered MR.held MR.field_of MR.first_fault MR.field_fault MR.nothing_asked MR.fields_asked MR.fields_read MR.request_read AN.element AN.message_of AN.answer_bytes open_account O.open_to A.opened draw_funds O.draw_from O.draw_on settle S.settle_read CG.settle_day PO.matches PO.verdict_of PO.restored PO.posted_record PO.applied PO.settle_line CL.settle_lines CL.any_matches CL.is_stray CL.swept_record CL.swept_gate CL.sweep_gates CL.swept CL.any_done CL.report_of RR.split_lines RR.count_of RR.line_count RR.good_line RR.good_lines RR.held_lines RR.registry_lines RR.rising RR.registry_fault RL.line_read C.same_day C.next_day
 cases =
     record {
       opening = refl;

@@ -1,5 +1,5 @@
 -- Document 01, "Sample cases": what K1 to K12 say, as one claim about the runs of Cases.
-use Rattle.std.specs.Prelude.{◌≡◌, true, ◌∷◌, ◌++◌, pos, negsuc, replicate, Some}
+use Rattle.std.specs.Prelude.{◌≡◌, ◌∷◌, ◌++◌, pos, negsuc, replicate, Some}
 use Rattle.fields.specs.Amount.{amount_read, amount_fault}
 use Rattle.fields.specs.Codes.{receipt_read, receipt_fault}
 use Rattle.dates.specs.Date.{date_read, date_fault}
