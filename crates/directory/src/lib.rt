@@ -24,6 +24,8 @@ pub fn empty_keys() -> [[u64; 3]; 256]
 }
 
 // Fills the first rows with the accounts in use.
+// Not put into its caller: the gate that it walks over lies in the stack only while it walks.
+#[inline(never)]
 pub fn fill(names: &mut [[u8; 30]], keys: &mut [[u64; 3]], g: Gate)
     requires { (g.count ≤ 256) × (g.count ≤ length names.old) × (g.count ≤ length keys.old) }
     ensures { Listed (take g.count names.new) (take g.count keys.new) g }
