@@ -11,7 +11,7 @@ use reporting::taking;
 use reporting::taking::Reporting;
 use table::Gate;
 use texts::scan;
-use vectors::given;
+use vectors::{given, line};
 
 #[derive(Clone, Copy)]
 pub struct Desk {
@@ -205,9 +205,9 @@ pub fn entry(s: &[u8], entries: EntriesView<'_>, d: Desk) -> Desk {
 fn place_of(name: &[u8]) -> usize
     ensures { result < 6 }
 {
-    match name {
-        b"receipt" => 0,
-        b"state" => 4,
+    match line::place(name, b"receipt state") {
+        0 => 0,
+        1 => 4,
         _ => 5,
     }
 }

@@ -4,6 +4,7 @@ use crate::{desk, ends};
 use book::rows::Entries;
 use table::rows::{Table, TableView};
 use texts::scan;
+use vectors::line;
 
 // Runs a word that both ends take part in, or else one of the gate's or the agent's alone.
 pub fn answer(
@@ -13,11 +14,11 @@ pub fn answer(
     table: &mut Table<'_>,
     d: Desk,
 ) -> Desk {
-    let (lost, what, rest) = match word {
-        b"ask" => (false, desk::sent_of(text), scan::after_byte(text, b' ')),
-        b"lose" => (true, desk::sent_of(text), scan::after_byte(text, b' ')),
-        b"settle" => (false, Sent::Registry, text),
-        b"gate" | b"open" | b"draw" | b"record" => {
+    let (lost, what, rest) = match line::place(word, b"ask lose settle gate open draw record") {
+        0 => (false, desk::sent_of(text), scan::after_byte(text, b' ')),
+        1 => (true, desk::sent_of(text), scan::after_byte(text, b' ')),
+        2 => (false, Sent::Registry, text),
+        3..=6 => {
             return at_gate(word, text, table.view(), d);
         }
         _ => return at_agent(word, text, entries, d),
@@ -40,18 +41,21 @@ fn at_gate(word: &[u8], text: &[u8], table: TableView<'_>, d: Desk) -> Desk {
 
 // Runs a word of the agent's.
 fn at_agent(word: &[u8], text: &[u8], entries: &mut Entries<'_>, d: Desk) -> Desk {
-    match word {
-        b"accept" => desk::accept(text, entries, d),
-        b"accept-many" => desk::accept_many(text, entries, d),
-        b"answer" => {
+    match line::place(
+        word,
+        b"accept accept-many answer report spoil book freeze entry",
+    ) {
+        0 => desk::accept(text, entries, d),
+        1 => desk::accept_many(text, entries, d),
+        2 => {
             let rest = scan::after_byte(text, b' ');
             desk::taken(desk::sent_of(text), rest, entries, d)
         }
-        b"report" => desk::taken(Sent::Registry, text, entries, d),
-        b"spoil" => desk::spoil(text, entries.nums, d),
-        b"book" => desk::start(text, d.gate),
-        b"freeze" => desk::freeze(text, entries.view(), d),
-        b"entry" => desk::entry(text, entries.view(), d),
+        3 => desk::taken(Sent::Registry, text, entries, d),
+        4 => desk::spoil(text, entries.nums, d),
+        5 => desk::start(text, d.gate),
+        6 => desk::freeze(text, entries.view(), d),
+        7 => desk::entry(text, entries.view(), d),
         _ => written(word, text, entries, d),
     }
 }

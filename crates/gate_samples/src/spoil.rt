@@ -4,26 +4,22 @@ use days::calendar::Day;
 use table::rows::Table;
 use table::{Account, Record, rows};
 use texts::scan;
-use vectors::given;
+use vectors::{given, line};
 
 // Sets what the first word names to the value behind it.
 pub fn spoil(s: &[u8], table: &mut Table<'_>, w: World) -> World {
     io::write_all(1, b"ok");
     let name = scan::before_byte(s, b' ');
     let value = scan::after_byte(s, b' ');
-    match name {
-        b"receipt"
-        | b"amount"
-        | b"state"
-        | b"authcode"
-        | b"account"
-        | b"date"
-        | b"credit"
-        | b"cancel" => {
+    match line::place(
+        name,
+        b"receipt amount state authcode account date credit cancel used count closed holder holder-type balance debt lengths",
+    ) {
+        0..=7 => {
             spoil_record(name, value, table);
             w
         }
-        b"holder" | b"holder-type" | b"balance" | b"debt" => {
+        11..=14 => {
             let mut x = w;
             x.gate.accounts[0] = spoiled_account(name, value, w.gate.accounts[0]);
             x

@@ -4,7 +4,7 @@ mod load_vectors;
 
 use generator::next_value;
 use texts::scan;
-use vectors::{escape, given, input, walk};
+use vectors::{escape, given, input, line, walk};
 
 // How many values are printed.
 const VALUES: usize = 10;
@@ -28,10 +28,10 @@ fn product(s: &[u8]) {
 
 // Runs a word on its text.
 fn answer(word: &[u8], text: &[u8]) {
-    match word {
-        b"values" => values(given::value(text)),
-        b"product" => product(text),
-        b"load" => load_vectors::load(text),
+    match line::place(word, b"values product load") {
+        0 => values(given::value(text)),
+        1 => product(text),
+        2 => load_vectors::load(text),
         _ => {
             io::write_all(1, b"no such word");
         }

@@ -32,7 +32,9 @@ fn word(a: Action) -> &'static [u8]
     }
 }
 
-// Writes a name and its value, url-coded, where the action has the field.
+// Writes a name and its value, url-coded, where the action has the field. Put into its caller, as the next two are: where the name is a constant its copy calls no
+// `memmove`, which an archive for C would have to be given.
+#[inline(always)]
 #[tactic(auto, using(crate::proofs::WriteTexts::pair_laws))]
 fn write_pair(used: bool, before: &[u8], value: &[u8], dst: &mut [u8], at: usize) -> usize
     ensures { (result ≡ cursor_all (pair_texts used before.now value.now) dst.old at)
@@ -46,6 +48,7 @@ fn write_pair(used: bool, before: &[u8], value: &[u8], dst: &mut [u8], at: usize
 }
 
 // The same for a number's digits.
+#[inline(always)]
 fn digits_pair(used: bool, before: &[u8], n: u64, dst: &mut [u8], at: usize) -> usize
     ensures { (result ≡ cursor_all (pair_texts used before.now (decimal n)) dst.old at)
         × (dst.new ≡ buffer_all (pair_texts used before.now (decimal n)) dst.old at) }
@@ -56,6 +59,7 @@ fn digits_pair(used: bool, before: &[u8], n: u64, dst: &mut [u8], at: usize) -> 
 }
 
 // The same for an amount.
+#[inline(always)]
 fn amount_pair(used: bool, before: &[u8], kopecks: u64, dst: &mut [u8], at: usize) -> usize
     ensures { (result ≡ cursor_all (pair_texts used before.now (amount_bytes kopecks)) dst.old at)
         × (dst.new ≡ buffer_all (pair_texts used before.now (amount_bytes kopecks)) dst.old at) }

@@ -5,44 +5,51 @@ use crate::{
 };
 use fields::{amount, codes};
 use texts::digits;
+use vectors::line;
 
 // Runs the word on its text: fields, days, and writers into a lent buffer.
 pub fn answer(word: &[u8], text: &[u8]) {
-    match word {
-        b"digits20" => digit_vectors::digits20(text),
-        b"amount" => print::value_or_fault(amount::read_amount(text), 3),
-        b"receipt" => print::value_or_fault(codes::read_receipt(text), 4),
-        b"type" => print::value_or_fault(codes::read_kind(text), 2),
-        b"reason" => print::value_or_fault(codes::read_reason(text), 32),
-        b"number" => number_vectors::number(text),
-        b"same" => number_vectors::same(text),
-        b"date" => day_vectors::written_date(text),
-        b"day" => day_vectors::day(text),
-        b"next" => day_vectors::next(text),
-        b"before" => day_vectors::before(text),
-        b"write-amount" => write_vectors::write_value(text, amount::write_amount),
-        b"write-digits" => write_vectors::write_value(text, digits::write_digits),
-        b"put" => write_vectors::put(text),
+    match line::place(
+        word,
+        b"digits20 amount receipt type reason number same date day next before write-amount write-digits put",
+    ) {
+        0 => digit_vectors::digits20(text),
+        1 => print::value_or_fault(amount::read_amount(text), 3),
+        2 => print::value_or_fault(codes::read_receipt(text), 4),
+        3 => print::value_or_fault(codes::read_kind(text), 2),
+        4 => print::value_or_fault(codes::read_reason(text), 32),
+        5 => number_vectors::number(text),
+        6 => number_vectors::same(text),
+        7 => day_vectors::written_date(text),
+        8 => day_vectors::day(text),
+        9 => day_vectors::next(text),
+        10 => day_vectors::before(text),
+        11 => write_vectors::write_value(text, amount::write_amount),
+        12 => write_vectors::write_value(text, digits::write_digits),
+        13 => write_vectors::put(text),
         _ => answer_message(word, text),
     }
 }
 
 // Parameters, requests, answers, registries and reports.
 fn answer_message(word: &[u8], text: &[u8]) {
-    match word {
-        b"parameters" => coding_vectors::parameters(text),
-        b"coded" => coding_vectors::coded(text),
-        b"decoded" => coding_vectors::decoded(text),
-        b"request" => request_vectors::request(text),
-        b"long-request" => request_vectors::long_request(text),
-        b"write-request" => asked_vectors::write_request(text),
-        b"write-request-at" => asked_vectors::write_request_at(text),
-        b"answer" => answer_vectors::answer(text),
-        b"long-answer" => answer_vectors::long_answer(text),
-        b"write-answer" => answer_vectors::write_answer(text),
-        b"registry" => registry_vectors::check(text),
-        b"many-lines" => registry_vectors::many_lines(text),
-        b"report" => registry_vectors::is_report(text),
+    match line::place(
+        word,
+        b"parameters coded decoded request long-request write-request write-request-at answer long-answer write-answer registry many-lines report",
+    ) {
+        0 => coding_vectors::parameters(text),
+        1 => coding_vectors::coded(text),
+        2 => coding_vectors::decoded(text),
+        3 => request_vectors::request(text),
+        4 => request_vectors::long_request(text),
+        5 => asked_vectors::write_request(text),
+        6 => asked_vectors::write_request_at(text),
+        7 => answer_vectors::answer(text),
+        8 => answer_vectors::long_answer(text),
+        9 => answer_vectors::write_answer(text),
+        10 => registry_vectors::check(text),
+        11 => registry_vectors::many_lines(text),
+        12 => registry_vectors::is_report(text),
         _ => {
             io::write_all(1, b"unknown word");
         }

@@ -22,7 +22,8 @@ pub(crate) fn slot(n: Number, kind: u64) -> usize
     ensures { result < 4096 }
 {
     let mut h = (kind % 4096) as usize;
-    for i in (0..27).step_by(4) {
+    for k in 0..7 {
+        let i = 4 * k;
         if n.len <= i {
             return h;
         }
